@@ -1,0 +1,14 @@
+//! Texts taken apart: a text into lines, a line into fields, and the numbers that digits give.
+//!
+//! Nothing here takes memory: what is handed out are slices of what was passed.
+#![tactic(auto)]
+
+mod digits;
+mod fields;
+mod lines;
+#[cfg(test)]
+mod tests;
+
+pub use digits::{Number, decimal, decimal_value, octal, octal_value};
+pub use fields::{Field, Line, next_field};
+pub use lines::next_line;

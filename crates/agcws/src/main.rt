@@ -1,0 +1,108 @@
+//! `agcws`: assembles and runs programs for the Apollo Guidance Computer.
+#![tactic(auto)]
+
+mod command_line;
+
+use clap::ArgMatches;
+use clap::error::ErrorKind;
+use command_line::{FEED, MOST_STEPS, RUN, SOURCE, STEPS, command};
+use std::alloc::AllocError;
+use std::io::BufWriter;
+use std::process::ExitCode;
+use std::{env, fs, io};
+use words::{Std, write_all};
+use workshop::{WorkshopFault, report, run_engine};
+
+/// The exit status of a run that is done.
+const DONE: u8 = 0;
+
+/// The exit status where the arguments are wrong.
+const WRONG_ARGUMENTS: u8 = 2;
+
+/// The exit status where not even a fault's line can be written.
+const NOT_REPORTED: u8 = 3;
+
+fn main(rt: HostRuntime) -> ExitCode {
+    ExitCode::from(match perform(&rt) {
+        Ok(status) => status,
+        Err(fault) => match report(&fault, &mut Std::new(rt.stderr())) {
+            Ok(status) => status,
+            Err(_) => NOT_REPORTED,
+        },
+    })
+}
+
+/// Does what the arguments ask for, and answers the exit status.
+fn perform(rt: &HostRuntime) -> Result<u8, WorkshopFault> {
+    let words: Vec<String> = match env::args(rt) {
+        Ok(words) => words.collect(rt.alloc()).map_err(no_memory)?,
+        Err(error) if error.kind() == io::ErrorKind::OutOfMemory => {
+            return Err(WorkshopFault::NoMemory);
+        }
+        Err(_) => return refuse_arguments(rt),
+    };
+    let command = command(rt.alloc()).map_err(no_memory)?;
+    match command.try_get_matches_from(words.as_slice()) {
+        Ok(matches) => match matches.subcommand() {
+            Some((RUN, matches)) => run(rt, matches),
+            _ => Ok(WRONG_ARGUMENTS),
+        },
+        Err(error) => answer(rt, &error),
+    }
+}
+
+/// Writes help to standard output, or a mistake in the arguments to standard error.
+fn answer(rt: &HostRuntime, error: &clap::Error) -> Result<u8, WorkshopFault> {
+    if error.kind() == ErrorKind::OutOfMemory {
+        return Err(WorkshopFault::NoMemory);
+    }
+    match error.print(rt) {
+        Ok(()) => Ok(error.exit_code() as u8),
+        Err(_) => Err(WorkshopFault::WriteFailed),
+    }
+}
+
+/// Says that an argument is no text.
+fn refuse_arguments(rt: &HostRuntime) -> Result<u8, WorkshopFault> {
+    let text = b"error: an argument is not valid UTF-8\n";
+    match write_all(&mut Std::new(rt.stderr()), text) {
+        Ok(()) => Ok(WRONG_ARGUMENTS),
+        Err(_) => Err(WorkshopFault::WriteFailed),
+    }
+}
+
+/// `agcws run SRC FEED N`. Both files are opened before anything is read.
+fn run(rt: &HostRuntime, matches: &ArgMatches<'_>) -> Result<u8, WorkshopFault> {
+    let (Some(source), Some(feed), Some(steps)) = (
+        matches.get_str(SOURCE),
+        matches.get_str(FEED),
+        matches.get_one::<u64>(STEPS),
+    ) else {
+        return Ok(WRONG_ARGUMENTS);
+    };
+    if steps > MOST_STEPS {
+        return Ok(WRONG_ARGUMENTS);
+    }
+    let mut source = Std::new(fs::open(rt, source).map_err(not_opened)?);
+    let mut feed = Std::new(fs::open(rt, feed).map_err(not_opened)?);
+    let buffered = BufWriter::new(rt.alloc(), io::writer(rt)).map_err(not_opened)?;
+    let mut out = Std::new(buffered);
+    let outcome = run_engine(rt.alloc(), &mut source, &mut feed, steps, &mut out);
+    match out.flush() {
+        Ok(()) => outcome.map(|_| DONE),
+        Err(_) => Err(WorkshopFault::WriteFailed),
+    }
+}
+
+fn no_memory(_: AllocError) -> WorkshopFault {
+    WorkshopFault::NoMemory
+}
+
+/// The fault of a file that could not be opened.
+fn not_opened(error: io::Error) -> WorkshopFault {
+    if error.kind() == io::ErrorKind::OutOfMemory {
+        WorkshopFault::NoMemory
+    } else {
+        WorkshopFault::ReadFailed
+    }
+}

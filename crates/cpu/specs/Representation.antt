@@ -1,0 +1,26 @@
+-- How a machine holds its state.
+use Rattle.std.specs.Prelude.{ℕ, ◌-◌, Bool, false, List, Option, refl, filter, slice_index_or}
+use Rattle.std.specs.List.{range_with_len}
+use Rattle.std.specs.Ordering.{nat_cmp}
+use Rattle.std.specs.FinMap as map
+use Rattle.std.specs.FinSet as set
+use Rattle.std.specs.Coded.{Coded, code_by, coded×, coded_ℕ, coded_bool, coded_option}
+use Rattle.space.specs.Cells.{Cells}
+use Rattle.cpu.specs.State.{State}
+
+-- the code by which states are told apart
+abbrev pub state_code : Coded State
+state_code =
+    code_by (Cells × (Bool × (Bool × (Bool × (Option ℕ × (Option ℕ × (set.FinSet nat_cmp × (ℕ × ℕ))))))))
+    (coded× (map.code coded_ℕ coded_ℕ) (coded× coded_bool (coded× coded_bool (coded× coded_bool (coded× (coded_option coded_ℕ) (coded× (coded_option coded_ℕ) (coded× (set.code coded_ℕ) (coded× coded_ℕ coded_ℕ))))))))
+    (λ s. (s.cells, (s.extra, (s.inhibit, (s.inside, (s.waiting_sum, (s.waiting_word, (s.requests, (s.taken, s.cycles)))))))))
+    (λ p. record { cells = p.0; extra = p.1.0; inhibit = p.1.1.0; inside = p.1.1.1.0; waiting_sum = p.1.1.1.1.0; waiting_word = p.1.1.1.1.1.0; requests = p.1.1.1.1.1.1.0; taken = p.1.1.1.1.1.1.1.0; cycles = p.1.1.1.1.1.1.1.1 })
+    (λ _. refl)
+
+-- how many interrupts there are
+abbrev pub request_count : ℕ
+request_count = 10
+
+-- the interrupts asked for: those whose flag is set, the first being interrupt 1
+unfoldable pub requests_of : List Bool → set.FinSet nat_cmp
+requests_of flags = set.from_list (filter (λ k. slice_index_or flags (k - 1) false) (range_with_len 1 request_count))

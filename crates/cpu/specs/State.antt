@@ -1,0 +1,42 @@
+-- The state of the computer, and what it runs.
+use Rattle.std.specs.Prelude.{ℕ, Bool, true, false, Option, None}
+use Rattle.std.specs.Ordering.{nat_cmp}
+use Rattle.std.specs.FinSet as set
+use Rattle.rope.specs.Places.{Words}
+use Rattle.space.specs.Cells.{Cells, zero_cells, put, program_counter}
+
+-- what runs: the words of fixed memory
+pub record Scenario : Type 0 where
+  pub rope : Words
+
+-- a state: the cells, whether extracode is in force, whether interrupts are inhibited and whether one is being served,
+-- the sum and the word that wait for the next instruction, the interrupts asked for, the inputs taken, and the cycles
+pub record State : Type 0 where
+  pub cells : Cells
+  pub extra : Bool
+  pub inhibit : Bool
+  pub inside : Bool
+  pub waiting_sum : Option ℕ
+  pub waiting_word : Option ℕ
+  pub requests : set.FinSet nat_cmp
+  pub taken : ℕ
+  pub cycles : ℕ
+
+-- the first address of bank 2, where a run starts
+abbrev pub first_address : ℕ
+first_address = 0o4000
+
+-- the state in which a run starts: each word is 0, and interrupts are inhibited
+unfoldable pub start : State
+start =
+    record {
+      cells = put zero_cells program_counter first_address;
+      extra = false;
+      inhibit = true;
+      inside = false;
+      waiting_sum = None;
+      waiting_word = None;
+      requests = set.empty;
+      taken = 0;
+      cycles = 0;
+    }

@@ -1,0 +1,4 @@
+pub mod ImageLaws
+pub mod PlaceLaws
+pub mod ReadSteps
+pub mod SlotWords

@@ -1,0 +1,16 @@
+use Rattle.std.proofs.Common.{◌≡◌, ◌∙◌, ap, is_some}
+use Rattle.rope.specs.Places.{no_words, slot_at, fixed_places}
+use Rattle.rope.specs.Slots.{words_of}
+use Rattle.rope.proofs.PlaceLaws.{slot_at-no_words}
+use Rattle.rope.proofs.SlotWords.{words_of-none}
+use Rattle.rope.proofs.memory.Rope.empty.Goals as goal
+
+empty : (c : goal.In-Ok) → words_of c.in-Ok.slots.items ≡ no_words
+unfolding no_words
+empty c = ap words_of c.in-Ok.ensures ∙ words_of-none fixed_places
+
+pub returns-in-Ok-clause-ok : goal.returns-in-Ok-clause-ok
+returns-in-Ok-clause-ok c = empty c
+
+pub returns-in-Ok-clause-nothing : goal.returns-in-Ok-clause-nothing
+returns-in-Ok-clause-nothing c = λ bank offset. ap (λ words. is_some (slot_at words bank offset)) (empty c) ∙ ap is_some (slot_at-no_words bank offset)

@@ -1,0 +1,14 @@
+-- How the slots of a rope are seen.
+use Rattle.std.specs.Prelude.{ℕ, ◌+◌, List, [], ◌∷◌, Option, Some, None}
+use Rattle.std.specs.FinMap as map
+use Rattle.rope.specs.Places.{Words}
+
+-- the words in slots, each with its number, where the first slot has number n
+abbrev pub numbered_from : ℕ → List (Option ℕ) → List (ℕ × ℕ)
+numbered_from n [] = []
+numbered_from n (None ∷ slots) = numbered_from (n + 1) slots
+numbered_from n (Some word ∷ slots) = (n, word) ∷ numbered_from (n + 1) slots
+
+-- the words that slots hold
+unfoldable pub words_of : List (Option ℕ) → Words
+words_of slots = map.from_entries (numbered_from 0 slots)

@@ -1,0 +1,60 @@
+//! The image of fixed memory, as it is written.
+
+ghost use Rattle.std.specs.Prelude.{◌≡◌, ◌<◌, ◌/◌, ◌%◌, true};
+ghost use Rattle.words.specs.Devices.{Writes, failures_after};
+ghost use Rattle.rope.specs.Places.{bank_words, fixed_places};
+ghost use Rattle.rope.specs.Image.{bank_of_entry, word_of_position, spelled, image};
+
+use crate::memory::{BANK_WORDS, PLACES, Rope};
+use space::numbers::{Bank, Offset};
+use words::{Write, WriteFailed, write_all};
+
+impl Rope {
+    /// Writes the image of 73,728 bytes: banks 2, 3, 0, 1, 4 to 043, in each bank the words by rising offsets, each as
+    /// two bytes, high byte first, of twice the word. A place without a word gives 0.
+    ///
+    /// After a failure a beginning of it was written.
+    pub fn write<W: Write>(&self, out: &mut W) -> Result<(), WriteFailed>
+        ensures written { W.told ≡ true → Writes (W.written out.old) (W.written out.new) (image self.now) result }
+        ensures failures { W.failures out.new ≡ failures_after (W.failures out.old) result }
+    {
+        for position in 0..PLACES {
+            match write_all(out, &self.spelled_at(position)) {
+                Ok(()) => {}
+                Err(failed) => return Err(failed),
+            }
+        }
+        Ok(())
+    }
+
+    // The two bytes at a position of the image.
+    #[tactic(auto, unfolding(crate::specs::Image::word_of_position))]
+    fn spelled_at(&self, position: usize) -> [u8; 2]
+        requires { position < fixed_places }
+        ensures { result ≡ spelled (word_of_position self.now position) }
+    {
+        let word = self.word(bank_at(position), offset_at(position));
+        (word.to_u16() * 2).to_be_bytes()
+    }
+}
+
+// The bank of a position.
+pub(crate) fn bank_at(position: usize) -> Bank
+    requires { position < fixed_places }
+    ensures { result ≡ bank_of_entry (position / bank_words) }
+{
+    let entry = (position / BANK_WORDS) as u16;
+    let number = match entry {
+        0 | 1 => entry + 2,
+        2 | 3 => entry - 2,
+        _ => entry,
+    };
+    Bank::try_new(number).unwrap()
+}
+
+// The offset of a position in its bank.
+pub(crate) fn offset_at(position: usize) -> Offset
+    ensures { result ≡ position % bank_words }
+{
+    Offset::try_new((position % BANK_WORDS) as u16).unwrap()
+}

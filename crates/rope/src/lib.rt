@@ -1,0 +1,12 @@
+//! Fixed memory: 36 banks of 1,024 words each.
+#![tactic(auto)]
+
+mod fault;
+mod image;
+mod memory;
+mod reading;
+#[cfg(test)]
+mod tests;
+
+pub use fault::RopeFault;
+pub use memory::Rope;

@@ -1,0 +1,115 @@
+//! Fixed memory.
+
+ghost use Rattle.std.specs.Prelude.{◌≡◌, ◌<◌, ℕ, false, None, IfOk, IfErr, replicate, slice_index_or};
+ghost use Rattle.rope.specs.Places.{place_number, fixed_places, banks, no_words, with_word, slot_at, stands, word_at};
+ghost use Rattle.rope.specs.declared.fault.RopeFault.TheVariants.{NoMemory};
+
+use crate::fault::RopeFault;
+use space::numbers::{Bank, Offset};
+use std::alloc::{AllocError, Global};
+use std::marker::Model;
+use words::Word;
+
+/// The words of one bank.
+pub(crate) const BANK_WORDS: usize = 0o2000;
+
+/// The places of the banks 0 to 043.
+pub(crate) const PLACES: usize = 0o44 * BANK_WORDS;
+
+/// Fixed memory, seen as the words that stand in it, each at its bank and offset.
+#[derive(Drop)]
+pub struct Rope {
+    slots: Vec<Option<Word>>,
+}
+
+impl Model for Rope {
+    ghost use Rattle.std.specs.Prelude.{◌≡◌, ℕ, vec_len};
+    ghost use Rattle.std.specs.Ordering.{nat_cmp};
+    ghost use Rattle.std.specs.Coded.{coded_ℕ};
+    ghost use Rattle.std.specs.FinMap as map;
+    ghost use Rattle.rope.specs.Places.{fixed_places};
+    ghost use Rattle.rope.specs.Slots.{words_of};
+
+    ghost Value = { map.FinMap nat_cmp ℕ };
+
+    ghost coded = { map.code coded_ℕ coded_ℕ };
+
+    ghost view = { λ r. words_of r.slots.items };
+
+    ghost invariant = { λ r. vec_len r.slots ≡ fixed_places };
+}
+
+impl Rope {
+    /// A rope without a word, or `NoMemory`.
+    pub fn empty(alloc: Global) -> Result<Rope, RopeFault>
+        ensures ok { IfOk result (λ r. r ≡ no_words) }
+        ensures nothing { IfOk result (λ r. (bank offset : ℕ) → stands r bank offset ≡ false) }
+        ensures err { IfErr result (λ e. e ≡ NoMemory) }
+    {
+        match empty_slots(alloc) {
+            Ok(slots) => Ok(Rope { slots }),
+            Err(_) => Err(RopeFault::NoMemory),
+        }
+    }
+
+    /// Whether a word stands at this place.
+    pub fn has(&self, bank: Bank, offset: Offset) -> bool
+        ensures { result ≡ stands self.now bank offset }
+    {
+        self.slot(bank, offset).is_some()
+    }
+
+    /// The word at this place, 0 where none stands. In the banks 044 to 047 none ever does.
+    pub fn word(&self, bank: Bank, offset: Offset) -> Word
+        ensures { result ≡ word_at self.now bank offset }
+    {
+        self.slot(bank, offset).unwrap_or(Word::ZERO)
+    }
+
+    /// Adds a word at a place of the banks 0 to 043 where none stands.
+    pub fn put(&mut self, bank: Bank, offset: Offset, word: Word)
+        requires exists { bank < banks }
+        requires free { stands self.old bank offset ≡ false }
+        ensures { self.new ≡ with_word self.old bank offset word }
+    {
+        self.set(bank, offset, word);
+    }
+
+    // The word at this place from now on.
+    pub(crate) fn set(&mut self, bank: Bank, offset: Offset, word: Word)
+        requires { bank < banks }
+        ensures { self.new ≡ with_word self.old bank offset word }
+    {
+        self.slots[slot_number(bank, offset)] = Some(word);
+    }
+
+    // The word at this place, where one stands.
+    fn slot(&self, bank: Bank, offset: Offset) -> Option<Word>
+        ensures { result ≡ slot_at self.now bank offset }
+    {
+        slot_of(&self.slots, slot_number(bank, offset))
+    }
+}
+
+fn slot_of(slots: &[Option<Word>], number: usize) -> Option<Word>
+    ensures { result ≡ slice_index_or slots.now number None }
+{
+    slots.get(number).copied().unwrap_or(None)
+}
+
+fn slot_number(bank: Bank, offset: Offset) -> usize
+    ensures { result ≡ place_number bank offset }
+{
+    usize::from(bank.number()) * BANK_WORDS + usize::from(offset.number())
+}
+
+// A slot for each place, all of them empty.
+fn empty_slots(alloc: Global) -> Result<Vec<Option<Word>>, AllocError>
+    ensures { IfOk result (λ v. v.items ≡ replicate fixed_places None) }
+{
+    let mut slots = Vec::with_capacity(alloc, PLACES)?;
+    for i in 0..PLACES {
+        slots.push(None)?;
+    }
+    Ok(slots)
+}

@@ -1,0 +1,78 @@
+//! Ropes from their images.
+
+ghost use Rattle.std.specs.Prelude.{◌≡◌, ◌<◌, true, IfOk, IfErr, if◌then◌else◌};
+ghost use Rattle.words.specs.Devices.{one_more, failures_after};
+ghost use Rattle.rope.specs.Places.{fixed_places};
+ghost use Rattle.rope.specs.Reading.{ReadsImage, IsFull, TakesByte, TakesWord, has_read_failed};
+ghost use Rattle.rope.specs.declared.fault.RopeFault.TheVariants.{ReadFailed};
+
+use crate::fault::RopeFault;
+use crate::image::{bank_at, offset_at};
+use crate::memory::{PLACES, Rope};
+use std::alloc::Global;
+use words::{Read, Word};
+
+impl Rope {
+    /// Reads an image to its end, and answers the rope of which it is the image, with a word at every place.
+    ///
+    /// `NoMemory` is told before any byte is read. Else the first fault is told that is met in the order of the bytes:
+    /// `Short` where they end before 73,728, `Long` where one more stands, `LowBit` where the low byte of a word is odd,
+    /// `ReadFailed` where a read failed.
+    pub fn read<R: Read>(alloc: Global, reader: &mut R) -> Result<Rope, RopeFault>
+        ensures bytes { R.told ≡ true → ReadsImage (R.left reader.old) (R.left reader.new) result }
+        ensures full { IfOk result (λ rope. IsFull rope) }
+        ensures failures { R.failures reader.new ≡ (if has_read_failed result then one_more (R.failures reader.old) else R.failures reader.old) }
+    {
+        let mut rope = match Rope::empty(alloc) {
+            Ok(rope) => rope,
+            Err(fault) => return Err(fault),
+        };
+        for position in 0..PLACES {
+            match read_word(reader, position) {
+                Ok(word) => rope.set(bank_at(position), offset_at(position), word),
+                Err(fault) => return Err(fault),
+            }
+        }
+        match next_byte(reader) {
+            Ok(None) => Ok(rope),
+            Ok(Some(_)) => Err(RopeFault::Long),
+            Err(fault) => Err(fault),
+        }
+    }
+}
+
+// The word at a position of an image, from its two bytes.
+fn read_word<R: Read>(reader: &mut R, position: usize) -> Result<Word, RopeFault>
+    requires { position < fixed_places }
+    ensures word { R.told ≡ true → TakesWord position (R.left reader.old) (R.left reader.new) result }
+    ensures failures { R.failures reader.new ≡ (if has_read_failed result then one_more (R.failures reader.old) else R.failures reader.old) }
+{
+    let high = match next_byte(reader) {
+        Ok(Some(byte)) => byte,
+        Ok(None) => return Err(RopeFault::Short),
+        Err(fault) => return Err(fault),
+    };
+    let low = match next_byte(reader) {
+        Ok(Some(byte)) => byte,
+        Ok(None) => return Err(RopeFault::Short),
+        Err(fault) => return Err(fault),
+    };
+    if low % 2 == 1 {
+        return Err(RopeFault::LowBit(2 * position as u32 + 1));
+    }
+    Ok(Word::of_low_bits(u16::from_be_bytes([high, low]) / 2))
+}
+
+// The next byte, where one is left.
+fn next_byte<R: Read>(reader: &mut R) -> Result<Option<u8>, RopeFault>
+    ensures byte { R.told ≡ true → TakesByte (R.left reader.old) (R.left reader.new) result }
+    ensures fault { IfErr result (λ e. e ≡ ReadFailed) }
+    ensures failures { R.failures reader.new ≡ failures_after (R.failures reader.old) result }
+{
+    let mut byte = [0];
+    match reader.read(&mut byte) {
+        Ok(0) => Ok(None),
+        Ok(_) => Ok(Some(byte[0])),
+        Err(_) => Err(RopeFault::ReadFailed),
+    }
+}

@@ -1,0 +1,165 @@
+-- The map of cells that a pointwise function gives.
+use Rattle.std.proofs.Common.{◌≡◌, ℕ, zero, suc, replicate, ◌+◌, ◌-◌, ◌<◌, ◌≢◌, Bool, true, false, cond, ◌&&◌, eqb, ltb, leb, List, ◌∷◌, map, filter, Option, Some, None, unwrap_or, get_or, refl, sym, ap, ◌∙◌, arith, ⊎_elim}
+use Rattle.std.proofs.lemmas.Bool.Decides.{nat_tests}
+use Rattle.std.proofs.lemmas.Bool.{both_ways, cases_eq, cases_lt}
+use Rattle.std.proofs.lemmas.List.{length-replicate, get_or-replicate, get_or_past}
+use Rattle.std.specs.List.{range_with_len}
+use Rattle.std.specs.Ordering.{nat_cmp, eq_by_cmp}
+use Rattle.std.specs.Cmp.{nat_cmp_total}
+use Rattle.std.specs.FinMap.{find, get-from_entries, get-insert, same_map, nat_cmp-IsAntisymmetric}
+use Rattle.std.specs.FinMap as fin
+use Rattle.space.specs.Cells.{is_cell, cells_below, Cells, cells_by, at, zero_cells}
+use Rattle.space.specs.Stored.{stored, cell_limit, IsStored}
+
+find_cons : (f : ℕ → ℕ) (q a : ℕ) (b : Bool) (r : List ℕ)
+    → find nat_cmp q (map (λ c. (c, f c)) (cond b (a ∷ r) r)) ≡ cond (eqb q a && b) (Some (f q)) (find nat_cmp q (map (λ c. (c, f c)) r))
+find_cons f q a true r = grind (arith, nat_tests)
+find_cons f q a false r = grind (arith, nat_tests)
+
+joined : (p : ℕ → Bool) (q a n : ℕ) (x y : Bool) → p a ≡ x → p q ≡ y → (v : Option ℕ)
+    → cond (eqb q a && x) v (cond (leb (a + 1) q && ltb q (a + 1 + n) && y) v None) ≡ cond (leb a q && ltb q (a + suc n) && y) v None
+joined p q a n true true e d v = grind (arith, nat_tests)
+joined p q a n true false e d v =
+    let ne : q ≢ a = λ h. both_ways (p q) d (ap p h ∙ e) in grind (arith, nat_tests)
+joined p q a n false true e d v =
+    let ne : q ≢ a = λ h. both_ways (p q) (ap p h ∙ e) d in grind (arith, nat_tests)
+joined p q a n false false e d v = grind (arith, nat_tests)
+
+-- what a list of some numbers, each with its value, gives
+find-filter : (f : ℕ → ℕ) (p : ℕ → Bool) (q a n : ℕ)
+    → find nat_cmp q (map (λ c. (c, f c)) (filter p (range_with_len a n))) ≡ cond (leb a q && ltb q (a + n) && p q) (Some (f q)) None
+find-filter f p q a zero = grind (arith, nat_tests)
+find-filter f p q a (suc n) =
+    let step = find_cons f q a (p a) (filter p (range_with_len (a + 1) n)) in
+    let rest = find-filter f p q (a + 1) n in
+    step ∙ ap (cond (eqb q a && p a) (Some (f q))) rest ∙ joined p q a n (p a) (p q) refl refl (Some (f q))
+
+get-cells_by : (f : ℕ → ℕ) (q : ℕ) → fin.get (cells_by f) q ≡ cond (ltb q 2560 && is_cell q) (Some (f q)) None
+unfolding cells_by cells_below
+get-cells_by f q = get-from_entries nat_cmp_total _ q ∙ find-filter f is_cell q 0 2560 ∙ grind (arith, nat_tests)
+
+-- what a cell holds
+pub at-cells_by : (f : ℕ → ℕ) (q : ℕ) → q < 2560 → is_cell q ≡ true → at (cells_by f) q ≡ f q
+at-cells_by f q lt c =
+    let g : fin.get (cells_by f) q ≡ Some (f q) = get-cells_by f q ∙ grind (arith, nat_tests) in
+    ap (λ o. unwrap_or o 0) g
+
+changed_at : (f g : ℕ → ℕ) (c x : ℕ) → c < 2560 → is_cell c ≡ true → g c ≡ x → ((q : ℕ) → q ≢ c → g q ≡ f q) → (q : ℕ)
+    → cond (ltb q 2560 && is_cell q) (Some (g q)) None ≡ cond (eq_by_cmp nat_cmp q c) (Some x) (cond (ltb q 2560 && is_cell q) (Some (f q)) None)
+changed_at f g c x lt is here others q =
+    ⊎_elim
+    (λ e. let i : is_cell q ≡ true = ap is_cell e ∙ is in let h : g q ≡ x = ap g e ∙ here in grind (arith, nat_tests))
+    (λ ne. let h = others q ne in grind (arith, nat_tests))
+    (cases_eq q c)
+
+-- the map in which one cell holds another number
+pub insert-cells_by : (f g : ℕ → ℕ) (c x : ℕ) → c < 2560 → is_cell c ≡ true → g c ≡ x → ((q : ℕ) → q ≢ c → g q ≡ f q) → cells_by g ≡ fin.insert (cells_by f) c x
+insert-cells_by f g c x lt is here others =
+    same_map nat_cmp_total nat_cmp-IsAntisymmetric _ _ (λ q.
+    get-cells_by g q ∙ changed_at f g c x lt is here others q
+    ∙ sym (get-insert nat_cmp_total (cells_by f) c x q ∙ ap (cond (eq_by_cmp nat_cmp q c) (Some x)) (get-cells_by f q)))
+
+pub same-cells_by : (f g : ℕ → ℕ) → ((q : ℕ) → f q ≡ g q) → cells_by f ≡ cells_by g
+same-cells_by f g h =
+    same_map nat_cmp_total nat_cmp-IsAntisymmetric _ _ (λ q.
+    get-cells_by f q ∙ ap (λ v. cond (ltb q 2560 && is_cell q) (Some v) None) (h q) ∙ sym (get-cells_by g q))
+
+-- what a representation holds for a place
+stored-place : (e ch : List ℕ) (c : ℕ) → c < 2048 → stored e ch c ≡ get_or e c 0
+unfolding stored
+stored-place e ch c lt = grind (arith, nat_tests)
+
+stored-channel : (e ch : List ℕ) (n : ℕ) → stored e ch (2048 + n) ≡ get_or ch n 0
+unfolding stored
+stored-channel e ch n =
+    let k : (2048 + n) - 2048 ≡ n = omega arith in
+    ap (λ i. cond (ltb (2048 + n) 2048) (get_or e (2048 + n) 0) (get_or ch i 0)) k ∙ grind (arith, nat_tests)
+
+is_cell-place : (c : ℕ) → c ≢ 6 → c ≢ 7 → c < 2048 → is_cell c ≡ true
+unfolding is_cell
+is_cell-place c p q lt = grind (arith, nat_tests)
+
+is_cell-channel : (n : ℕ) → n ≢ 1 → n ≢ 2 → is_cell (2048 + n) ≡ true
+unfolding is_cell
+is_cell-channel n p q = grind (arith, nat_tests)
+
+-- what is held at a place or on a channel, by the view
+pub at_view : (e ch : List ℕ) (s : Cells) (c : ℕ) → cells_by (stored e ch) ≡ s → c < 2048 → c ≢ 6 → c ≢ 7 → at s c ≡ get_or e c 0
+at_view e ch s c v lt n6 n7 =
+    ap (λ m. at m c) (sym v) ∙ at-cells_by (stored e ch) c (omega arith) (is_cell-place c n6 n7 lt) ∙ stored-place e ch c lt
+
+pub channel_view : (e ch : List ℕ) (s : Cells) (n : ℕ) → cells_by (stored e ch) ≡ s → n < 512 → n ≢ 1 → n ≢ 2 → at s (2048 + n) ≡ get_or ch n 0
+channel_view e ch s n v lt n1 n2 =
+    ap (λ m. at m (2048 + n)) (sym v) ∙ at-cells_by (stored e ch) (2048 + n) (omega arith) (is_cell-channel n n1 n2) ∙ stored-channel e ch n
+
+-- a place holds another number
+stored_other-place : (e d ch : List ℕ) (c q : ℕ) → ((k : ℕ) → k ≢ c → get_or d k 0 ≡ get_or e k 0) → q ≢ c → stored d ch q ≡ stored e ch q
+unfolding stored
+stored_other-place e d ch c q others ne = ap (λ v. cond (ltb q 2048) v (get_or ch (q - 2048) 0)) (others q ne)
+
+pub view-place : (e d ch : List ℕ) (c x : ℕ) → c < 2048 → c ≢ 6 → c ≢ 7 → get_or d c 0 ≡ x → ((k : ℕ) → k ≢ c → get_or d k 0 ≡ get_or e k 0)
+    → cells_by (stored d ch) ≡ fin.insert (cells_by (stored e ch)) c x
+view-place e d ch c x lt n6 n7 here others =
+    insert-cells_by _ _ c x (omega arith) (is_cell-place c n6 n7 lt) (stored-place d ch c lt ∙ here) (λ q ne. stored_other-place e d ch c q others ne)
+
+-- a channel holds another number
+stored_other-channel : (e ch dh : List ℕ) (n q : ℕ) → ((k : ℕ) → k ≢ n → get_or dh k 0 ≡ get_or ch k 0) → q ≢ 2048 + n → stored e dh q ≡ stored e ch q
+unfolding stored
+stored_other-channel e ch dh n q others ne =
+    ⊎_elim
+    (λ lt. grind (arith, nat_tests))
+    (λ ge. ap (λ v. cond (ltb q 2048) (get_or e q 0) v) (others (q - 2048) (λ h. ne (omega arith))))
+    (cases_lt q 2048)
+
+pub view-channel : (e ch dh : List ℕ) (n x : ℕ) → n < 512 → n ≢ 1 → n ≢ 2 → get_or dh n 0 ≡ x → ((k : ℕ) → k ≢ n → get_or dh k 0 ≡ get_or ch k 0)
+    → cells_by (stored e dh) ≡ fin.insert (cells_by (stored e ch)) (2048 + n) x
+view-channel e ch dh n x lt n1 n2 here others =
+    insert-cells_by _ _ (2048 + n) x (omega arith) (is_cell-channel n n1 n2) (stored-channel e dh n ∙ here) (λ q ne. stored_other-channel e ch dh n q others ne)
+
+-- a change of one number that its cell can hold
+below_all : (f g : ℕ → ℕ) (c x : ℕ) → ((q : ℕ) → f q < cell_limit q) → g c ≡ x → x < cell_limit c → ((q : ℕ) → q ≢ c → g q ≡ f q) → (q : ℕ) → g q < cell_limit q
+below_all f g c x old here lt others q =
+    ⊎_elim
+    (λ e. let limit : cell_limit q ≡ cell_limit c = ap cell_limit e in let same : g q ≡ x = ap g e ∙ here in omega arith)
+    (λ ne. let same : g q ≡ f q = others q ne in omega (arith, old q))
+    (cases_eq q c)
+
+pub IsStored-place : (e d ch : List ℕ) (c x : ℕ) → IsStored e ch → c < 2048 → x < cell_limit c → get_or d c 0 ≡ x → ((k : ℕ) → k ≢ c → get_or d k 0 ≡ get_or e k 0) → IsStored d ch
+IsStored-place e d ch c x old lt limit here others =
+    below_all (stored e ch) (stored d ch) c x old (stored-place d ch c lt ∙ here) limit (λ q ne. stored_other-place e d ch c q others ne)
+
+cell_limit-channel : (n : ℕ) → cell_limit (2048 + n) ≡ 32768
+unfolding cell_limit
+cell_limit-channel n = grind (arith, nat_tests)
+
+pub IsStored-channel : (e ch dh : List ℕ) (n x : ℕ) → IsStored e ch → x < 32768 → get_or dh n 0 ≡ x → ((k : ℕ) → k ≢ n → get_or dh k 0 ≡ get_or ch k 0) → IsStored e dh
+IsStored-channel e ch dh n x old limit here others =
+    below_all (stored e ch) (stored e dh) (2048 + n) x old (stored-channel e dh n ∙ here) (rw (cell_limit-channel n) limit) (λ q ne. stored_other-channel e ch dh n q others ne)
+
+-- what the numbers of a representation are below
+pub place_limit : (e ch : List ℕ) (c : ℕ) → IsStored e ch → c < 2048 → get_or e c 0 < cell_limit c
+place_limit e ch c is lt = rw (← stored-place e ch c lt) (is c)
+
+pub channel_limit : (e ch : List ℕ) (n : ℕ) → IsStored e ch → get_or ch n 0 < 32768
+channel_limit e ch n is =
+    let below = is (2048 + n) in
+    rw (stored-channel e ch n, cell_limit-channel n) at below
+
+-- the arrays that hold 0 everywhere
+zero_at : (n q : ℕ) → ◌≡◌ {A = ℕ} (get_or (replicate n 0) q 0) 0
+zero_at n q = ⊎_elim (λ lt. get_or-replicate n q 0 0 lt) (λ ge. get_or_past (replicate n 0) q 0 (rw length-replicate ge)) (cases_lt q n)
+
+stored-zeros : (m n q : ℕ) → stored (replicate m 0) (replicate n 0) q ≡ 0
+unfolding stored
+stored-zeros m n q = rw (zero_at m q, zero_at n (q - 2048)) (grind (arith, nat_tests))
+
+pub view-zero : (m n : ℕ) → cells_by (stored (replicate m 0) (replicate n 0)) ≡ zero_cells
+unfolding zero_cells
+view-zero m n = same-cells_by _ _ (stored-zeros m n)
+
+cell_limit-positive : (c : ℕ) → 0 < cell_limit c
+unfolding cell_limit
+cell_limit-positive c = grind (arith, nat_tests)
+
+pub IsStored-zero : (m n : ℕ) → IsStored (replicate m 0) (replicate n 0)
+IsStored-zero m n c = rw (stored-zeros m n c) (cell_limit-positive c)

@@ -1,0 +1,3 @@
+mod CellLemmas
+mod ChangedLemmas
+pub mod CellLaws

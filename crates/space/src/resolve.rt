@@ -1,0 +1,85 @@
+//! From addresses to places and back.
+
+ghost use Rattle.std.specs.Prelude.{◌≡◌, ◌<◌};
+ghost use Rattle.space.specs.Places.{place, window, eb_of, fb_of, sup_of, IsErasable};
+
+use crate::numbers::{Addr12, Bank, Eras, Offset};
+use crate::place::{Banks, Linear};
+
+/// The place to which an address leads under the bank registers. An address below 02000 leads to
+/// an erasable place.
+#[tactic(auto, unfolding(crate::specs::Places::place))]
+pub fn resolve(address: Addr12, banks: Banks) -> Linear
+    ensures place { result ≡ place address banks.eb banks.fb banks.sup }
+    ensures low { address < 0o2000 → IsErasable result }
+{
+    let address = address.number();
+    if address < 0o1400 {
+        Linear::Erasable(Eras::new(address))
+    } else if address < 0o2000 {
+        Linear::Erasable(Eras::new(banks.eb * 0o400 + (address - 0o1400)))
+    } else if address < 0o4000 {
+        let bank = if banks.sup && banks.fb >= 0o30 {
+            banks.fb + 0o10
+        } else {
+            banks.fb
+        };
+        Linear::Fixed(Bank::new(bank), Offset::new(address - 0o2000))
+    } else if address < 0o6000 {
+        Linear::Fixed(Bank::new(2), Offset::new(address - 0o4000))
+    } else {
+        Linear::Fixed(Bank::new(3), Offset::new(address - 0o6000))
+    }
+}
+
+/// The address at which a program reaches a place, once the bank registers are set for it.
+#[tactic(auto, unfolding(crate::specs::Places::window))]
+pub fn window(linear: Linear) -> Addr12
+    ensures { result ≡ window linear }
+{
+    match linear {
+        Linear::Erasable(place) => {
+            let place = place.number();
+            Addr12::new(if place < 0o1400 {
+                place
+            } else {
+                0o1400 + place % 0o400
+            })
+        }
+        Linear::Fixed(bank, offset) => {
+            let first = match bank.number() {
+                2 => 0o4000,
+                3 => 0o6000,
+                _ => 0o2000,
+            };
+            Addr12::new(first + offset.number())
+        }
+    }
+}
+
+/// The bank registers and the superbank bit as they are set for a place. Under them its window
+/// leads back to it.
+#[tactic(auto, unfolding(crate::specs::Places::window, crate::specs::Places::place, crate::specs::Places::eb_of, crate::specs::Places::fb_of, crate::specs::Places::sup_of))]
+pub fn banks_of(linear: Linear) -> Banks
+    ensures eb { result.eb ≡ eb_of linear }
+    ensures fb { result.fb ≡ fb_of linear }
+    ensures sup { result.sup ≡ sup_of linear }
+    ensures leads_back { place (window linear) result.eb result.fb result.sup ≡ linear }
+{
+    match linear {
+        Linear::Erasable(place) => Banks {
+            eb: place.number() / 0o400,
+            fb: 0,
+            sup: false,
+        },
+        Linear::Fixed(bank, _) => {
+            let bank = bank.number();
+            let sup = bank >= 0o40;
+            Banks {
+                eb: 0,
+                fb: if sup { bank - 0o10 } else { bank },
+                sup,
+            }
+        }
+    }
+}

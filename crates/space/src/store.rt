@@ -1,0 +1,276 @@
+//! The cells of the registers, erasable memory and the channels.
+
+ghost use Rattle.std.specs.Prelude.{◌≡◌, ℕ, ◌<◌, ◌≢◌, length, take, drop, slice_index, replicate, not, ◌==◌};
+ghost use Rattle.space.specs.Cells.{at, word_at, get, put, get_channel, put_channel, kept, zero_cells, changed_places, superbank, accumulator, return_address, erasable_bank, fixed_bank, program_counter, both_banks, always_zero, lower_accumulator_channel, return_address_channel, channel_cell, erasable_count, channel_count};
+ghost use Rattle.space.specs.Stored.{cell_limit};
+ghost use Rattle.std.specs.FinMap.{insert};
+
+use crate::numbers::{Chan, Eras};
+use crate::place::Banks;
+use std::marker::Model;
+use words::{Wide, Word};
+
+/// The bits that the superbank channel keeps.
+const SUPERBANK_MASK: u16 = 0o160;
+
+/// The superbank bit in its channel.
+const SUPERBANK_BIT: u16 = 0o100;
+
+/// The registers, erasable memory and the channels.
+#[derive(Drop)]
+pub struct Store {
+    erasable: [u16; 2048],
+    channels: [u16; 512],
+}
+
+impl Model for Store {
+    ghost use Rattle.std.specs.Prelude.{ℕ};
+    ghost use Rattle.std.specs.Coded.{coded_ℕ};
+    ghost use Rattle.std.specs.FinMap as map;
+    ghost use Rattle.space.specs.Cells.{Cells, cells_by};
+    ghost use Rattle.space.specs.Stored.{stored, IsStored};
+
+    ghost Value = { Cells };
+
+    ghost coded = { map.code coded_ℕ coded_ℕ };
+
+    ghost view = { λ s. cells_by (stored s.erasable s.channels) };
+
+    ghost invariant = { λ s. IsStored s.erasable s.channels };
+}
+
+impl Store {
+    /// A store in which each cell holds 0.
+    pub fn zero() -> Store
+        ensures { result ≡ zero_cells }
+    {
+        Store {
+            erasable: zero_places(),
+            channels: silent_channels(),
+        }
+    }
+
+    /// Makes the other store equal to this one.
+    pub fn copy_to(&self, other: &mut Store)
+        ensures { other.new ≡ self.now }
+    {
+        other.erasable.copy_from_slice(&self.erasable);
+        other.channels.copy_from_slice(&self.channels);
+    }
+
+    /// What is read at an erasable place. At Z it is an address of 12 bits.
+    #[tactic(auto, unfolding(crate::specs::Cells::get))]
+    pub fn read(&self, place: Eras) -> Wide
+        ensures value { result ≡ get self.now place }
+        ensures address { place ≡ program_counter → result < 0o10000 }
+    {
+        if place == Eras::A || place == Eras::Q {
+            Wide::of_u16(self.held(place))
+        } else {
+            self.word(place).extend()
+        }
+    }
+
+    /// The word at an erasable place other than A and Q.
+    #[tactic(auto, unfolding(crate::specs::Stored::cell_limit))]
+    fn word(&self, place: Eras) -> Word
+        requires accumulator { place ≢ accumulator }
+        requires return_address { place ≢ return_address }
+        ensures value { result ≡ word_at self.now place }
+        ensures address { place ≡ program_counter → result < 0o10000 }
+    {
+        if place == Eras::EB {
+            word_of(self.held(Eras::EB) * 0o400)
+        } else if place == Eras::FB {
+            word_of(self.held(Eras::FB) * 0o2000)
+        } else if place == Eras::BB {
+            word_of(self.held(Eras::FB) * 0o2000 + self.held(Eras::EB))
+        } else if place == Eras::ZERO {
+            word_of(0)
+        } else {
+            word_of(self.held(place))
+        }
+    }
+
+    /// Stores at an erasable place.
+    #[tactic(auto, unfolding(crate::specs::Cells::put, crate::specs::Stored::cell_limit))]
+    pub fn write(&mut self, place: Eras, value: Wide)
+        ensures { self.new ≡ put self.old place value }
+    {
+        if place == Eras::BB {
+            let word = value.correct().to_u16();
+            self.hold(Eras::FB, word / 0o2000);
+            self.hold(Eras::EB, word % 0o10);
+        } else if place != Eras::ZERO {
+            self.hold(place, kept(place, value));
+        }
+    }
+
+    /// The bank registers and the superbank bit.
+    #[tactic(auto, unfolding(crate::specs::Cells::superbank, crate::specs::Stored::cell_limit))]
+    pub fn banks(&self) -> Banks
+        ensures eb { result.eb ≡ at self.now erasable_bank }
+        ensures fb { result.fb ≡ at self.now fixed_bank }
+        ensures sup { result.sup ≡ superbank self.now }
+    {
+        Banks {
+            eb: self.held(Eras::EB),
+            fb: self.held(Eras::FB),
+            sup: self.held_on(Chan::SUPERBANK) / SUPERBANK_BIT % 2 == 1,
+        }
+    }
+
+    /// Whether a place reads differently in the other store.
+    fn differs(&self, other: &Store, place: Eras) -> bool
+        ensures { result ≡ not (get self.now place == get other.now place) }
+    {
+        self.read(place) != other.read(place)
+    }
+
+    /// What is read on a channel.
+    #[tactic(auto, unfolding(crate::specs::Cells::get_channel))]
+    pub fn channel(&self, channel: Chan) -> Wide
+        ensures { result ≡ get_channel self.now channel }
+    {
+        if channel == Chan::L {
+            self.read(Eras::L)
+        } else if channel == Chan::Q {
+            self.read(Eras::Q)
+        } else {
+            word_of(self.held_on(channel)).extend()
+        }
+    }
+
+    /// Stores on a channel.
+    #[tactic(auto, unfolding(crate::specs::Cells::put_channel))]
+    pub fn set_channel(&mut self, channel: Chan, value: Wide)
+        ensures { self.new ≡ put_channel self.old channel value }
+    {
+        let word = value.correct().to_u16();
+        if channel == Chan::L {
+            self.write(Eras::L, value);
+        } else if channel == Chan::Q {
+            self.write(Eras::Q, value);
+        } else if channel == Chan::SUPERBANK {
+            self.hold_on(channel, word & SUPERBANK_MASK);
+        } else {
+            self.hold_on(channel, word);
+        }
+    }
+
+    /// The number in the cell of a place.
+    #[tactic(auto, using(crate::proofs::CellLemmas::at_view, crate::proofs::CellLemmas::place_limit))]
+    fn held(&self, place: Eras) -> u16
+        requires both_banks { place ≢ both_banks }
+        requires always_zero { place ≢ always_zero }
+        ensures value { result ≡ at self.now place }
+        ensures limit { result < cell_limit place }
+    {
+        self.erasable[usize::from(place.number())]
+    }
+
+    /// Puts a number into the cell of a place.
+    fn hold(&mut self, place: Eras, number: u16)
+        requires both_banks { place ≢ both_banks }
+        requires always_zero { place ≢ always_zero }
+        requires limit { number < cell_limit place }
+        ensures { self.new ≡ insert self.old place number }
+    {
+        set(&mut self.erasable, usize::from(place.number()), number);
+    }
+
+    /// The number in the cell of a channel.
+    #[tactic(auto, using(crate::proofs::CellLemmas::channel_view, crate::proofs::CellLemmas::channel_limit))]
+    fn held_on(&self, channel: Chan) -> u16
+        requires lower_accumulator { channel ≢ lower_accumulator_channel }
+        requires return_address { channel ≢ return_address_channel }
+        ensures value { result ≡ at self.now (channel_cell channel) }
+        ensures limit { result < 0o100000 }
+    {
+        self.channels[usize::from(channel.number())]
+    }
+
+    /// Puts a number into the cell of a channel.
+    fn hold_on(&mut self, channel: Chan, number: u16)
+        requires lower_accumulator { channel ≢ lower_accumulator_channel }
+        requires return_address { channel ≢ return_address_channel }
+        requires limit { number < 0o100000 }
+        ensures { self.new ≡ insert self.old (channel_cell channel) number }
+    {
+        set(&mut self.channels, usize::from(channel.number()), number);
+    }
+}
+
+/// Hands over, at the front of `places` and rising, the erasable places that read differently in
+/// two stores, and answers how many they are. The rest of `places` stays.
+pub fn changed(one: &Store, other: &Store, places: &mut [u16; 2048]) -> usize
+    ensures places { take result places.new ≡ changed_places one.now other.now }
+    ensures count { result ≡ length (changed_places one.now other.now) }
+    ensures rest { drop result places.new ≡ drop result places.old }
+{
+    let mut count = 0;
+    for number in 0..0o4000u16 {
+        if one.differs(other, Eras::new(number)) {
+            places[count] = number;
+            count += 1;
+        }
+    }
+    count
+}
+
+/// What a cell keeps of a wide.
+#[tactic(auto, unfolding(crate::specs::Cells::kept, crate::specs::Stored::cell_limit))]
+fn kept(place: Eras, value: Wide) -> u16
+    ensures value { result ≡ kept place value }
+    ensures limit { result < cell_limit place }
+{
+    let word = value.correct();
+    if place == Eras::A || place == Eras::Q {
+        value.to_u16()
+    } else if place == Eras::EB {
+        word.to_u16() / 0o400 % 0o10
+    } else if place == Eras::FB {
+        word.to_u16() / 0o2000
+    } else if place == Eras::Z {
+        word.to_u16() % 0o10000
+    } else if place == Eras::CYR {
+        word.cyr().to_u16()
+    } else if place == Eras::SR {
+        word.sr().to_u16()
+    } else if place == Eras::CYL {
+        word.cyl().to_u16()
+    } else if place == Eras::EDOP {
+        word.edop().to_u16()
+    } else {
+        word.to_u16()
+    }
+}
+
+/// Puts a number at one index, and leaves the others.
+fn set(numbers: &mut [u16], index: usize, number: u16)
+    requires { index < length numbers.old }
+    ensures here { slice_index numbers.new index ≡ number }
+    ensures others { (q : ℕ) → q ≢ index → slice_index numbers.new q ≡ slice_index numbers.old q }
+{
+    numbers[index] = number;
+}
+
+/// The word of 15 bits.
+fn word_of(number: u16) -> Word
+    requires { number < 0o100000 }
+    ensures { result ≡ number }
+{
+    Word::of_low_bits(number)
+}
+
+fn zero_places() -> [u16; 2048]
+    ensures { result ≡ replicate erasable_count 0 }
+{
+    [0; 2048]
+}
+
+fn silent_channels() -> [u16; 512]
+    ensures { result ≡ replicate channel_count 0 }
+{
+    [0; 512]
+}

@@ -1,0 +1,7 @@
+pub mod Bits
+pub mod Sums
+pub mod Texts
+pub mod Readings
+pub mod Digits
+pub mod Turns
+pub mod Values

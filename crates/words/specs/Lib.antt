@@ -1,0 +1,11 @@
+pub mod Numbers
+pub mod Signs
+pub mod Edits
+pub mod Counters
+pub mod Products
+pub mod BitSums
+pub mod Devices
+pub mod Memory
+pub mod Readings
+pub mod Numerals
+pub mod Laws

@@ -1,0 +1,158 @@
+//! Devices for tests: readers and writers over memory that move one byte a call, and are in trouble once.
+
+ghost use Rattle.std.specs.Prelude.{◌≡◌, [], IfOk};
+ghost use Rattle.words.specs.Devices.{one_more};
+
+use super::device::{Read, Write};
+use std::alloc::Global;
+use std::io;
+use std::marker::Model;
+
+/// What a writer does at its place of trouble.
+#[derive(Clone, Copy, PartialEq, Eq, Debug, Drop)]
+pub enum Trouble {
+    /// The call fails.
+    Fails,
+    /// The call takes none of the bytes.
+    TakesNothing,
+}
+
+/// A reader over memory that gives one byte a call, and fails once.
+#[derive(Drop)]
+pub struct FaultyReader<'a> {
+    left: &'a [u8],
+    fails_after: Option<usize>,
+    failures: u128,
+}
+
+impl<'a> Model for FaultyReader<'a> {
+    ghost use Rattle.words.specs.Memory.{FaultySource};
+
+    ghost Value = { FaultySource };
+
+    ghost view = { λ r. record { left = r.left.now; fails_after = r.fails_after; failures = r.failures } };
+}
+
+impl<'a> FaultyReader<'a> {
+    /// A reader of a text that fails once, after so many calls that succeed, or never.
+    pub fn new(text: &'a [u8], fails_after: Option<usize>) -> FaultyReader<'a>
+        ensures left { result.left ≡ text.now }
+        ensures fails_after { result.fails_after ≡ fails_after }
+        ensures failures { result.failures ≡ 0 }
+    {
+        FaultyReader {
+            left: text,
+            fails_after,
+            failures: 0,
+        }
+    }
+}
+
+impl<'a> Read for FaultyReader<'a> {
+    ghost use Rattle.std.specs.Prelude.{true};
+
+    ghost told = { true };
+
+    ghost left = { λ r. r.left };
+
+    ghost failures = { λ r. r.failures };
+
+    fn read(&mut self, buf: &mut [u8]) -> io::Result<usize> {
+        if self.fails_after == Some(0) {
+            self.fails_after = None;
+            self.failures = self.failures.saturating_add(1);
+            return Err(io::Error::from(io::ErrorKind::Other));
+        }
+        self.fails_after = self.fails_after.map(|calls| calls.saturating_sub(1));
+        let Some((first, others)) = self.left.split_first() else {
+            return Ok(0);
+        };
+        if buf.is_empty() {
+            return Ok(0);
+        }
+        buf[0] = *first;
+        self.left = others;
+        Ok(1)
+    }
+}
+
+/// A writer to memory that takes one byte a call, and is in trouble once.
+#[derive(Drop)]
+pub struct FaultyWriter {
+    bytes: Vec<u8>,
+    fails_after: Option<usize>,
+    trouble: Trouble,
+    failures: u128,
+}
+
+impl Model for FaultyWriter {
+    ghost use Rattle.words.specs.Memory.{FaultySink};
+
+    ghost Value = { FaultySink };
+
+    ghost view = { λ w. record { written = w.bytes.items; fails_after = w.fails_after; trouble = w.trouble; failures = w.failures } };
+}
+
+impl FaultyWriter {
+    /// A writer that is in trouble once, after so many bytes, or never.
+    pub fn new(alloc: Global, fails_after: Option<usize>, trouble: Trouble) -> FaultyWriter
+        ensures written { result.written ≡ [] }
+        ensures fails_after { result.fails_after ≡ fails_after }
+        ensures trouble { result.trouble ≡ trouble }
+        ensures failures { result.failures ≡ 0 }
+    {
+        FaultyWriter {
+            bytes: Vec::new(alloc),
+            fails_after,
+            trouble,
+            failures: 0,
+        }
+    }
+
+    /// The bytes that were written.
+    pub fn as_slice(&self) -> &[u8]
+        ensures { result.now ≡ self.now.written }
+    {
+        self.bytes.as_slice()
+    }
+
+    fn in_trouble(&mut self) -> io::Result<usize>
+        ensures written { self.new.written ≡ self.old.written }
+        ensures answer { IfOk result (λ n. n ≡ 0) }
+        ensures failures { self.new.failures ≡ one_more self.old.failures }
+    {
+        self.fails_after = None;
+        self.failures = self.failures.saturating_add(1);
+        match self.trouble {
+            Trouble::Fails => Err(io::Error::from(io::ErrorKind::Other)),
+            Trouble::TakesNothing => Ok(0),
+        }
+    }
+}
+
+impl Write for FaultyWriter {
+    ghost use Rattle.std.specs.Prelude.{true};
+
+    ghost told = { true };
+
+    ghost written = { λ w. w.written };
+
+    ghost failures = { λ w. w.failures };
+
+    fn write(&mut self, buf: &[u8]) -> io::Result<usize> {
+        let Some(first) = buf.first() else {
+            return Ok(0);
+        };
+        if self.fails_after == Some(0) {
+            return self.in_trouble();
+        }
+        self.fails_after = self.fails_after.map(|bytes| bytes.saturating_sub(1));
+        match self.bytes.push(*first) {
+            Ok(()) => Ok(1),
+            Err(_) => {
+                self.failures = self.failures.saturating_add(1);
+                Err(io::Error::from(io::ErrorKind::OutOfMemory))
+            }
+        }
+    }
+}

@@ -1,0 +1,71 @@
+//! Laws of the arithmetic. Each is the contract of a call that does nothing: what the formulas of words come to.
+
+ghost use Rattle.std.specs.Prelude.{◌≡◌, true};
+ghost use Rattle.words.specs.Numbers.{neg, neg_wide, extend, correct};
+ghost use Rattle.words.specs.Edits.{cyr, cyl};
+ghost use Rattle.words.specs.Counters.{pcdu, mcdu};
+ghost use Rattle.words.specs.Products.{quotient_fits};
+ghost use Rattle.words.specs.Laws.{IsOpposite, IsOppositeWide, KeepsValue, IsExtension, CyclesRight, CyclesLeft, ShiftsRight, TakesUpperBits, AddsOne, TakesOne, NearsZero, MakesProduct, Divides};
+
+use super::wide::Wide;
+use super::word::Word;
+
+/// The complement of a word has the opposite value, and is undone by the complement.
+pub fn complement_of_word(w: Word)
+    ensures value { IsOpposite w }
+    ensures twice { neg (neg w) ≡ w }
+{}
+
+/// The complement of a wide has the opposite value, and is undone by the complement.
+pub fn complement_of_wide(x: Wide)
+    ensures value { IsOppositeWide x }
+    ensures twice { neg_wide (neg_wide x) ≡ x }
+{}
+
+/// A word that is extended keeps its value, and is had back by correction.
+pub fn extended_and_corrected(w: Word)
+    ensures value { KeepsValue w }
+    ensures back { correct (extend w) ≡ w }
+{}
+
+/// A wide without overflow is the extension of its word.
+pub fn corrected_and_extended(x: Wide)
+    ensures { IsExtension x }
+{}
+
+/// The cycles right and left turn the bits round by one, and undo each other.
+pub fn cycles(w: Word)
+    ensures right { CyclesRight w }
+    ensures left { CyclesLeft w }
+    ensures right_then_left { cyl (cyr w) ≡ w }
+    ensures left_then_right { cyr (cyl w) ≡ w }
+{}
+
+/// The shift moves the bits down by one and keeps the sign; the last edit takes the upper seven bits below the sign.
+pub fn shifts(w: Word)
+    ensures right { ShiftsRight w }
+    ensures upper { TakesUpperBits w }
+{}
+
+/// The counter steps by the value: plus one, minus one, one nearer to zero.
+pub fn counter_values(w: Word)
+    ensures plus { AddsOne w }
+    ensures minus { TakesOne w }
+    ensures nearer { NearsZero w }
+{}
+
+/// Plus one and minus one modulo 2^15 undo each other.
+pub fn modular_counters(w: Word)
+    ensures plus_then_minus { (mcdu (pcdu w).word).word ≡ w }
+    ensures minus_then_plus { (pcdu (mcdu w).word).word ≡ w }
+{}
+
+/// The halves of a product make the product of the values.
+pub fn halves_make_product(a: Word, k: Word)
+    ensures { MakesProduct a k }
+{}
+
+/// Quotient times divisor plus remainder is the dividend, where the quotient fits.
+pub fn quotient_makes_dividend(a: Word, l: Word, k: Word)
+    ensures { quotient_fits a l k ≡ true → Divides a l k }
+{}

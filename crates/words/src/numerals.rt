@@ -1,0 +1,56 @@
+//! Text that goes out, put together with no memory.
+
+ghost use Rattle.std.specs.Prelude.{◌≡◌, ◌+◌, ◌≤◌, ◌++◌, length, decimal};
+ghost use Rattle.arrayvec.specs.ArrayVec.{array_vec_len};
+ghost use Rattle.words.specs.Numerals.{octal_text};
+
+use arrayvec::ArrayVec;
+
+/// Appends a text.
+pub fn push_all<const N: usize>(line: &mut ArrayVec<u8, N>, text: &[u8])
+    requires { array_vec_len line.old + length text.now ≤ N }
+    ensures items { line.new.items ≡ line.old.items ++ text.now }
+    ensures len { array_vec_len line.new ≡ array_vec_len line.old + length text.now }
+{
+    for byte in text {
+        line.push(*byte);
+    }
+}
+
+/// Appends a number in decimal, with no zero before it.
+pub fn push_decimal<const N: usize>(line: &mut ArrayVec<u8, N>, number: u64)
+    requires { array_vec_len line.old + length (decimal number) ≤ N }
+    ensures items { line.new.items ≡ line.old.items ++ decimal number }
+    ensures len { array_vec_len line.new ≡ array_vec_len line.old + length (decimal number) }
+{
+    push_all(line, decimal_digits(number).as_slice());
+}
+
+/// The most decimal digits of a number of 64 bits.
+const DECIMAL_DIGITS: usize = 20;
+
+fn decimal_digits(number: u64) -> ArrayVec<u8, DECIMAL_DIGITS>
+    ensures { result.items ≡ decimal number }
+{
+    if number < 10 {
+        let mut digits = ArrayVec::new();
+        digits.push(b'0' + number as u8);
+        digits
+    } else {
+        let mut digits = decimal_digits(number / 10);
+        digits.push(b'0' + (number % 10) as u8);
+        digits
+    }
+}
+
+/// Appends the last octal digits of a number, as many as `digits`.
+pub fn push_octal<const N: usize>(line: &mut ArrayVec<u8, N>, digits: usize, number: u16)
+    requires { array_vec_len line.old + digits ≤ N }
+    ensures items { line.new.items ≡ line.old.items ++ octal_text digits number }
+    ensures len { array_vec_len line.new ≡ array_vec_len line.old + digits }
+{
+    if digits > 0 {
+        push_octal(line, digits - 1, number / 8);
+        line.push(b'0' + (number % 8) as u8);
+    }
+}

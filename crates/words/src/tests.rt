@@ -1,0 +1,210 @@
+//! Worked rows of the arithmetic, and devices that are in trouble at each place.
+
+use super::faulty::{FaultyReader, FaultyWriter, Trouble};
+use super::*;
+use arrayvec::ArrayVec;
+use std::io;
+
+fn word(number: u16) -> Word {
+    Word::of_low_bits(number)
+}
+
+fn wide(number: u16) -> Wide {
+    Wide::of_u16(number)
+}
+
+fn step(number: u16, carry: Carry) -> CounterStep {
+    CounterStep {
+        word: word(number),
+        carry,
+    }
+}
+
+fn product(high: u16, low: u16) -> Product {
+    Product {
+        high: word(high),
+        low: word(low),
+    }
+}
+
+fn quotient(quotient: u16, remainder: u16) -> Quotient {
+    Quotient {
+        quotient: word(quotient),
+        remainder: word(remainder),
+    }
+}
+
+#[test]
+fn words_have_fifteen_bits(rt: HostRuntime) {
+    assert_eq!(rt; Word::try_from_u16(0o77777).ok(), Some(word(0o77777)));
+    assert!(rt; matches!(Word::try_from_u16(0o100000), Err(WordFault::OutOfWord)));
+    assert_eq!(rt; word(0o123456).to_u16(), 0o23456);
+    assert_eq!(rt; word(0o77776).neg(), word(1));
+}
+
+#[test]
+fn ts_overflow_both_ways(rt: HostRuntime) {
+    let plus = wide(0o37777).add(word(1).extend());
+    assert_eq!(rt; plus.overflow(), Overflow::Plus);
+    assert_eq!(rt; plus.correct(), word(0));
+    let minus = wide(0o140000).add(word(0o77776).extend());
+    assert_eq!(rt; minus.overflow(), Overflow::Minus);
+    assert_eq!(rt; minus.correct(), word(0o77777));
+}
+
+#[test]
+fn counter_steps_and_sums(rt: HostRuntime) {
+    assert_eq!(rt; wide(5).add(wide(0o177772)), wide(0o177777));
+    assert_eq!(rt; wide(5).add(wide(0o177772)).overflow(), Overflow::No);
+    assert_eq!(rt; Wide::ZERO.add(Wide::ZERO), Wide::ZERO);
+    for number in [0o00001, 0o77776, 0o77777] {
+        assert_eq!(rt; word(number).dinc(), step(0, Carry::No), "at {number:o}");
+    }
+    assert_eq!(rt; word(0o37777).pinc(), step(0, Carry::Plus));
+    assert_eq!(rt; word(0o40000).minc(), step(0o77777, Carry::Minus));
+    assert_eq!(rt; word(0o77777).pcdu(), step(0, Carry::No));
+    assert_eq!(rt; word(0).mcdu(), step(0o77777, Carry::No));
+    assert_eq!(rt; word(0o40000).shinc(), step(0, Carry::ShiftedOut));
+    assert_eq!(rt; word(0o40000).shanc(), step(1, Carry::ShiftedOut));
+    assert_eq!(rt; word(0o77777).edop(), word(0o177));
+    assert_eq!(rt; word(1).cyr(), word(0o40000));
+    assert_eq!(rt; word(0o77776).mul(word(2)), product(0o77777, 0o77775));
+}
+
+#[test]
+fn product_then_quotient(rt: HostRuntime) {
+    let squared = word(0o20000).mul(word(0o20000));
+    assert_eq!(rt; squared, product(0o10000, 0));
+    assert_eq!(rt;
+        div(squared.high, squared.low, word(0o20000)),
+        quotient(0o20000, 0)
+    );
+}
+
+#[test]
+fn quotient_corners(rt: HostRuntime) {
+    assert_eq!(rt; div(word(1), word(2), word(0)), quotient(0o37777, 2));
+    assert_eq!(rt; div(word(3), word(0), word(3)), quotient(0o37777, 0));
+    assert_eq!(rt; div(word(3), word(0), word(0o77774)), quotient(0o40000, 0));
+    assert_eq!(rt;
+        div(word(0), word(0o77776), word(2)),
+        quotient(0o77777, 0o77776)
+    );
+    assert_eq!(rt;
+        div(word(0o77777), word(0), word(2)),
+        quotient(0o77777, 0o77777)
+    );
+}
+
+#[test]
+fn modular_difference(rt: HostRuntime) {
+    assert_eq!(rt; word(1).modular_sub(word(2)).extend(), wide(0o177776));
+}
+
+#[test]
+#[tactic(auto, using(crate::proofs::Digits::short_decimal))]
+fn texts_without_memory(rt: HostRuntime) {
+    let mut line = ArrayVec::<u8, 40>::new();
+    push_decimal(&mut line, 7);
+    push_all(&mut line, b" CH ");
+    push_octal(&mut line, 3, 0o10);
+    push_all(&mut line, b" ");
+    push_octal(&mut line, 5, 0o12);
+    push_all(&mut line, b"\n");
+    assert_eq!(rt; line.as_slice(), b"7 CH 010 00012\n".as_slice());
+}
+
+#[test]
+fn writers_in_trouble_at_each_place(rt: HostRuntime) {
+    let text = b"hello";
+    for trouble in [Trouble::Fails, Trouble::TakesNothing] {
+        for place in 0..text.len() {
+            let mut out = FaultyWriter::new(rt.alloc(), Some(place), trouble);
+            assert_eq!(rt; write_all(&mut out, text), Err(WriteFailed), "at {place}");
+            assert_eq!(rt; out.as_slice(), &text[..place], "at {place}");
+        }
+        let mut out = FaultyWriter::new(rt.alloc(), Some(text.len()), trouble);
+        assert_eq!(rt; write_all(&mut out, text), Ok(()));
+        assert_eq!(rt; out.as_slice(), text.as_slice());
+    }
+}
+
+#[test]
+fn readers_in_trouble_at_each_call(rt: HostRuntime) -> Result<(), ReadFault> {
+    let text = b"hello";
+    for place in 0..=text.len() {
+        let mut reader = FaultyReader::new(text, Some(place));
+        let first = read_text(rt.alloc(), &mut reader, text.len());
+        assert!(rt; matches!(first, Err(ReadFault::ReadFailed)), "at {place}");
+        let rest = read_text(rt.alloc(), &mut reader, text.len())?;
+        assert_eq!(rt; rest.as_slice(), &text[place..], "at {place}");
+    }
+    Ok(())
+}
+
+#[test]
+fn texts_at_their_limit_and_past(rt: HostRuntime) -> Result<(), ReadFault> {
+    let mut source: &[u8] = b"hello";
+    assert_eq!(rt;
+        read_text(rt.alloc(), &mut source, 5)?.as_slice(),
+        b"hello".as_slice()
+    );
+    let mut longer: &[u8] = b"hello, you";
+    let refused = read_text(rt.alloc(), &mut longer, 5);
+    assert!(rt; matches!(refused, Err(ReadFault::TooLong)));
+    assert_eq!(rt; longer, b" you".as_slice());
+    let mut slow = FaultyReader::new(b"hello, you", None);
+    let refused = read_text(rt.alloc(), &mut slow, 5);
+    assert!(rt; matches!(refused, Err(ReadFault::TooLong)));
+    assert_eq!(rt;
+        read_text(rt.alloc(), &mut slow, 5)?.as_slice(),
+        b" you".as_slice()
+    );
+    Ok(())
+}
+
+#[test]
+fn standard_devices(rt: HostRuntime) -> Result<(), ReadFault> {
+    let mut reader = Std::new(b"hello".as_slice());
+    assert_eq!(rt;
+        read_text(rt.alloc(), &mut reader, 5)?.as_slice(),
+        b"hello".as_slice()
+    );
+    let mut out = Std::new(Vec::<u8>::new(rt.alloc()));
+    assert_eq!(rt; write_all(&mut out, b"hello"), Ok(()));
+    assert_eq!(rt; out.flush(), Ok(()));
+    Ok(())
+}
+
+/// A writer of the standard library that takes all bytes and fails to hand them on.
+#[derive(Drop)]
+struct HoldsBack;
+
+impl io::Write for HoldsBack {
+    fn write(&mut self, buf: &[u8]) -> io::Result<usize> {
+        Ok(buf.len())
+    }
+
+    fn flush(&mut self) -> io::Result<()> {
+        Err(io::Error::from(io::ErrorKind::Other))
+    }
+}
+
+#[test]
+fn flush_that_fails(rt: HostRuntime) {
+    let mut out = Std::new(HoldsBack);
+    assert_eq!(rt; write_all(&mut out, b"hello"), Ok(()));
+    assert_eq!(rt; out.flush(), Err(WriteFailed));
+}
+
+#[test]
+fn always_out_of_memory(rt: HostRuntime) -> Result<(), ReadFault> {
+    let mut out = Buffer::new(rt.alloc());
+    assert_eq!(rt; write_all(&mut out, b"hello"), Ok(()));
+    assert_eq!(rt; out.as_slice(), b"hello".as_slice());
+    let mut slow = FaultyWriter::new(rt.alloc(), None, Trouble::Fails);
+    assert_eq!(rt; write_all(&mut slow, b"hello"), Ok(()));
+    let mut reader = FaultyReader::new(b"hello", None);
+    assert_eq!(rt; read_text(rt.alloc(), &mut reader, 5)?.len(), 5);
+    Ok(())
+}

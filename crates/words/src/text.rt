@@ -1,0 +1,67 @@
+//! Whole texts from readers.
+
+ghost use Rattle.std.specs.Prelude.{◌≡◌, ℕ, ◌+◌, ◌≤◌, [], true, IfOk, IfErr, length, if◌then◌else◌};
+ghost use Rattle.words.specs.Devices.{one_more};
+ghost use Rattle.words.specs.Readings.{FaultTakes, has_read_failed, ReadsOnto};
+
+use super::device::Read;
+use std::alloc::Global;
+use thiserror::Error;
+
+/// Why no text was read.
+#[derive(Clone, Copy, PartialEq, Eq, Debug, Drop, Error)]
+pub enum ReadFault {
+    /// A growth was refused.
+    #[error("E2")]
+    NoMemory,
+    /// A read failed.
+    #[error("E6")]
+    ReadFailed,
+    /// More bytes stand than the limit allows; told once one more is read.
+    #[error("E34")]
+    TooLong,
+}
+
+const CHUNK: usize = 4096;
+
+/// Reads to the end, and answers the whole text of at most `most` bytes.
+///
+/// Errors: `TooLong` once `most + 1` bytes were read, `ReadFailed` where a read failed before that, `NoMemory` where a
+/// growth was refused. After an error the bytes that were read are gone, and the reader goes on where it stands.
+pub fn read_text<R: Read>(alloc: Global, reader: &mut R, most: usize) -> Result<Vec<u8>, ReadFault>
+    ensures whole { R.told ≡ true → IfOk result (λ text. R.left reader.old ≡ text.items) }
+    ensures end { R.told ≡ true → IfOk result (λ _. R.left reader.new ≡ []) }
+    ensures within { IfOk result (λ text. length text.items ≤ most) }
+    ensures fault { R.told ≡ true → IfErr result (λ e. FaultTakes e most (R.left reader.old) (R.left reader.new)) }
+    ensures failures { R.failures reader.new ≡ (if has_read_failed result then one_more (R.failures reader.old) else R.failures reader.old) }
+{
+    let mut text = Vec::new(alloc);
+    while text.len() <= most {
+        let room = most - text.len();
+        match read_some(reader, &mut text, room) {
+            Ok(0) => return Ok(text),
+            Ok(_) => {}
+            Err(fault) => return Err(fault),
+        }
+    }
+    Err(ReadFault::TooLong)
+}
+
+/// Reads once, at most `most + 1` bytes onto the end of a text.
+fn read_some<R: Read>(reader: &mut R, text: &mut Vec<u8>, most: usize) -> Result<usize, ReadFault>
+    ensures reads { R.told ≡ true → IfOk result (λ n. ReadsOnto (R.left reader.old) (R.left reader.new) text.old.items text.new.items n) }
+    ensures count { IfOk result (λ n. length text.new.items ≡ length text.old.items + n) }
+    ensures within { IfOk result (λ n. n ≤ most + 1) }
+    ensures fault { R.told ≡ true → IfErr result (λ e. FaultTakes e most (R.left reader.old) (R.left reader.new)) }
+    ensures failures { R.failures reader.new ≡ (if has_read_failed result then one_more (R.failures reader.old) else R.failures reader.old) }
+{
+    let mut chunk = [0; CHUNK];
+    let part = &mut chunk[..most.min(CHUNK - 1) + 1];
+    match reader.read(part) {
+        Ok(count) => match text.extend_from_slice(&part[..count]) {
+            Ok(()) => Ok(count),
+            Err(_) => Err(ReadFault::NoMemory),
+        },
+        Err(_) => Err(ReadFault::ReadFailed),
+    }
+}

@@ -1,0 +1,3 @@
+mod FeedLines
+mod Preparing
+mod RunSteps

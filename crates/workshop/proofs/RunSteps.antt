@@ -1,0 +1,95 @@
+-- A run, step by step.
+use Rattle.std.proofs.Common.{◌≡◌, ℕ, ◌+◌, ◌*◌, ◌^◌, ◌<◌, ◌≤◌, true, false, List, [], ◌∷◌, ◌++◌, length, Option, Some, None, Result, Ok, Err, refl, sym, ap, ◌∙◌, arith, append-nil, length-append, below_more, subst, rules}
+use Rattle.std.proofs.lemmas.List.Concat.{flat_map-append}
+use Rattle.std.specs.Option.{option_to_list}
+use Rattle.words.specs.Devices.{WritesBeginning}
+use Rattle.words.proofs.Texts.{append-then, beginning-after}
+use Rattle.cpu.specs.declared.output.Output.{Output}
+use Rattle.cpu.specs.State.{Scenario, State, start}
+use Rattle.cpu.specs.Next.{next}
+use Rattle.cpu.specs.Built.{is_built}
+use Rattle.cpu.specs.Run.{run, outs}
+use Rattle.cpu.proofs.RunLaws.{run-zero, run-add-one, out-add-one, outs-zero, outs-add-one, cycles-run}
+use Rattle.workshop.specs.ChannelLines.{channel_line, channel_lines}
+use Rattle.workshop.specs.Runs.{AreBuilt, Stops, BreaksOff}
+use Rattle.workshop.specs.Steps.{Runs, Steps, StepWrites, outputs_after}
+use Rattle.workshop.specs.declared.engine.Summary.{Summary}
+use Rattle.workshop.specs.declared.fault.WorkshopFault.{WorkshopFault}
+use Rattle.workshop.specs.declared.fault.WorkshopFault.TheVariants.{NoMemory, ReadFailed, WriteFailed, Source, Feed, TooLong, NotBuilt}
+
+pub lines_of_none : channel_lines (option_to_list None) ≡ []
+unfolding channel_lines
+lines_of_none = refl
+
+pub lines_of_one : (o : Output) → channel_lines (option_to_list (Some o)) ≡ channel_line o
+unfolding channel_lines
+lines_of_one o = append-nil (channel_line o)
+
+-- a step without an output writes nothing
+pub written_none : (scenario : Scenario) (s t : State) (a : List ℕ) → (t, None) ≡ next scenario s → a ≡ a ++ channel_lines (outputs_after scenario s)
+written_none scenario s t a e =
+    let none : outputs_after scenario s ≡ [] = ap (λ (p : State × Option Output). option_to_list p.1) (sym e) in
+    rw (none, lines_of_none) (sym (append-nil a))
+
+-- a run before its first step
+pub start_writes : (scenario : Scenario) (a : List ℕ) → a ≡ a ++ channel_lines (outs scenario 0)
+start_writes scenario a = rw (outs-zero scenario, lines_of_none) (sym (append-nil a))
+
+pub few_cycles : (scenario : Scenario) (n : ℕ) (s : State) → s ≡ run scenario n → n < 2 ^ 40 → s.cycles ≤ 2 ^ 62
+few_cycles scenario n s e h = rw e (omega (arith, cycles-run scenario n))
+
+pub outs_more : (scenario : Scenario) (n : ℕ) → outs scenario (n + 1) ≡ outs scenario n ++ outputs_after scenario (run scenario n)
+outs_more scenario n =
+    outs-add-one scenario n ∙ ap (λ (o : Option Output). outs scenario n ++ option_to_list o) (out-add-one scenario n)
+
+pub lines_more : (scenario : Scenario) (n : ℕ) → channel_lines (outs scenario (n + 1)) ≡ channel_lines (outs scenario n) ++ channel_lines (outputs_after scenario (run scenario n))
+unfolding channel_lines
+lines_more scenario n =
+    ap channel_lines (outs_more scenario n) ∙ flat_map-append channel_line (outs scenario n) (outputs_after scenario (run scenario n))
+
+pub count_more : (scenario : Scenario) (n : ℕ) → length (outs scenario (n + 1)) ≡ length (outs scenario n) + length (outputs_after scenario (run scenario n))
+count_more scenario n = ap length (outs_more scenario n) ∙ length-append (outs scenario n) (outputs_after scenario (run scenario n))
+
+pub built_more : (scenario : Scenario) (n : ℕ) (s : State) → s ≡ run scenario n → AreBuilt scenario n → is_built scenario s ≡ true → AreBuilt scenario (n + 1)
+built_more scenario n s e below here =
+    below_more (λ k. is_built scenario (run scenario k) ≡ true) n below (subst (λ (t : State). is_built scenario t ≡ true) e here)
+
+pub state_more : (scenario : Scenario) (n : ℕ) (s t : State) → s ≡ run scenario n → t ≡ (next scenario s).0 → t ≡ run scenario (n + 1)
+state_more scenario n s t e h = rw (run-add-one scenario n) (subst (λ (u : State). t ≡ (next scenario u).0) e h)
+
+pub outputs_more : (scenario : Scenario) (n : ℕ) (s : State) (k j : ℕ) → s ≡ run scenario n → k ≡ length (outs scenario n) → j ≡ length (outputs_after scenario s)
+    → k + j ≡ length (outs scenario (n + 1))
+outputs_more scenario n s k j e p q =
+    let here : j ≡ length (outputs_after scenario (run scenario n)) = subst (λ (u : State). j ≡ length (outputs_after scenario u)) e q in
+    rw (count_more scenario n, p, here) refl
+
+-- the lines of n steps, and those of the next
+pub lines_after : (scenario : Scenario) (n : ℕ) (s : State) (a b c : List ℕ) → s ≡ run scenario n
+    → b ≡ a ++ channel_lines (outs scenario n) → c ≡ b ++ channel_lines (outputs_after scenario s) → c ≡ a ++ channel_lines (outs scenario (n + 1))
+lines_after scenario n s a b c e p q =
+    let next_lines : c ≡ b ++ channel_lines (outputs_after scenario (run scenario n)) = subst (λ (t : State). c ≡ b ++ channel_lines (outputs_after scenario t)) e q in
+    rw (lines_more scenario n) (append-then a b c _ _ p next_lines)
+
+-- a run that ends in step n + 1
+pub ends : (scenario : Scenario) (steps n : ℕ) (s t : State) (a b c : List ℕ) (fault : WorkshopFault) → n < steps → s ≡ run scenario n → AreBuilt scenario n
+    → b ≡ a ++ channel_lines (outs scenario n) → Steps scenario s t (Err fault) → StepWrites scenario s b c (Err fault) → Runs scenario steps a c (Err fault)
+ends scenario steps n s t a b c NoMemory h e built p q r = absurd q
+ends scenario steps n s t a b c ReadFailed h e built p q r = absurd q
+ends scenario steps n s t a b c WriteFailed h e built p q r =
+    let here : WritesBeginning b c (channel_lines (outputs_after scenario (run scenario n))) = subst (λ (u : State). WritesBeginning b c (channel_lines (outputs_after scenario u))) e r in
+    record {
+      made = n + 1;
+      within = omega (arith, h);
+      built = built_more scenario n s e built q;
+      written = rw (lines_more scenario n) (beginning-after a b c _ _ p here);
+    }
+ends scenario steps n s t a b c (Source fault) h e built p q r = absurd q
+ends scenario steps n s t a b c (Feed fault) h e built p q r = absurd q
+ends scenario steps n s t a b c TooLong h e built p q r = absurd q
+ends scenario steps n s t a b c NotBuilt h e built p q r = record {
+  made = n;
+  before = h;
+  built = built;
+  unbuilt = subst (λ (u : State). is_built scenario u ≡ false) e q;
+  written = r ∙ p;
+}

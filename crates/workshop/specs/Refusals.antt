@@ -1,0 +1,26 @@
+-- Which faults the parts of an engine may tell.
+use Rattle.std.specs.Prelude.{◌≡◌, ℕ, ◌<◌, List, length, Result, Err, ⊤}
+use Rattle.yayul.specs.Program.{Program}
+use Rattle.workshop.specs.declared.fault.WorkshopFault.{WorkshopFault}
+use Rattle.workshop.specs.declared.fault.WorkshopFault.TheVariants.{NoMemory, ReadFailed, WriteFailed, Source, Feed, TooLong, NotBuilt}
+use Rattle.workshop.specs.Inputs.{most_bytes}
+
+-- the fault of a source and a feed, where that is what is told of them; that memory ran out or a read failed says nothing of them
+abbrev pub Refuses : Result Program WorkshopFault → WorkshopFault → Type 0
+Refuses inputs NoMemory = ⊤
+Refuses inputs ReadFailed = ⊤
+Refuses inputs WriteFailed = ⊥
+Refuses inputs (Source fault) = inputs ≡ Err (Source fault)
+Refuses inputs (Feed fault) = inputs ≡ Err (Feed fault)
+Refuses inputs TooLong = inputs ≡ Err TooLong
+Refuses inputs NotBuilt = ⊥
+
+-- the fault of a text that was to be read
+abbrev pub RefusesText : List ℕ → WorkshopFault → Type 0
+RefusesText text NoMemory = ⊤
+RefusesText text ReadFailed = ⊤
+RefusesText text WriteFailed = ⊥
+RefusesText text (Source fault) = ⊥
+RefusesText text (Feed fault) = ⊥
+RefusesText text TooLong = most_bytes < length text
+RefusesText text NotBuilt = ⊥

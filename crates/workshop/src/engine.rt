@@ -1,0 +1,117 @@
+//! The engine that runs a program.
+
+ghost use Rattle.std.specs.Prelude.{◌≡◌, ◌+◌, ◌-◌, ◌≤◌, ◌^◌, true, false, IfOk, IfErr, IsErr};
+ghost use Rattle.words.specs.Devices.{Writes, failures_after};
+ghost use Rattle.words.specs.Readings.{TakesAtMost};
+ghost use Rattle.workshop.specs.ChannelLines.{channel_line};
+ghost use Rattle.workshop.specs.Inputs.{most_bytes, assembled, prepared, scenario_of};
+ghost use Rattle.workshop.specs.Failures.{has_read_failed, has_write_failed, failures_if, OneFails, most_read};
+ghost use Rattle.workshop.specs.Runs.{Answers};
+ghost use Rattle.workshop.specs.Steps.{Runs, Steps, StepWrites};
+
+use crate::channel_line::channel_line;
+use crate::fault::WorkshopFault;
+use crate::inputs::read_inputs;
+use cpu::{Machine, NotBuilt, Output};
+use rope::Rope;
+use std::alloc::Global;
+use words::{Read, Write, WriteFailed, write_all};
+
+/// What a run has come to.
+#[derive(Clone, Copy, PartialEq, Eq, Debug, Drop)]
+pub struct Summary {
+    /// The steps that were made.
+    pub steps: u64,
+    /// The cycles that they took.
+    pub cycles: u64,
+    /// How many lines were written.
+    pub outputs: u64,
+}
+
+/// Assembles the source, reads the feed, and runs the program for some steps: the line of each output is written, as
+/// `7 CH 010 00012` with the cycles, the channel and the word.
+///
+/// The source and the feed have at most 8,388,608 bytes each, and the feed may have empty lines alone. The first fault of
+/// the source is answered, else that of the feed, and then nothing is written. `NotBuilt` is answered before a step that
+/// needs more than what is built, once the lines of the steps before it are written.
+pub fn run_engine<S: Read, F: Read, W: Write>(
+    alloc: Global,
+    source: &mut S,
+    feed: &mut F,
+    steps: u64,
+    out: &mut W,
+) -> Result<Summary, WorkshopFault>
+    requires { steps ≤ 2 ^ 40 - 2 }
+    ensures answer { S.told ≡ true → F.told ≡ true → W.told ≡ true →
+        Answers (record { source = S.left source.old; feed = F.left feed.old; steps = steps }) (W.written out.old) (W.written out.new) result }
+
+    // E6 only where a reader has failed, the feed's only once the source is assembled; E7 only where the writer has.
+    ensures readers { OneFails (has_read_failed result) (S.failures source.old) (S.failures source.new) (F.failures feed.old) (F.failures feed.new) }
+    ensures source_first { S.told ≡ true → IsErr (assembled (S.left source.old)) → F.failures feed.new ≡ F.failures feed.old }
+    ensures writer { W.failures out.new ≡ failures_if (has_write_failed result) (W.failures out.old) }
+
+    // No more is read than it takes to tell that there is too much.
+    ensures source_read { S.told ≡ true → TakesAtMost (most_read result) (S.left source.old) (S.left source.new) }
+    ensures feed_read { F.told ≡ true → TakesAtMost (most_read result) (F.left feed.old) (F.left feed.new) }
+{
+    match read_inputs(alloc, source, feed) {
+        Ok(program) => run(program.rope(), steps, out),
+        Err(fault) => Err(fault),
+    }
+}
+
+/// Makes some steps from the start, and writes the lines of what they put out.
+fn run<W: Write>(rope: &Rope, steps: u64, out: &mut W) -> Result<Summary, WorkshopFault>
+    requires { steps ≤ 2 ^ 40 - 2 }
+    ensures runs { W.told ≡ true → Runs (record { rope = rope.now }) steps (W.written out.old) (W.written out.new) result }
+    ensures failures { W.failures out.new ≡ failures_if (has_write_failed result) (W.failures out.old) }
+    ensures reader { has_read_failed result ≡ false }
+    ensures most { most_read result ≡ most_bytes }
+{
+    let mut machine = Machine::start();
+    let mut outputs = 0;
+    for _done in 0..steps {
+        match step_and_write(&mut machine, rope, out) {
+            Ok(count) => outputs += count,
+            Err(fault) => return Err(fault),
+        }
+    }
+    Ok(Summary {
+        steps,
+        cycles: machine.cycles(),
+        outputs,
+    })
+}
+
+/// Makes a step, writes the line of what it puts out, and answers how many lines that is.
+#[tactic(auto, using(crate::proofs::RunSteps::lines_of_none, crate::proofs::RunSteps::lines_of_one))]
+fn step_and_write<W: Write>(
+    machine: &mut Machine,
+    rope: &Rope,
+    out: &mut W,
+) -> Result<u64, WorkshopFault>
+    requires { machine.old.cycles ≤ 2 ^ 62 }
+    ensures steps { Steps (record { rope = rope.now }) machine.old machine.new result }
+    ensures written { W.told ≡ true → StepWrites (record { rope = rope.now }) machine.old (W.written out.old) (W.written out.new) result }
+    ensures at_most_one { IfOk result (λ count. count ≤ 1) }
+    ensures failures { W.failures out.new ≡ failures_if (has_write_failed result) (W.failures out.old) }
+    ensures reader { has_read_failed result ≡ false }
+    ensures most { most_read result ≡ most_bytes }
+{
+    match machine.step(rope) {
+        Ok(Some(output)) => match write_line(&output, out) {
+            Ok(()) => Ok(1),
+            Err(_) => Err(WorkshopFault::WriteFailed),
+        },
+        Ok(None) => Ok(0),
+        Err(NotBuilt) => Err(WorkshopFault::NotBuilt),
+    }
+}
+
+/// Writes the line of an output.
+fn write_line<W: Write>(output: &Output, out: &mut W) -> Result<(), WriteFailed>
+    ensures written { W.told ≡ true → Writes (W.written out.old) (W.written out.new) (channel_line output.now) result }
+    ensures failures { W.failures out.new ≡ failures_after (W.failures out.old) result }
+{
+    write_all(out, channel_line(output).as_slice())
+}

@@ -1,0 +1,133 @@
+//! What ends an engine early, and how it is told.
+
+ghost use Rattle.std.specs.Prelude.{◌≡◌, ◌≤◌, ◌+◌, ◌++◌, true, IfOk, IfErr};
+ghost use Rattle.arrayvec.specs.ArrayVec.{array_vec_len};
+ghost use Rattle.words.specs.Devices.{Writes, failures_after};
+ghost use Rattle.workshop.specs.Faults.{number_of, line_of, line_text, fault_text, status_of};
+
+use arrayvec::ArrayVec;
+use thiserror::Error;
+use words::{Write, push_all, push_decimal, write_all};
+use yayul::fault::{Fault, FaultKind};
+
+/// What is wrong with a feed.
+#[derive(Clone, Copy, PartialEq, Eq, Debug, Drop, Error)]
+pub enum FeedFault {
+    /// A line, counted from 1, has no form of a line, is too long or holds a byte that no line may hold.
+    #[error("E30 LINE {0}")]
+    BadLine(u32),
+}
+
+/// Why an engine has ended early.
+#[derive(Clone, Copy, PartialEq, Eq, Debug, Drop, Error)]
+pub enum WorkshopFault {
+    /// A growth of memory was refused.
+    #[error("E2")]
+    NoMemory,
+    /// A read failed.
+    #[error("E6")]
+    ReadFailed,
+    /// A write failed, or took none of some bytes.
+    #[error("E7")]
+    WriteFailed,
+    /// The source has a fault.
+    #[error("{0}")]
+    Source(Fault),
+    /// The feed has a fault.
+    #[error("{0}")]
+    Feed(FeedFault),
+    /// The source or the feed has more than 8,388,608 bytes.
+    #[error("E34")]
+    TooLong,
+    /// The next step needs more than what is built.
+    #[error("E53")]
+    NotBuilt,
+}
+
+impl WorkshopFault {
+    /// The number that the fault is told by.
+    fn number(&self) -> u8
+        ensures { result ≡ number_of self.now }
+    {
+        match self {
+            WorkshopFault::NoMemory => 2,
+            WorkshopFault::ReadFailed => 6,
+            WorkshopFault::WriteFailed => 7,
+            WorkshopFault::Source(fault) => fault.kind.number(),
+            WorkshopFault::Feed(FeedFault::BadLine(_)) => 30,
+            WorkshopFault::TooLong => 34,
+            WorkshopFault::NotBuilt => 53,
+        }
+    }
+
+    /// The line that it stands on, counted from 1, where it stands on one.
+    fn line(&self) -> Option<u32>
+        ensures { result ≡ line_of self.now }
+    {
+        match self {
+            WorkshopFault::Source(fault) if fault.line > 0 => Some(fault.line),
+            WorkshopFault::Feed(FeedFault::BadLine(line)) => Some(*line),
+            _ => None,
+        }
+    }
+
+    /// The exit status of a program that it ends: 1 for an input that is refused, 3 for a device or memory.
+    fn status(&self) -> u8
+        ensures { result ≡ status_of self.now }
+    {
+        match self {
+            WorkshopFault::NoMemory | WorkshopFault::ReadFailed | WorkshopFault::WriteFailed => 3,
+            WorkshopFault::Source(
+                Fault {
+                    kind: FaultKind::NoMemory,
+                    ..
+                },
+            ) => 3,
+            WorkshopFault::Source(_) | WorkshopFault::Feed(_) => 1,
+            WorkshopFault::TooLong | WorkshopFault::NotBuilt => 1,
+        }
+    }
+}
+
+/// The most bytes of a fault's line: `agcws: E`, a number of 8 bits, ` LINE `, a number of 32 bits and a line feed.
+const FAULT_LINE: usize = 64;
+
+type FaultLine = ArrayVec<u8, FAULT_LINE>;
+
+#[tactic(auto, using(words::proofs::Digits::short_decimal))]
+fn fault_line(fault: &WorkshopFault) -> FaultLine
+    ensures { result.items ≡ fault_text fault.now }
+{
+    let mut line = ArrayVec::new();
+    push_all(&mut line, b"agcws: E");
+    push_decimal(&mut line, u64::from(fault.number()));
+    push_line_number(&mut line, fault.line());
+    push_all(&mut line, b"\n");
+    line
+}
+
+#[tactic(auto, using(words::proofs::Digits::short_decimal))]
+fn push_line_number(line: &mut FaultLine, number: Option<u32>)
+    requires { array_vec_len line.old ≤ 30 }
+    ensures items { line.new.items ≡ line.old.items ++ line_text number }
+    ensures len { array_vec_len line.new ≤ array_vec_len line.old + 30 }
+{
+    if let Some(number) = number {
+        push_all(line, b" LINE ");
+        push_decimal(line, u64::from(number));
+    }
+}
+
+/// Writes a fault's line, as `agcws: E14 LINE 9`, and answers the exit status of a program that it ends: 1 for an input
+/// that is refused, 3 for a device or memory. It takes no memory.
+pub fn report<W: Write>(fault: &WorkshopFault, errors: &mut W) -> Result<u8, WorkshopFault>
+    ensures written { W.told ≡ true → Writes (W.written errors.old) (W.written errors.new) (fault_text fault.now) result }
+    ensures failures { W.failures errors.new ≡ failures_after (W.failures errors.old) result }
+    ensures status { IfOk result (λ status. status ≡ status_of fault.now) }
+    ensures fault { IfErr result (λ e. e ≡ WorkshopFault.WriteFailed) }
+{
+    match write_all(errors, fault_line(fault).as_slice()) {
+        Ok(()) => Ok(fault.status()),
+        Err(_) => Err(WorkshopFault::WriteFailed),
+    }
+}

@@ -1,0 +1,97 @@
+//! The source and the feed of an engine.
+
+ghost use Rattle.std.specs.Prelude.{◌≡◌, ◌≤◌, true, false, Ok, IfOk, IfErr, IsErr, length};
+ghost use Rattle.words.specs.Readings.{TakesAtMost};
+ghost use Rattle.workshop.specs.Inputs.{most_bytes, assembled, prepared, with_feed};
+ghost use Rattle.workshop.specs.Refusals.{Refuses, RefusesText};
+ghost use Rattle.yayul.specs.Program as spec;
+ghost use Rattle.workshop.specs.Failures.{has_read_failed, has_write_failed, failures_if, OneFails, most_read};
+
+use crate::fault::WorkshopFault;
+use crate::feed::first_fault;
+use std::alloc::Global;
+use words::{Read, ReadFault, read_text};
+use yayul::assemble;
+use yayul::fault::FaultKind;
+use yayul::program::Program;
+
+/// The most bytes of a source, and of a feed.
+const MOST_BYTES: usize = 8_388_608;
+
+/// Reads and assembles the source, and then reads the feed.
+#[tactic(auto, using(crate::proofs::Preparing::refuses_source))]
+pub(crate) fn read_inputs<S: Read, F: Read>(
+    alloc: Global,
+    source: &mut S,
+    feed: &mut F,
+) -> Result<Program, WorkshopFault>
+    ensures ok { S.told ≡ true → F.told ≡ true → IfOk result (λ p. prepared (S.left source.old) (F.left feed.old) ≡ Ok p) }
+    ensures fault { S.told ≡ true → F.told ≡ true → IfErr result (Refuses (prepared (S.left source.old) (F.left feed.old))) }
+    ensures readers { OneFails (has_read_failed result) (S.failures source.old) (S.failures source.new) (F.failures feed.old) (F.failures feed.new) }
+    ensures writer { has_write_failed result ≡ false }
+    ensures source_first { S.told ≡ true → IsErr (assembled (S.left source.old)) → F.failures feed.new ≡ F.failures feed.old }
+    ensures source_read { S.told ≡ true → TakesAtMost (most_read result) (S.left source.old) (S.left source.new) }
+    ensures feed_read { F.told ≡ true → TakesAtMost (most_read result) (F.left feed.old) (F.left feed.new) }
+{
+    match read_program(alloc, source) {
+        Ok(program) => match read_feed(alloc, feed) {
+            Ok(()) => Ok(program),
+            Err(fault) => Err(fault),
+        },
+        Err(fault) => Err(fault),
+    }
+}
+
+/// Reads the source whole, and assembles it.
+pub(crate) fn read_program<S: Read>(alloc: Global, source: &mut S) -> Result<Program, WorkshopFault>
+    ensures ok { S.told ≡ true → IfOk result (λ p. assembled (S.left source.old) ≡ Ok p) }
+    ensures fault { S.told ≡ true → IfErr result (Refuses (assembled (S.left source.old))) }
+    ensures writer { has_write_failed result ≡ false }
+    ensures failures { S.failures source.new ≡ failures_if (has_read_failed result) (S.failures source.old) }
+    ensures read { S.told ≡ true → TakesAtMost (most_read result) (S.left source.old) (S.left source.new) }
+{
+    let text = match read_whole(alloc, source) {
+        Ok(text) => text,
+        Err(fault) => return Err(fault),
+    };
+    match assemble(alloc, &text) {
+        Ok(program) => Ok(program),
+        Err(fault) if fault.kind == FaultKind::NoMemory => Err(WorkshopFault::NoMemory),
+        Err(fault) => Err(WorkshopFault::Source(fault)),
+    }
+}
+
+/// Reads the feed whole, and answers its first fault.
+pub(crate) fn read_feed<F: Read>(alloc: Global, feed: &mut F) -> Result<(), WorkshopFault>
+    ensures ok { F.told ≡ true → IfOk result (λ _. (p : spec.Program) → with_feed (F.left feed.old) (Ok p) ≡ Ok p) }
+    ensures fault { F.told ≡ true → IfErr result (λ fault. (p : spec.Program) → Refuses (with_feed (F.left feed.old) (Ok p)) fault) }
+    ensures writer { has_write_failed result ≡ false }
+    ensures failures { F.failures feed.new ≡ failures_if (has_read_failed result) (F.failures feed.old) }
+    ensures read { F.told ≡ true → TakesAtMost (most_read result) (F.left feed.old) (F.left feed.new) }
+{
+    let text = match read_whole(alloc, feed) {
+        Ok(text) => text,
+        Err(fault) => return Err(fault),
+    };
+    match first_fault(&text) {
+        None => Ok(()),
+        Some(fault) => Err(WorkshopFault::Feed(fault)),
+    }
+}
+
+/// Reads a text whole.
+fn read_whole<R: Read>(alloc: Global, reader: &mut R) -> Result<Vec<u8>, WorkshopFault>
+    ensures whole { R.told ≡ true → IfOk result (λ text. R.left reader.old ≡ text.items) }
+    ensures within { IfOk result (λ text. length text.items ≤ most_bytes) }
+    ensures fault { R.told ≡ true → IfErr result (RefusesText (R.left reader.old)) }
+    ensures writer { has_write_failed result ≡ false }
+    ensures failures { R.failures reader.new ≡ failures_if (has_read_failed result) (R.failures reader.old) }
+    ensures read { R.told ≡ true → TakesAtMost (most_read result) (R.left reader.old) (R.left reader.new) }
+{
+    match read_text(alloc, reader, MOST_BYTES) {
+        Ok(text) => Ok(text),
+        Err(ReadFault::NoMemory) => Err(WorkshopFault::NoMemory),
+        Err(ReadFault::ReadFailed) => Err(WorkshopFault::ReadFailed),
+        Err(ReadFault::TooLong) => Err(WorkshopFault::TooLong),
+    }
+}

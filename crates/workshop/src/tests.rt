@@ -1,0 +1,250 @@
+ghost use Rattle.std.specs.Prelude.{◌-◌, ◌≤◌, ◌^◌};
+
+use super::*;
+use std::alloc::Global;
+use words::Buffer;
+use words::faulty::{FaultyReader, FaultyWriter, Trouble};
+use yayul::fault::{Fault, FaultKind};
+
+const FIVE_PLUS_FIVE: &[u8] = b" SETLOC 4000
+ CA FIVE
+ AD FIVE
+ EXTEND
+ WRITE 10
+ TCF 4000
+FIVE OCT 5
+";
+
+const ONE_LINE: &[u8] = b"7 CH 010 00012\n";
+
+const MOST_BYTES: usize = 8_388_608;
+
+fn run(
+    alloc: Global,
+    source: &[u8],
+    feed: &[u8],
+    steps: u64,
+    out: &mut Buffer,
+) -> Result<Summary, WorkshopFault>
+    requires { steps ≤ 2 ^ 40 - 2 }
+{
+    let mut source = source;
+    let mut feed = feed;
+    run_engine(alloc, &mut source, &mut feed, steps, out)
+}
+
+fn source_fault(line: u32, kind: FaultKind) -> WorkshopFault {
+    WorkshopFault::Source(Fault { line, kind })
+}
+
+fn feed_fault(line: u32) -> WorkshopFault {
+    WorkshopFault::Feed(FeedFault::BadLine(line))
+}
+
+#[test]
+fn five_plus_five_writes_one_line(rt: HostRuntime) {
+    let mut out = Buffer::new(rt.alloc());
+    let summary = run(rt.alloc(), FIVE_PLUS_FIVE, b"", 4, &mut out);
+    assert_eq!(rt;
+        summary,
+        Ok(Summary {
+            steps: 4,
+            cycles: 7,
+            outputs: 1,
+        })
+    );
+    assert_eq!(rt; out.as_slice(), ONE_LINE);
+}
+
+#[test]
+fn no_steps_no_lines(rt: HostRuntime) {
+    let nothing = Summary {
+        steps: 0,
+        cycles: 0,
+        outputs: 0,
+    };
+    for source in [FIVE_PLUS_FIVE, b""] {
+        let mut out = Buffer::new(rt.alloc());
+        assert_eq!(rt; run(rt.alloc(), source, b"", 0, &mut out), Ok(nothing));
+        assert_eq!(rt; out.as_slice(), b"".as_slice());
+    }
+}
+
+#[test]
+fn five_thousand_steps_write_a_thousand_lines(rt: HostRuntime) {
+    let mut out = Buffer::new(rt.alloc());
+    let summary = run(rt.alloc(), FIVE_PLUS_FIVE, b"", 5000, &mut out);
+    assert_eq!(rt; summary.map(|s| (s.steps, s.outputs)), Ok((5000, 1000)));
+    let text = out.as_slice();
+    assert_eq!(rt; text.iter().filter(|byte| **byte == b'\n').count(), 1000);
+    assert!(rt; text.starts_with(ONE_LINE));
+    assert!(rt; text.ends_with(b"\n7999 CH 010 00012\n"));
+}
+
+#[test]
+fn first_faults_are_told(rt: HostRuntime) {
+    let rows: [(&[u8], &[u8], u64, WorkshopFault); 7] = [
+        (
+            b" SETLOC 4000\n CA NOSUCH\n",
+            b"",
+            1,
+            source_fault(2, FaultKind::Undefined),
+        ),
+        (
+            b" SETLOC 4000\n DAS 100\n",
+            b"",
+            1,
+            source_fault(2, FaultKind::UnknownOperator),
+        ),
+        (
+            b" SETLOC 4000\n DAS 100\n",
+            b"0 RUPT 1\n",
+            1,
+            source_fault(2, FaultKind::UnknownOperator),
+        ),
+        (b"", b"", 1, WorkshopFault::NotBuilt),
+        (b"", b"0 RUPT 1\n", 1, feed_fault(1)),
+        (
+            b"",
+            b"\n# nothing\n \t \n0 RUPT 1 # one\n\n",
+            0,
+            feed_fault(4),
+        ),
+        (b"", b"#\x7f", 0, feed_fault(1)),
+    ];
+    for (source, feed, steps, fault) in rows {
+        let mut out = Buffer::new(rt.alloc());
+        if steps <= 1 {
+            assert_eq!(rt; run(rt.alloc(), source, feed, steps, &mut out), Err(fault));
+        }
+        assert_eq!(rt; out.as_slice(), b"".as_slice());
+    }
+}
+
+#[test]
+fn empty_lines_of_feeds_give_nothing(rt: HostRuntime) {
+    let longest = [b'#'; 120];
+    let longer = [b' '; 121];
+    let mut out = Buffer::new(rt.alloc());
+    assert!(rt; run(rt.alloc(), b"", b"\n\n# 0 RUPT 1\n\t#~ \n", 0, &mut out).is_ok());
+    assert!(rt; run(rt.alloc(), b"", &longest, 0, &mut out).is_ok());
+    assert_eq!(rt;
+        run(rt.alloc(), b"", &longer, 0, &mut out),
+        Err(feed_fault(1))
+    );
+}
+
+#[test]
+fn long_texts_are_refused(rt: HostRuntime) {
+    let lines = vec![in rt.alloc(); b'\n'; MOST_BYTES + 1]?;
+    let most = &lines.as_slice()[..MOST_BYTES];
+    let mut out = Buffer::new(rt.alloc());
+    assert_eq!(rt;
+        run(rt.alloc(), &lines, b"", 0, &mut out),
+        Err(WorkshopFault::TooLong)
+    );
+    assert_eq!(rt;
+        run(rt.alloc(), b"", &lines, 0, &mut out),
+        Err(WorkshopFault::TooLong)
+    );
+    assert_eq!(rt;
+        run(rt.alloc(), most, b"", 0, &mut out),
+        Err(source_fault(65_537, FaultKind::TooManyLines))
+    );
+    assert!(rt; run(rt.alloc(), b"", most, 0, &mut out).is_ok());
+}
+
+#[test]
+fn writers_in_trouble(rt: HostRuntime) {
+    for trouble in [Trouble::Fails, Trouble::TakesNothing] {
+        for place in 0..ONE_LINE.len() {
+            let mut source = FIVE_PLUS_FIVE;
+            let mut feed: &[u8] = b"";
+            let mut out = FaultyWriter::new(rt.alloc(), Some(place), trouble);
+            assert_eq!(rt;
+                run_engine(rt.alloc(), &mut source, &mut feed, 9, &mut out),
+                Err(WorkshopFault::WriteFailed)
+            );
+            assert_eq!(rt; out.as_slice(), &ONE_LINE[..place]);
+        }
+    }
+}
+
+#[test]
+fn readers_in_trouble(rt: HostRuntime) {
+    let mut out = Buffer::new(rt.alloc());
+    for place in 0..FIVE_PLUS_FIVE.len() {
+        let mut source = FaultyReader::new(FIVE_PLUS_FIVE, Some(place));
+        let mut feed: &[u8] = b"";
+        assert_eq!(rt;
+            run_engine(rt.alloc(), &mut source, &mut feed, 4, &mut out),
+            Err(WorkshopFault::ReadFailed)
+        );
+    }
+    let mut source = FIVE_PLUS_FIVE;
+    let mut feed = FaultyReader::new(b"0 RUPT 1\n", Some(3));
+    assert_eq!(rt;
+        run_engine(rt.alloc(), &mut source, &mut feed, 4, &mut out),
+        Err(WorkshopFault::ReadFailed)
+    );
+    assert_eq!(rt; out.as_slice(), b"".as_slice());
+}
+
+#[test]
+fn source_is_told_before_the_feed_is_read(rt: HostRuntime) {
+    let mut out = Buffer::new(rt.alloc());
+    let mut source: &[u8] = b" SETLOC 4000\n DAS 100\n";
+    let mut feed = FaultyReader::new(b"", Some(0));
+    assert_eq!(rt;
+        run_engine(rt.alloc(), &mut source, &mut feed, 4, &mut out),
+        Err(source_fault(2, FaultKind::UnknownOperator))
+    );
+}
+
+#[test]
+fn always_out_of_memory(rt: HostRuntime) {
+    let mut out = Buffer::new(rt.alloc());
+    assert!(rt; run(rt.alloc(), FIVE_PLUS_FIVE, b"\n", 4, &mut out).is_ok());
+}
+
+#[test]
+fn faults_are_reported(rt: HostRuntime) {
+    let rows: [(WorkshopFault, &[u8], u8); 9] = [
+        (WorkshopFault::NoMemory, b"agcws: E2\n", 3),
+        (WorkshopFault::ReadFailed, b"agcws: E6\n", 3),
+        (WorkshopFault::WriteFailed, b"agcws: E7\n", 3),
+        (
+            source_fault(1, FaultKind::NotAscii),
+            b"agcws: E10 LINE 1\n",
+            1,
+        ),
+        (
+            source_fault(9, FaultKind::TwiceDefined),
+            b"agcws: E14 LINE 9\n",
+            1,
+        ),
+        (
+            source_fault(65_536, FaultKind::OutOfRange),
+            b"agcws: E26 LINE 65536\n",
+            1,
+        ),
+        (
+            feed_fault(4_294_967_295),
+            b"agcws: E30 LINE 4294967295\n",
+            1,
+        ),
+        (WorkshopFault::TooLong, b"agcws: E34\n", 1),
+        (WorkshopFault::NotBuilt, b"agcws: E53\n", 1),
+    ];
+    for (fault, text, status) in rows {
+        let mut errors = Buffer::new(rt.alloc());
+        assert_eq!(rt; report(&fault, &mut errors), Ok(status));
+        assert_eq!(rt; errors.as_slice(), text);
+        let mut broken = FaultyWriter::new(rt.alloc(), Some(8), Trouble::TakesNothing);
+        assert_eq!(rt;
+            report(&fault, &mut broken),
+            Err(WorkshopFault::WriteFailed)
+        );
+        assert_eq!(rt; broken.as_slice(), &text[..8]);
+    }
+}

@@ -1,0 +1,10 @@
+mod Codes
+mod Fields
+mod Names
+mod Rows
+mod Least
+mod Lines
+mod Tables
+mod Taken
+mod Asked
+mod Completed

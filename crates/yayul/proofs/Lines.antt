@@ -1,0 +1,86 @@
+-- The layout faults of lines in order.
+use Rattle.std.proofs.Common.{◌≡◌, ◌≢◌, ℕ, ◌+◌, ◌≤◌, Bool, true, false, not, nat_lt, ◌==◌, length, List, [], ◌∷◌, ◌++◌, Some, None, Result, Ok, Err, refl, ap, sym, ◌∙◌, arith}
+use Rattle.std.specs.List.{list_all}
+use Rattle.std.proofs.lemmas.Bool.{eq-eqb}
+use Rattle.yayul.specs.Faults.{least_kind, least, on_line, standing, fault_if}
+use Rattle.yayul.specs.declared.fault.FaultKind.TheVariants.{NoMemory, NotAscii, LongLine, TooManyLines}
+use Rattle.yayul.specs.declared.fault.Fault.{Fault}
+use Rattle.yayul.specs.Laying.{IsTold}
+use Rattle.yayul.specs.Passes.{Takes, TakesLine}
+use Rattle.yayul.specs.Statements.{statement_of}
+use Rattle.yayul.specs.declared.statement.Statement.{Statement}
+use Rattle.yayul.specs.Layout.{Layout, LineEffect, or_else, is_allowed, line_length, line_count, text_faults, statement_effect, line_faults, line_effect, after_effect, layout_after, layout_faults}
+use Rattle.yayul.specs.declared.fault.FaultKind.{FaultKind}
+use Rattle.yayul.proofs.Least.{StandFrom, StandFrom-append, StandFrom-later, StandFrom-on_line, least_here, least-or_else, or_else-none}
+
+pub layout_faults-from : (line : ℕ) (s : Layout) (texts : List (List ℕ)) → StandFrom line (layout_faults line s texts)
+layout_faults-from line s [] = tt
+layout_faults-from line s (text ∷ texts) =
+    StandFrom-append line (on_line line (line_faults line s text)) (layout_faults (line + 1) (after_effect s (line_effect line s text)) texts)
+    (StandFrom-on_line line line (line_faults line s text) (omega arith))
+    (StandFrom-later line (line + 1) (layout_faults (line + 1) (after_effect s (line_effect line s text)) texts) (omega arith)
+    (layout_faults-from (line + 1) (after_effect s (line_effect line s text)) texts))
+
+-- a line without a fault is passed over
+pub faultless_line : (line : ℕ) (s : Layout) (text : List ℕ) (texts : List (List ℕ)) → line_faults line s text ≡ []
+    → layout_faults line s (text ∷ texts) ≡ layout_faults (line + 1) (after_effect s (line_effect line s text)) texts
+faultless_line line s text texts e =
+    ap (λ ks. on_line line ks ++ layout_faults (line + 1) (after_effect s (line_effect line s text)) texts) e
+
+-- a line with a fault has the least
+pub faulty_line : (line : ℕ) (s : Layout) (text : List ℕ) (texts : List (List ℕ)) (k : FaultKind) → least_kind (line_faults line s text) ≡ Some k
+    → least (layout_faults line s (text ∷ texts)) ≡ Some (record { line = line; kind = k })
+faulty_line line s text texts k e =
+    least_here line (line_faults line s text) k (layout_faults (line + 1) (after_effect s (line_effect line s text)) texts) e
+    (layout_faults-from (line + 1) (after_effect s (line_effect line s text)) texts)
+
+-- a fault of a line's bytes, length or number is told
+pub line_told : (line : ℕ) (s : Layout) (text : List ℕ) (k : FaultKind) → least_kind (text_faults line text) ≡ Some k → least_kind (line_faults line s text) ≡ Some k
+line_told line s text k e = least-or_else (text_faults line text) (line_effect line s text).faults k e
+
+-- a line without such a fault does what it says
+pub line_takes : (line : ℕ) (s : Layout) (text : List ℕ) (said : Statement) (t : Layout) (r : Result (Unit {0}) FaultKind) → least_kind (text_faults line text) ≡ None → said ≡ statement_of text
+    → Takes s (statement_effect line s said.label said.operation) t r → TakesLine line s text t r
+unfolding line_effect
+line_takes line s text said t (Ok x) none e p =
+    let q : Takes s (line_effect line s text) t (Ok x) = rw e at p in
+    (or_else-none (text_faults line text) (line_effect line s text).faults none ∙ q.0, q.1)
+line_takes line s text said t (Err kind) none e p =
+    let q : Takes s (line_effect line s text) t (Err kind) = rw e at p in
+    λ known. ap least_kind (or_else-none (text_faults line text) (line_effect line s text).faults none) ∙ q known
+
+-- where the third of three faults stands, there are some
+third : (a b c : Bool) (others : List FaultKind) → c ≡ true → or_else (standing (fault_if a NotAscii ∷ fault_if b LongLine ∷ fault_if c TooManyLines ∷ [])) others ≡ [] → ⊥
+third true b c others e h = cc
+third false true c others e h = cc
+third false false true others e h = cc
+third false false false others e h = cc
+
+-- a line without a fault is none after the last
+pub few_lines : (line : ℕ) (s : Layout) (text : List ℕ) → line_faults line s text ≡ [] → line ≢ 65537
+few_lines line s text e same =
+    third (not (list_all is_allowed text)) (nat_lt line_length (length text)) (line == line_count + 1) (line_effect line s text).faults (eq-eqb line 65537 same) e
+
+-- a faultless line before others
+pub faults_passed : (line : ℕ) (s t : Layout) (text : List ℕ) (here after : List (List ℕ)) → here ≡ text ∷ after → line_faults line s text ≡ []
+    → t ≡ after_effect s (line_effect line s text) → layout_faults line s here ≡ layout_faults (line + 1) t after
+faults_passed line s t text here after e none next =
+    ap (layout_faults line s) e ∙ faultless_line line s text after none ∙ ap (λ u. layout_faults (line + 1) u after) (sym next)
+
+pub layout_passed : (line : ℕ) (s t : Layout) (text : List ℕ) (here after : List (List ℕ)) → here ≡ text ∷ after
+    → t ≡ after_effect s (line_effect line s text) → layout_after line s here ≡ layout_after (line + 1) t after
+layout_passed line s t text here after e next =
+    ap (layout_after line s) e ∙ ap (λ u. layout_after (line + 1) u after) (sym next)
+
+-- a refused line refuses the source
+pub told_on : (all : List Fault) (line : ℕ) (s : Layout) (text : List ℕ) (here after : List (List ℕ)) (kind : FaultKind) (fault : Fault) → all ≡ layout_faults line s here
+    → here ≡ text ∷ after → (kind ≢ NoMemory → least_kind (line_faults line s text) ≡ Some kind)
+    → fault.kind ≡ kind → (kind ≢ NoMemory → fault.line ≡ line) → (kind ≡ NoMemory → fault.line ≡ 0) → IsTold (least all) fault
+told_on all line s text here after kind fault same e told same_kind same_line no_line = record {
+  told = λ known.
+      let known_kind : kind ≢ NoMemory = λ bad. known (same_kind ∙ bad) in
+      let is : record { line = line; kind = kind } ≡ fault =
+      ap (λ (n : ℕ). record { line = n; kind = kind }) (sym (same_line known_kind)) ∙ ap (λ (k : FaultKind). record { line = fault.line; kind = k }) (sym same_kind) in
+      ap least same ∙ ap (λ texts. least (layout_faults line s texts)) e ∙ faulty_line line s text after kind (told known_kind) ∙ ap (λ f. Some f) is;
+  unknown = λ bad. no_line (sym same_kind ∙ bad);
+}

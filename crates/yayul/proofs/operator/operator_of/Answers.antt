@@ -1,0 +1,14 @@
+use Rattle.std.proofs.Common.{◌≡◌}
+use Rattle.yayul.specs.Operators.{operators}
+use Rattle.yayul.specs.Tables.{value_in}
+use Rattle.yayul.proofs.Codes.{operators_fit}
+use Rattle.yayul.proofs.operator.operator_of.Goals as goal
+
+pub returns-clause-value : goal.returns-clause-value
+unfolding operators
+returns-clause-value c = c.find_operator.ensures
+
+pub returns-clause-fits : goal.returns-clause-fits
+returns-clause-fits c =
+    let found : c.find_operator.result ≡ value_in operators c.args.name.now = returns-clause-value c in
+    rw found (operators_fit c.args.name.now)

@@ -1,0 +1,81 @@
+//! Instructions whose words have 15 bits.
+
+ghost use Rattle.std.specs.Prelude.{◌≡◌, ◌≤◌};
+ghost use Rattle.yayul.specs.Codes.{greatest_code, greatest_least};
+
+use crate::operator::{AddressedCode, PlainCode};
+use std::marker::Model;
+
+/// An instruction without an operand, whose code has 15 bits.
+#[derive(Clone, Copy, Drop)]
+pub struct PlainInstruction {
+    code: PlainCode,
+}
+
+impl Model for PlainInstruction {
+    ghost use Rattle.std.specs.Prelude.{◌≤◌};
+    ghost use Rattle.yayul.specs.Codes.{greatest_code};
+    ghost use Rattle.yayul.specs.declared.operator.PlainCode.{PlainCode as Code};
+
+    ghost Value = { Code };
+
+    ghost view = { λ i. i.code };
+
+    ghost invariant = { λ i. i.code.code ≤ greatest_code };
+
+    ghost inverse = { λ c. record { code = c } };
+}
+
+impl PlainInstruction {
+    pub(crate) fn new(code: PlainCode) -> PlainInstruction
+        requires { code.code ≤ greatest_code }
+        ensures { result ≡ code }
+    {
+        PlainInstruction { code }
+    }
+
+    /// Its code.
+    pub fn code(self) -> PlainCode
+        ensures value { result ≡ self }
+        ensures fits { result.code ≤ greatest_code }
+    {
+        self.code
+    }
+}
+
+/// An instruction with an operand, whose code has 15 bits with any address of 12 bits added.
+#[derive(Clone, Copy, Drop)]
+pub struct AddressedInstruction {
+    code: AddressedCode,
+}
+
+impl Model for AddressedInstruction {
+    ghost use Rattle.std.specs.Prelude.{◌≤◌};
+    ghost use Rattle.yayul.specs.Codes.{greatest_least};
+    ghost use Rattle.yayul.specs.declared.operator.AddressedCode.{AddressedCode as Code};
+
+    ghost Value = { Code };
+
+    ghost view = { λ i. i.code };
+
+    ghost invariant = { λ i. i.code.least ≤ greatest_least };
+
+    ghost inverse = { λ c. record { code = c } };
+}
+
+impl AddressedInstruction {
+    pub(crate) fn new(code: AddressedCode) -> AddressedInstruction
+        requires { code.least ≤ greatest_least }
+        ensures { result ≡ code }
+    {
+        AddressedInstruction { code }
+    }
+
+    /// Its code.
+    pub fn code(self) -> AddressedCode
+        ensures value { result ≡ self }
+        ensures fits { result.least ≤ greatest_least }
+    {
+        self.code
+    }
+}

@@ -1,0 +1,66 @@
+//! Symbols' names.
+
+ghost use Rattle.std.specs.Prelude.{◌≡◌, ◌==◌, ◌≤◌, length, if◌then◌else◌, Some, None};
+ghost use Rattle.std.specs.List.{list_any};
+ghost use Rattle.yayul.specs.Names.{is_name, dollar_sign};
+
+use crate::number::{begins_with_sign, is_digits};
+use crate::symbols::key_of;
+use arrayvec::ArrayVec;
+use std::marker::Model;
+
+/// The most characters of a name.
+pub const NAME_LENGTH: usize = 8;
+
+/// The name of a symbol: 1 to 8 characters in the form of a label.
+#[derive(Drop)]
+pub struct Name {
+    bytes: ArrayVec<u8, NAME_LENGTH>,
+}
+
+impl Model for Name {
+    ghost use Rattle.std.specs.Prelude.{List, ℕ};
+
+    ghost Value = { List ℕ };
+
+    ghost view = { λ n. n.bytes.items };
+}
+
+impl Name {
+    /// The name of these characters, where they have the form of one.
+    pub fn of(text: &[u8]) -> Option<Name>
+        ensures { result ≡ (if is_name text.now then Some text.now else None) }
+    {
+        if is_name(text) {
+            Some(Name {
+                bytes: key_of(text),
+            })
+        } else {
+            None
+        }
+    }
+
+    /// Its characters.
+    pub fn as_slice(&self) -> &[u8]
+        ensures value { result.now ≡ self.now }
+        ensures fits { length result.now ≤ NAME_LENGTH }
+    {
+        self.bytes.as_slice()
+    }
+}
+
+fn is_name(text: &[u8]) -> bool
+    ensures { result ≡ is_name text.now }
+{
+    !text.is_empty()
+        && text.len() <= NAME_LENGTH
+        && !holds_dollar_sign(text)
+        && !begins_with_sign(text)
+        && !is_digits(text)
+}
+
+fn holds_dollar_sign(text: &[u8]) -> bool
+    ensures { result ≡ list_any (λ byte. byte == dollar_sign) text.now }
+{
+    text.iter().any(|byte| *byte == b'$')
+}

@@ -1,0 +1,139 @@
+//! What a symbol or an operand stands for.
+
+ghost use Rattle.std.specs.Prelude.{◌≡◌, ◌≤◌, IfSome};
+ghost use Rattle.std.specs.Result.{result_map_both};
+ghost use Rattle.yayul.specs.Layout.{value_here, location_at};
+ghost use Rattle.yayul.specs.Operands.{moved, moved_value, term_value, value_of};
+ghost use Rattle.yayul.specs.Sound.{IsLocation};
+ghost use Rattle.yayul.specs.Values.{value_at};
+
+use crate::bank::FixedBank;
+use crate::fault::FaultKind;
+use crate::layout::Location;
+use crate::operand::{Operand, Shift, Term};
+use crate::symbols::Symbols;
+use space::numbers::{Eras, Offset};
+use words::Word;
+
+/// What a symbol or an operand stands for.
+#[derive(Clone, Copy, Drop)]
+pub enum Value {
+    /// A number, 0 to 077777.
+    Num(Word),
+    /// An erasable place.
+    Erasable(Eras),
+    /// A fixed place.
+    Fixed(FixedBank, Offset),
+}
+
+// A number of a value's kind, which may be past the last that the kind has.
+#[derive(Clone, Copy, Drop)]
+enum Point {
+    Num(u16),
+    Erasable(u16),
+    Fixed(FixedBank, u16),
+}
+
+impl Point {
+    fn of_value(value: Value) -> Point
+        ensures { value_at result ≡ value }
+    {
+        match value {
+            Value::Num(number) => Point::Num(number.to_u16()),
+            Value::Erasable(place) => Point::Erasable(place.number()),
+            Value::Fixed(bank, offset) => Point::Fixed(bank, offset.number()),
+        }
+    }
+
+    fn of_location(location: Location) -> Point
+        ensures { value_at result ≡ value_here location }
+    {
+        match location {
+            Location::Erasable(number) => Point::Erasable(number),
+            Location::Fixed(bank, number) => Point::Fixed(bank, number),
+        }
+    }
+
+    // The value so many on or back, of the same kind and in the same bank.
+    fn moved(self, shift: Shift) -> Option<Value>
+        ensures { result ≡ moved_value (value_at self) shift }
+    {
+        match self {
+            Point::Num(number) => {
+                let number = moved(0o77777, number, shift)?;
+                Some(Value::Num(Word::of_low_bits(number)))
+            }
+            Point::Erasable(number) => {
+                let place = Eras::try_new(moved(0o3777, number, shift)?)?;
+                Some(Value::Erasable(place))
+            }
+            Point::Fixed(bank, number) => {
+                let offset = Offset::try_new(moved(0o1777, number, shift)?)?;
+                Some(Value::Fixed(bank, offset))
+            }
+        }
+    }
+}
+
+// The value of an operand of a line that stands at a location. A symbol that is not in the table is
+// told as `missing`.
+pub(crate) fn value_of(
+    missing: FaultKind,
+    symbols: &Symbols,
+    here: Location,
+    operand: &Operand,
+) -> Result<Value, FaultKind>
+    ensures { result ≡ value_of missing symbols.now (value_here here) operand.now }
+{
+    let point = term_value(missing, symbols, here, &operand.term)?;
+    point.moved(operand.shift).ok_or(FaultKind::OutOfRange)
+}
+
+// The place of a value as a location. A number is one of erasable memory, of bank 2 or of bank 3.
+pub(crate) fn location_at(value: Value) -> Option<Location>
+    ensures value { result ≡ location_at value }
+    ensures located { IfSome result IsLocation }
+{
+    match value {
+        Value::Num(number) => match number.to_u16() {
+            n @ 0..0o4000 => Some(Location::Erasable(n)),
+            n @ 0o4000..0o6000 => Some(Location::Fixed(FixedBank::try_new(2)?, n - 0o4000)),
+            n @ 0o6000..0o10000 => Some(Location::Fixed(FixedBank::try_new(3)?, n - 0o6000)),
+            _ => None,
+        },
+        Value::Erasable(place) => Some(Location::Erasable(place.number())),
+        Value::Fixed(bank, offset) => Some(Location::Fixed(bank, offset.number())),
+    }
+}
+
+fn term_value(
+    missing: FaultKind,
+    symbols: &Symbols,
+    here: Location,
+    term: &Term,
+) -> Result<Point, FaultKind>
+    ensures { result_map_both value_at (λ fault. fault) result ≡ term_value missing symbols.now (value_here here) term.now }
+{
+    match term {
+        Term::Number(Some(number)) => Ok(Point::of_value(Value::Num(*number))),
+        Term::Number(None) => Err(FaultKind::OutOfRange),
+        Term::Named(name) => match symbols.symbol(name.as_slice()) {
+            Some(value) => Ok(Point::of_value(value)),
+            None => Err(missing),
+        },
+        Term::Here => Ok(Point::of_location(here)),
+    }
+}
+
+// A number so many on or back, where that is at least 0 and at most `most`.
+fn moved(most: u16, number: u16, shift: Shift) -> Option<u16>
+    ensures value { result ≡ moved most number shift }
+    ensures within { IfSome result (λ moved. moved ≤ most) }
+{
+    let moved = match shift {
+        Shift::On(Some(count)) => number.checked_add(count.to_u16())?,
+        Shift::Back(Some(count)) => number.checked_sub(count.to_u16())?,
+        Shift::On(None) | Shift::Back(None) => return None,
+    };
+    if moved <= most { Some(moved) } else { None }
+}
