@@ -1,7 +1,7 @@
 ghost use Rattle.std.specs.Prelude.{◌-◌, ◌≤◌, ◌^◌};
 
 use super::*;
-use std::alloc::Global;
+use std::alloc::{AllocError, Global};
 use words::Buffer;
 use words::faulty::{FaultyReader, FaultyWriter, Trouble};
 use yayul::fault::{Fault, FaultKind};
@@ -134,24 +134,28 @@ fn empty_lines_of_feeds_give_nothing(rt: HostRuntime) {
     );
 }
 
+fn line_feeds(alloc: Global, count: usize) -> Result<Vec<u8>, AllocError> {
+    vec![in alloc; b'\n'; count]
+}
+
 #[test]
 fn long_texts_are_refused(rt: HostRuntime) {
-    let lines = vec![in rt.alloc(); b'\n'; MOST_BYTES + 1]?;
-    let most = &lines.as_slice()[..MOST_BYTES];
+    let longest = line_feeds(rt.alloc(), MOST_BYTES).expect(&rt, "memory");
+    let longer = line_feeds(rt.alloc(), MOST_BYTES + 1).expect(&rt, "memory");
     let mut out = Buffer::new(rt.alloc());
     assert_eq!(rt;
-        run(rt.alloc(), &lines, b"", 0, &mut out),
+        run(rt.alloc(), &longer, b"", 0, &mut out),
         Err(WorkshopFault::TooLong)
     );
     assert_eq!(rt;
-        run(rt.alloc(), b"", &lines, 0, &mut out),
+        run(rt.alloc(), b"", &longer, 0, &mut out),
         Err(WorkshopFault::TooLong)
     );
     assert_eq!(rt;
-        run(rt.alloc(), most, b"", 0, &mut out),
+        run(rt.alloc(), &longest, b"", 0, &mut out),
         Err(source_fault(65_537, FaultKind::TooManyLines))
     );
-    assert!(rt; run(rt.alloc(), b"", most, 0, &mut out).is_ok());
+    assert!(rt; run(rt.alloc(), b"", &longest, 0, &mut out).is_ok());
 }
 
 #[test]
