@@ -2,4 +2,5 @@ pub mod Bytes
 pub mod Digits
 pub mod Fields
 pub mod Lines
+pub mod Tables
 pub mod Views

@@ -8,7 +8,9 @@ mod fields;
 mod lines;
 #[cfg(test)]
 mod tests;
+mod text;
 
 pub use digits::{Number, decimal, decimal_value, octal, octal_value};
 pub use fields::{Field, Line, next_field};
 pub use lines::next_line;
+pub use text::{LINE_LENGTH, is_text};

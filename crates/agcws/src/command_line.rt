@@ -3,11 +3,17 @@
 use clap::{Arg, Command, value_parser};
 use std::alloc::{AllocError, Global};
 
+/// The name of the subcommand that assembles a program.
+pub const ASM: &str = "asm";
+
 /// The name of the subcommand that runs a program.
 pub const RUN: &str = "run";
 
 /// The argument that names the source.
 pub const SOURCE: &str = "SRC";
+
+/// The argument that names the file of the rope image.
+pub const ROPE: &str = "ROPE";
 
 /// The argument that names the feed.
 pub const FEED: &str = "FEED";
@@ -18,12 +24,34 @@ pub const STEPS: &str = "N";
 /// The most steps of a run.
 pub const MOST_STEPS: u64 = 1_099_511_627_774;
 
-const FILES: &str = "Files:
+const ASM_HELP: &str = "Files:
   SRC   a source in the assembler's language, at most 65536 lines of at most
         120 bytes. A label begins at the first byte of its line; operator,
         operand and offset follow, and # begins a comment.
-  FEED  the inputs of the run, one line each. So far a feed may hold only
-        blank lines and comments.
+  ROPE  the rope image, 73728 bytes: banks 2, 3, 0, 1, 4 to 43 (octal), each
+        of 1024 words, each word as two bytes, high byte first, of twice the
+        word. It is made at the first write: a refused source leaves none.
+
+Output: the listing, a row for each line of the source with its number, its
+place and its word in octal, and then the symbols.
+
+Exit status:
+  0  done
+  1  the source is refused
+  2  the command line is wrong
+  3  a file, a device or memory failed
+Status 1 and 3 print one line to standard error, as agcws: E14 LINE 9.";
+
+const RUN_HELP: &str = "Files:
+  SRC   a source in the assembler's language, at most 65536 lines of at most
+        120 bytes. A label begins at the first byte of its line; operator,
+        operand and offset follow, and # begins a comment.
+  FEED  the timed inputs of the run, at most 65536, one a line, whose cycles
+        do not fall; blank lines and comments after # are passed over:
+          CYCLE CHAN CHANNEL WORD     a word on an input channel, in octal
+          CYCLE RUPT K                interrupt K is asked for, 1 to 10
+          CYCLE COUNTER SEQUENCE      a pulse, as 100 TIME3 PINC
+        CYCLE and K are decimal.
   Both are ASCII text of at most 8388608 bytes.
 
 Output: one line for each word written to a channel, as
@@ -32,16 +60,46 @@ with the cycles in decimal, and the channel and the word in octal.
 
 Exit status:
   0  done
-  1  the source or the feed is refused, or a step is not built yet
+  1  the source or the feed is refused
   2  the command line is wrong
   3  a file, a device or memory failed
 Status 1 and 3 print one line to standard error, as agcws: E14 LINE 9.";
 
 /// The programs and their arguments.
 pub fn command<'a>(alloc: Global) -> Result<Command<'a>, AllocError> {
-    let run = Command::new(alloc, RUN)
+    Command::new(alloc, "agcws")
+        .about("Assembles and runs programs for the Apollo Guidance Computer")
+        .after_help(
+            "See agcws asm --help and agcws run --help for the files and the exit statuses.",
+        )
+        .subcommand_required(true)
+        .disable_help_subcommand(true)
+        .subcommand(asm_command(alloc)?)?
+        .subcommand(run_command(alloc)?)
+}
+
+/// `agcws asm SRC ROPE`.
+fn asm_command<'a>(alloc: Global) -> Result<Command<'a>, AllocError> {
+    Command::new(alloc, ASM)
+        .about("Assembles a source to a rope image and a listing")
+        .after_help(ASM_HELP)
+        .arg(
+            Arg::new(alloc, SOURCE)
+                .required(true)
+                .help("The source, a file"),
+        )?
+        .arg(
+            Arg::new(alloc, ROPE)
+                .required(true)
+                .help("The rope image, a file that is made or written over"),
+        )
+}
+
+/// `agcws run SRC FEED N`.
+fn run_command<'a>(alloc: Global) -> Result<Command<'a>, AllocError> {
+    Command::new(alloc, RUN)
         .about("Writes what a program puts out on channels in some steps")
-        .after_help(FILES)
+        .after_help(RUN_HELP)
         .arg(
             Arg::new(alloc, SOURCE)
                 .required(true)
@@ -57,11 +115,5 @@ pub fn command<'a>(alloc: Global) -> Result<Command<'a>, AllocError> {
                 .required(true)
                 .value_parser(value_parser!(u64).range(0..=MOST_STEPS as i64))
                 .help("How many steps, 0 to 1099511627774"),
-        )?;
-    Command::new(alloc, "agcws")
-        .about("Assembles and runs programs for the Apollo Guidance Computer")
-        .after_help("See agcws run --help for the files and the exit statuses.")
-        .subcommand_required(true)
-        .disable_help_subcommand(true)
-        .subcommand(run)
+        )
 }

@@ -2,18 +2,20 @@
 #![tactic(auto)]
 
 mod command_line;
+mod lazy_file;
 
 use clap::ArgMatches;
 use clap::error::ErrorKind;
-use command_line::{FEED, MOST_STEPS, RUN, SOURCE, STEPS, command};
+use command_line::{ASM, FEED, MOST_STEPS, ROPE, RUN, SOURCE, STEPS, command};
+use lazy_file::LazyFile;
 use std::alloc::AllocError;
 use std::io::BufWriter;
 use std::process::ExitCode;
 use std::{env, fs, io};
 use words::{Std, write_all};
-use workshop::{WorkshopFault, report, run_engine};
+use workshop::{WorkshopFault, asm_engine, report, run_engine};
 
-/// The exit status of a run that is done.
+/// The exit status where all is done.
 const DONE: u8 = 0;
 
 /// The exit status where the arguments are wrong.
@@ -44,6 +46,7 @@ fn perform(rt: &HostRuntime) -> Result<u8, WorkshopFault> {
     let command = command(rt.alloc()).map_err(no_memory)?;
     match command.try_get_matches_from(words.as_slice()) {
         Ok(matches) => match matches.subcommand() {
+            Some((ASM, matches)) => asm(rt, matches),
             Some((RUN, matches)) => run(rt, matches),
             _ => Ok(WRONG_ARGUMENTS),
         },
@@ -71,6 +74,22 @@ fn refuse_arguments(rt: &HostRuntime) -> Result<u8, WorkshopFault> {
     }
 }
 
+/// `agcws asm SRC ROPE`. The file ROPE is made at the first write, so that a refused source leaves none.
+fn asm(rt: &HostRuntime, matches: &ArgMatches<'_>) -> Result<u8, WorkshopFault> {
+    let (Some(source), Some(rope)) = (matches.get_str(SOURCE), matches.get_str(ROPE)) else {
+        return Ok(WRONG_ARGUMENTS);
+    };
+    let mut source = Std::new(fs::open(rt, source).map_err(not_opened)?);
+    let mut image = Std::new(LazyFile::new(rt, rope));
+    let buffered = BufWriter::new(rt.alloc(), io::writer(rt)).map_err(not_buffered)?;
+    let mut listing = Std::new(buffered);
+    let outcome = asm_engine(rt.alloc(), &mut source, &mut image, &mut listing);
+    match listing.flush() {
+        Ok(()) => outcome.map(|_| DONE),
+        Err(_) => Err(WorkshopFault::WriteFailed),
+    }
+}
+
 /// `agcws run SRC FEED N`. Both files are opened before anything is read.
 fn run(rt: &HostRuntime, matches: &ArgMatches<'_>) -> Result<u8, WorkshopFault> {
     let (Some(source), Some(feed), Some(steps)) = (
@@ -85,7 +104,7 @@ fn run(rt: &HostRuntime, matches: &ArgMatches<'_>) -> Result<u8, WorkshopFault> 
     }
     let mut source = Std::new(fs::open(rt, source).map_err(not_opened)?);
     let mut feed = Std::new(fs::open(rt, feed).map_err(not_opened)?);
-    let buffered = BufWriter::new(rt.alloc(), io::writer(rt)).map_err(not_opened)?;
+    let buffered = BufWriter::new(rt.alloc(), io::writer(rt)).map_err(not_buffered)?;
     let mut out = Std::new(buffered);
     let outcome = run_engine(rt.alloc(), &mut source, &mut feed, steps, &mut out);
     match out.flush() {
@@ -104,5 +123,14 @@ fn not_opened(error: io::Error) -> WorkshopFault {
         WorkshopFault::NoMemory
     } else {
         WorkshopFault::ReadFailed
+    }
+}
+
+/// The fault of standard output, where no buffer could be made for it.
+fn not_buffered(error: io::Error) -> WorkshopFault {
+    if error.kind() == io::ErrorKind::OutOfMemory {
+        WorkshopFault::NoMemory
+    } else {
+        WorkshopFault::WriteFailed
     }
 }

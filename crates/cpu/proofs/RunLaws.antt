@@ -1,18 +1,24 @@
 -- The reference run, step by step.
-use Rattle.std.proofs.Common.{◌≡◌, ◌≤◌, ◌+◌, ◌*◌, ◌++◌, ℕ, zero, suc, List, [], ◌∷◌, Bool, true, false, cond, Option, Some, None, refl, arith, add-one, ◌∙◌, find, ◌&&◌}
-use Rattle.std.specs.Prelude.{nat_le, option_map}
+use Rattle.std.proofs.Common.{◌≡◌, ◌≤◌, ◌<◌, ◌+◌, ◌*◌, ◌^◌, ◌++◌, ℕ, zero, suc, List, [], ◌∷◌, Bool, true, false, cond, Option, Some, None, refl, arith, add-one, ◌∙◌, find, ◌&&◌}
+use Rattle.std.specs.Prelude.{nat_le, unwrap_or}
 use Rattle.std.specs.Option.{option_to_list}
 use Rattle.std.specs.List.{list_all}
 use Rattle.std.proofs.lemmas.Bool.{leb-true}
+use Rattle.words.specs.declared.counters.Carry.{Carry}
+use Rattle.words.specs.declared.counters.Carry.TheVariants.{No, Plus, Minus, ShiftedOut}
 use Rattle.rope.specs.Places.{Words}
+use Rattle.feed.specs.declared.input.Counter.{Counter}
+use Rattle.feed.specs.declared.input.Input.{Input}
+use Rattle.feed.specs.declared.input.Input.TheVariants.{Count, Word, Request}
+use Rattle.feed.specs.Inputs.{due}
 use Rattle.cpu.specs.State.{State, Scenario, start}
-use Rattle.cpu.specs.Effects.{Change, change, changes, after}
-use Rattle.cpu.specs.Effects.Change.{AtPlace, OnChannel}
-use Rattle.cpu.specs.declared.instruction.Code.{Code}
+use Rattle.cpu.specs.Effects.{Change, change, changes, after, dxch}
+use Rattle.cpu.specs.Effects.Change.{AtPlace, OnChannel, Inhibits, Serves, WaitsWithSum, WaitsWithWord}
 use Rattle.cpu.specs.declared.instruction.Instruction.{Instruction}
-use Rattle.cpu.specs.declared.instruction.Instruction.TheVariants.{Extend}
-use Rattle.cpu.specs.Codes.{Row, rows, serves, code_in, code_of}
-use Rattle.cpu.specs.Next.{fetched, executed, execute, execute_code, instruction_word, entry, entered, next_by, next}
+use Rattle.cpu.specs.declared.instruction.Instruction.TheVariants.{Extend, Edrupt}
+use Rattle.cpu.specs.Codes.{Row, no_row, basic_rows, extracode_rows, table, serves, code_of}
+use Rattle.cpu.specs.Next.{fetched, jumps, executed, execute, instruction_word, entry, entered, next_by, next, most_cycles}
+use Rattle.cpu.specs.Inputs.{take, input_effect, input_cycles, counted, received, asked, asked_after, asked_on, carried, carries_into, stepped, step_of, count_of}
 use Rattle.cpu.specs.Run.{run, out, outs}
 
 pub run-zero : (scenario : Scenario) → run scenario 0 ≡ start
@@ -39,14 +45,18 @@ outs-add-one scenario n = rw add-one refl
 cycles-change : (s : State) (c : Change) → (change s c).cycles ≡ s.cycles
 cycles-change s (AtPlace p x) = refl
 cycles-change s (OnChannel n x) = refl
+cycles-change s (Inhibits b) = refl
+cycles-change s (Serves b) = refl
+cycles-change s (WaitsWithSum x) = refl
+cycles-change s (WaitsWithWord w) = refl
 
 cycles-changes : (s : State) (cs : List Change) → (changes s cs).cycles ≡ s.cycles
 cycles-changes s [] = refl
 cycles-changes s (c ∷ cs) = cycles-changes (change s c) cs ∙ cycles-change s c
 
--- no code takes more than six cycles
+-- no code takes more than six cycles, also where it jumps
 few_cycles : Row → Bool
-few_cycles r = nat_le r.cycles 6
+few_cycles r = nat_le r.cycles 6 && nat_le r.jump_cycles 6
 
 kept_here : (b c : Bool) → (b && c) ≡ true → b ≡ true
 kept_here true c e = refl
@@ -56,50 +66,93 @@ kept_later : (b c : Bool) → (b && c) ≡ true → c ≡ true
 kept_later true c e = e
 kept_later false c e = absurd (cc)
 
-cycles-find : (word : ℕ) (p : Row → Bool) (rs : List Row) → list_all few_cycles rs ≡ true → (code : Code)
-    → option_map (code_in word) (find p rs) ≡ Some code → code.cycles ≤ 6
+row-find : (p : Row → Bool) (rs : List Row) → list_all few_cycles rs ≡ true → few_cycles (unwrap_or (find p rs) no_row) ≡ true
 unfolding few_cycles
-cycles-find word p [] few code e = absurd (cc)
-cycles-find word p (r ∷ rs) few code e =
-    elim (p r) as (λ b. option_map (code_in word) (cond b (Some r) (find p rs)) ≡ Some code → code.cycles ≤ 6) [
-      | true ↦ λ h. let n : r.cycles ≤ 6 = leb-true _ _ (kept_here _ _ few) in let c : code.cycles ≡ r.cycles = cc in omega arith
-      | false ↦ λ h. cycles-find word p rs (kept_later _ _ few) code h
-    ] e
+row-find p [] few = refl
+row-find p (r ∷ rs) few =
+    elim (p r) as (λ b. few_cycles (unwrap_or (cond b (Some r) (find p rs)) no_row) ≡ true) [
+      | true ↦ kept_here _ _ few
+      | false ↦ row-find p rs (kept_later _ _ few)
+    ]
 
-few_cycles_all : list_all few_cycles rows ≡ true
-unfolding rows few_cycles
-few_cycles_all = refl
+few_cycles_all : (extracode : Bool) → list_all few_cycles (table extracode) ≡ true
+unfolding basic_rows extracode_rows few_cycles
+few_cycles_all false = refl
+few_cycles_all true = refl
 
-cycles-code_of : (extracode : Bool) (word : ℕ) (code : Code) → code_of extracode word ≡ Some code → code.cycles ≤ 6
-unfolding code_of
-cycles-code_of extracode word code e = cycles-find word (serves extracode word) rows few_cycles_all code e
+few-code_of : (extracode : Bool) (word : ℕ) → ((code_of extracode word).cycles ≤ 6) × ((code_of extracode word).jump_cycles ≤ 6)
+unfolding code_of few_cycles
+few-code_of extracode word =
+    let f = row-find (serves word) (table extracode) (few_cycles_all extracode) in
+    (leb-true _ _ (kept_here _ _ f), leb-true _ _ (kept_later _ _ f))
 
 cycles-after : (rope : Words) (s : State) (instruction : Instruction) → (after rope s instruction).cycles ≡ s.cycles
-unfolding after
+unfolding after dxch
 cycles-after rope s Extend = refl
+cycles-after rope s (Edrupt n) = refl
 cycles-after rope s instruction = search (cycles-changes)
 
-cycles-executed : (rope : Words) (s : State) (code : Code) → (executed rope (fetched s) code).cycles ≡ s.cycles + code.cycles
-unfolding executed fetched
-cycles-executed rope s code = refl
+cycles-either : (b : Bool) (m n : ℕ) → m ≤ 6 → n ≤ 6 → cond b m n ≤ 6
+cycles-either true m n p q = p
+cycles-either false m n p q = q
 
-cycles-execute_code : (rope : Words) (s : State) (o : Option Code) → ((code : Code) → o ≡ Some code → code.cycles ≤ 6)
-    → (execute_code rope s o).0.cycles ≤ s.cycles + 6
-cycles-execute_code rope s None few = omega arith
-cycles-execute_code rope s (Some code) few = omega (arith, few code refl, cycles-executed rope s code)
+cycles-execute : (rope : Words) (s : State) → (execute rope s).0.cycles ≤ s.cycles + 6
+unfolding execute executed fetched
+cycles-execute rope s =
+    let code = code_of s.extra (instruction_word rope s) in
+    let few = few-code_of s.extra (instruction_word rope s) in
+    let most = cycles-either (jumps (fetched s) code.instruction) code.jump_cycles code.cycles few.1 few.0 in
+    omega (arith, most)
 
-cycles-next_by : (rope : Words) (s : State) (o : Option ℕ) → (next_by rope s o).0.cycles ≤ s.cycles + 6
-unfolding entered execute
-cycles-next_by rope s (Some k) = omega arith
-cycles-next_by rope s None = cycles-execute_code rope s _ (cycles-code_of s.extra (instruction_word rope s))
+cycles-asked : (s : State) (o : Option ℕ) → (asked s o).cycles ≡ s.cycles
+cycles-asked s None = refl
+cycles-asked s (Some k) = refl
+
+cycles-carried : (s : State) (o : Option Counter) (carry : Carry) → (carried s o carry).cycles ≡ s.cycles
+cycles-carried s None carry = refl
+cycles-carried s (Some counter) No = refl
+cycles-carried s (Some counter) Plus = refl
+cycles-carried s (Some counter) Minus = refl
+cycles-carried s (Some counter) ShiftedOut = refl
+
+-- the effect of an input is none on cycles
+cycles-effect : (s : State) (input : Input) → (input_effect s input).cycles ≡ s.cycles
+unfolding counted received
+cycles-effect s (Count counter sequence) =
+    let step = step_of sequence (count_of s counter) in
+    cycles-asked _ (asked_after counter step) ∙ cycles-carried (stepped s counter step) (carries_into counter) step.carry
+cycles-effect s (Word n w) = cycles-asked _ (asked_on n)
+cycles-effect s (Request k) = refl
+
+few-input : (input : Input) → input_cycles input ≤ 6
+few-input (Count counter sequence) = omega arith
+few-input (Word n w) = omega arith
+few-input (Request k) = omega arith
+
+cycles-take : (s : State) (input : Input) → (take s input).cycles ≤ s.cycles + 6
+unfolding take
+cycles-take s input =
+    let e = cycles-effect (record s { taken = s.taken + 1; cycles = s.cycles + input_cycles input }) input in
+    let few = few-input input in
+    omega (arith, e, few)
+
+cycles-next_by : (rope : Words) (s : State) (i : Option Input) (o : Option ℕ) → (next_by rope s i o).0.cycles ≤ s.cycles + 6
+unfolding entered
+cycles-next_by rope s (Some input) o = cycles-take s input
+cycles-next_by rope s None (Some k) = omega arith
+cycles-next_by rope s None None = cycles-execute rope s
 
 -- a step takes at most six cycles
 pub cycles-next : (scenario : Scenario) (s : State) → (next scenario s).0.cycles ≤ s.cycles + 6
 unfolding next
-cycles-next scenario s = cycles-next_by scenario.rope s (entry s)
+cycles-next scenario s = cycles-next_by scenario.rope s (due scenario.inputs s.taken s.cycles) (entry s)
 
 -- n steps take at most 6n cycles
 pub cycles-run : (scenario : Scenario) (n : ℕ) → (run scenario n).cycles ≤ 6 * n
 unfolding run start
 cycles-run scenario zero = omega arith
 cycles-run scenario (suc n) = omega (arith, cycles-next scenario (run scenario n), cycles-run scenario n)
+
+-- so 2^40 steps stay below the cycles up to which a step is promised
+pub cycles-below : (scenario : Scenario) (n : ℕ) → n ≤ 2 ^ 40 → (run scenario n).cycles < most_cycles
+cycles-below scenario n few = omega (arith, cycles-run scenario n)

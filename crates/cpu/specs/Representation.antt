@@ -4,9 +4,12 @@ use Rattle.std.specs.List.{range_with_len}
 use Rattle.std.specs.Ordering.{nat_cmp}
 use Rattle.std.specs.FinMap as map
 use Rattle.std.specs.FinSet as set
-use Rattle.std.specs.Coded.{Coded, code_by, coded×, coded_ℕ, coded_bool, coded_option}
+use Rattle.std.specs.Coded.{Coded, code_by, coded×, coded_ℕ, coded_bool, coded_option, coded_list}
 use Rattle.space.specs.Cells.{Cells}
-use Rattle.cpu.specs.State.{State}
+use Rattle.rope.specs.Places.{Words}
+use Rattle.feed.specs.declared.input.TimedInput.{TimedInput}
+use Rattle.feed.specs.contracts.input.TimedInput as timed_input
+use Rattle.cpu.specs.State.{State, Processing}
 
 -- the code by which states are told apart
 abbrev pub state_code : Coded State
@@ -15,6 +18,14 @@ state_code =
     (coded× (map.code coded_ℕ coded_ℕ) (coded× coded_bool (coded× coded_bool (coded× coded_bool (coded× (coded_option coded_ℕ) (coded× (coded_option coded_ℕ) (coded× (set.code coded_ℕ) (coded× coded_ℕ coded_ℕ))))))))
     (λ s. (s.cells, (s.extra, (s.inhibit, (s.inside, (s.waiting_sum, (s.waiting_word, (s.requests, (s.taken, s.cycles)))))))))
     (λ p. record { cells = p.0; extra = p.1.0; inhibit = p.1.1.0; inside = p.1.1.1.0; waiting_sum = p.1.1.1.1.0; waiting_word = p.1.1.1.1.1.0; requests = p.1.1.1.1.1.1.0; taken = p.1.1.1.1.1.1.1.0; cycles = p.1.1.1.1.1.1.1.1 })
+    (λ _. refl)
+
+-- the code by which processors are told apart
+abbrev pub processing_code : Coded Processing
+processing_code =
+    code_by (Words × (List TimedInput × ℕ)) (coded× (map.code coded_ℕ coded_ℕ) (coded× (coded_list timed_input.the_row.coded) coded_ℕ))
+    (λ p. (p.scenario.rope, (p.scenario.inputs, p.meter)))
+    (λ p. record { scenario = record { rope = p.0; inputs = p.1.0 }; meter = p.1.1 })
     (λ _. refl)
 
 -- how many interrupts there are

@@ -1,13 +1,20 @@
 -- The state of the computer, and what it runs.
-use Rattle.std.specs.Prelude.{ℕ, Bool, true, false, Option, None}
+use Rattle.std.specs.Prelude.{ℕ, Bool, true, false, List, Option, None}
 use Rattle.std.specs.Ordering.{nat_cmp}
 use Rattle.std.specs.FinSet as set
 use Rattle.rope.specs.Places.{Words}
+use Rattle.feed.specs.declared.input.TimedInput.{TimedInput}
 use Rattle.space.specs.Cells.{Cells, zero_cells, put, program_counter}
 
--- what runs: the words of fixed memory
+-- what runs: the words of fixed memory, and the inputs, each with the cycle from which on it is due
 pub record Scenario : Type 0 where
   pub rope : Words
+  pub inputs : List TimedInput
+
+-- a processor: what it runs, and how many steps it has made
+pub record Processing : Type 0 where
+  pub scenario : Scenario
+  pub meter : ℕ
 
 -- a state: the cells, whether extracode is in force, whether interrupts are inhibited and whether one is being served,
 -- the sum and the word that wait for the next instruction, the interrupts asked for, the inputs taken, and the cycles
@@ -25,6 +32,13 @@ pub record State : Type 0 where
 -- the first address of bank 2, where a run starts
 abbrev pub first_address : ℕ
 first_address = 0o4000
+
+-- ZRUPT and BRUPT, which keep the address and the word of the instruction that an interrupt puts off
+abbrev pub interrupted_address : ℕ
+interrupted_address = 0o15
+
+abbrev pub interrupted_word : ℕ
+interrupted_word = 0o17
 
 -- the state in which a run starts: each word is 0, and interrupts are inhibited
 unfoldable pub start : State

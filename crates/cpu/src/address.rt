@@ -1,6 +1,7 @@
-//! Addresses of 10 bits.
+//! Addresses of 10 bits, and operands of words.
 
 ghost use Rattle.std.specs.Prelude.{◌≡◌, ◌<◌, ◌%◌, ◌^◌};
+ghost use Rattle.cpu.specs.Effects.{first_of, greatest_short, greatest_address};
 
 use space::numbers::{Addr12, Chan};
 use std::marker::Model;
@@ -33,6 +34,27 @@ impl Addr10 {
         }
     }
 
+    /// Its number.
+    pub(crate) fn number(self) -> u16
+        ensures value { result ≡ self }
+        ensures range { result < 0o2000 }
+    {
+        self.number
+    }
+
+    /// The address before it, which is the greatest before 0.
+    pub(crate) fn before(self) -> Addr10
+        ensures { result ≡ first_of greatest_short self }
+    {
+        Addr10 {
+            number: if self.number == 0 {
+                0o1777
+            } else {
+                self.number - 1
+            },
+        }
+    }
+
     /// The same address of 12 bits.
     pub(crate) fn widen(self) -> Addr12
         ensures value { result ≡ self }
@@ -47,19 +69,27 @@ pub(crate) fn address(number: u16) -> Addr12
     requires { number < 0o10000 }
     ensures { result ≡ number }
 {
-    Addr12::try_new(number).unwrap()
+    Addr12::of_low_bits(number)
+}
+
+/// The address before it, which is the greatest before 0.
+pub(crate) fn before(operand: Addr12) -> Addr12
+    ensures { result ≡ first_of greatest_address operand }
+{
+    let number = operand.number();
+    address(if number == 0 { 0o7777 } else { number - 1 })
 }
 
 /// The address in a word's low 12 bits.
 pub(crate) fn address_of_word(word: u16) -> Addr12
     ensures { result ≡ word % 2 ^ 12 }
 {
-    address(word % 0o10000)
+    Addr12::of_low_bits(word)
 }
 
 /// The channel in a word's low 9 bits.
 pub(crate) fn channel_of_word(word: u16) -> Chan
     ensures { result ≡ word % 2 ^ 9 }
 {
-    Chan::try_new(word % 0o1000).unwrap()
+    Chan::of_low_bits(word)
 }

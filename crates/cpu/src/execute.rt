@@ -1,24 +1,27 @@
-//! Executing one instruction.
+//! Executing one instruction, and entering an interrupt.
 
-ghost use Rattle.std.specs.Prelude.{◌≡◌, ◌+◌, ◌%◌, ◌^◌, ◌≤◌, Some, None, true, false};
+ghost use Rattle.std.specs.Prelude.{◌≡◌, ◌+◌, ◌*◌, ◌%◌, ◌^◌, ◌≤◌, Some, None, true, false};
 ghost use Rattle.cpu.specs.Effects.{after};
-ghost use Rattle.cpu.specs.Next.{word_at_z, instruction_word, fetched, extra_after, written_channel, output_on, execute, most_cycles};
+ghost use Rattle.cpu.specs.Next.{following_address, word_at_z, instruction_word, fetched, extra_after, written_channel, output_on, cycles_of, jumps, entry, entered, execute, most_cycles};
 
 use crate::dispatch::decode;
-use crate::instruction::Instruction;
-use crate::machine::Machine;
+use crate::instruction::{Code, Instruction};
+use crate::machine::{FIRST_ADDRESS, Machine};
 use crate::output::Output;
+use feed::request::Request;
 use rope::Rope;
 use space::numbers::{Chan, Eras};
-use words::{Wide, Word};
+use words::{Overflow, Wide, Word};
+
+/// The cycles that the entry of an interrupt takes.
+const ENTRY_CYCLES: u64 = 3;
 
 impl Machine {
     /// The word at Z.
     fn word_at_z(&self, rope: &Rope) -> Word
         ensures { result ≡ word_at_z rope.now self.now }
     {
-        let place = self.place(self.next_address());
-        self.value_at(rope, &place).correct()
+        self.word_at(rope, &self.next_place())
     }
 
     /// The word that is executed: the one that waits or the one at Z, with the sum that waits.
@@ -36,19 +39,26 @@ impl Machine {
         }
     }
 
+    /// The address after Z.
+    fn following_address(&self) -> Wide
+        ensures { result ≡ following_address self.now }
+    {
+        Wide::of_u16((self.next_address().number() + 1) % 0o10000)
+    }
+
     /// Moves Z on, and uses up what waits.
     #[tactic(auto, unfolding(crate::specs::Next::fetched))]
     fn advance(&mut self)
         ensures { self.new ≡ fetched self.old }
     {
         if self.waiting_word().is_none() {
-            let following = (self.next_address().number() + 1) % 0o10000;
-            self.put(Eras::Z, Wide::of_u16(following));
+            let following = self.following_address();
+            self.put(Eras::Z, following);
         }
         self.use_up();
     }
 
-    /// Executes one instruction. A word that is not built does nothing.
+    /// Executes one instruction.
     #[tactic(auto, unfolding(crate::specs::Next::execute, crate::specs::Next::executed, crate::specs::Next::fetched))]
     pub(crate) fn execute(&mut self, rope: &Rope) -> Option<Output>
         requires { self.old.cycles ≤ most_cycles }
@@ -56,16 +66,13 @@ impl Machine {
         ensures output { result ≡ (execute rope.now self.old).1 }
     {
         let word = self.instruction_word(rope).to_u16();
-        match decode(word, self.extra()) {
-            None => None,
-            Some(code) => {
-                let cycles = self.cycles() + u64::from(code.cycles);
-                self.advance();
-                self.perform(rope, &code.instruction);
-                self.end_instruction(extra_after(&code.instruction), cycles);
-                self.output(written_channel(&code.instruction))
-            }
-        }
+        let extra = self.extra();
+        self.advance();
+        let code = decode(word, extra);
+        let cycles = self.cycles() + u64::from(self.cycles_of(&code));
+        self.perform(rope, &code.instruction);
+        self.end_instruction(extra_after(&code.instruction, extra), cycles);
+        self.output(written_channel(&code.instruction))
     }
 
     /// The effect of an instruction.
@@ -74,13 +81,103 @@ impl Machine {
         ensures { self.new ≡ after rope.now self.old instruction.now }
     {
         match *instruction {
+            Instruction::Relint => self.allow_interrupts(),
+            Instruction::Inhint => self.inhibit_interrupts(),
             Instruction::Extend => {}
+            Instruction::Resume => self.resume(),
+            Instruction::Tc(address) => self.transfer_control(address),
+            Instruction::Ccs(address) => self.count_compare_and_skip(rope, address),
             Instruction::Tcf(address) => self.jump(address),
+            Instruction::Das(address) => self.double_add_to_storage(address),
+            Instruction::Lxch(address) => self.exchange_l(address),
+            Instruction::Incr(address) => self.increment(address),
+            Instruction::Ads(address) => self.add_to_storage(address),
             Instruction::Ca(address) => self.clear_and_add(rope, address),
+            Instruction::Cs(address) => self.clear_and_subtract(rope, address),
+            Instruction::Index(address) => self.index(rope, address),
+            Instruction::Dxch(address) => self.double_exchange(address),
             Instruction::Ts(address) => self.transfer_to_storage(address),
+            Instruction::Xch(address) => self.exchange_a(address),
             Instruction::Ad(address) => self.add(rope, address),
+            Instruction::Mask(address) => self.mask(rope, address),
+            Instruction::Read(channel) => self.read_channel(channel),
             Instruction::Write(channel) => self.write_channel(channel),
+            Instruction::Rand(channel) => self.read_and(channel),
+            Instruction::Wand(channel) => self.write_and(channel),
+            Instruction::Ror(channel) => self.read_or(channel),
+            Instruction::Wor(channel) => self.write_or(channel),
+            Instruction::Rxor(channel) => self.read_xor(channel),
+            Instruction::Edrupt(_) => {}
+            Instruction::Dv(address) => self.divide(rope, address),
+            Instruction::Bzf(address) => self.branch_on_zero(address),
+            Instruction::Msu(address) => self.modular_subtract(rope, address),
+            Instruction::Qxch(address) => self.exchange_q(address),
+            Instruction::Aug(address) => self.augment(address),
+            Instruction::Dim(address) => self.diminish(address),
+            Instruction::Dca(address) => self.double_clear_and_add(rope, address),
+            Instruction::Dcs(address) => self.double_clear_and_subtract(rope, address),
+            Instruction::Su(address) => self.subtract(rope, address),
+            Instruction::Bzmf(address) => self.branch_on_zero_or_minus(address),
+            Instruction::Mp(address) => self.multiply(rope, address),
         }
+    }
+
+    /// The cycles that an instruction takes.
+    fn cycles_of(&self, code: &Code) -> u8
+        ensures { result ≡ cycles_of self.now code.now }
+    {
+        if self.jumps(&code.instruction) {
+            code.jump_cycles
+        } else {
+            code.cycles
+        }
+    }
+
+    /// Whether an instruction jumps, for those that take fewer cycles then.
+    fn jumps(&self, instruction: &Instruction) -> bool
+        ensures { result ≡ jumps self.now instruction.now }
+    {
+        match *instruction {
+            Instruction::Bzf(_) => self.is_at_zero(),
+            Instruction::Bzmf(_) => self.is_at_zero_or_minus(),
+            _ => false,
+        }
+    }
+
+    /// The interrupt that is entered now.
+    #[tactic(auto, unfolding(crate::specs::Next::entry))]
+    pub(crate) fn entry(&self) -> Option<Request>
+        ensures { result ≡ entry self.now }
+    {
+        if self.inhibit() || self.inside() || self.extra() {
+            return None;
+        }
+        if self.waiting_sum().is_some() || self.waiting_word().is_some() {
+            return None;
+        }
+        if self.reg(Eras::A).overflow() != Overflow::No {
+            return None;
+        }
+        self.least_request()
+    }
+
+    /// Enters an interrupt.
+    #[tactic(auto, unfolding(crate::specs::Next::entered))]
+    pub(crate) fn enter(&mut self, rope: &Rope, request: Request)
+        requires { self.old.cycles ≤ most_cycles }
+        ensures { self.new ≡ entered rope.now self.old request }
+    {
+        let following = self.following_address();
+        let word = self.word_at_z(rope);
+        self.put(Eras::BRUPT, word.extend());
+        self.put(Eras::ZRUPT, following);
+        self.put(
+            Eras::Z,
+            Wide::of_u16(FIRST_ADDRESS + 4 * u16::from(request.number())),
+        );
+        self.set_inside(true);
+        self.withdraw(request);
+        self.add_cycles(ENTRY_CYCLES);
     }
 
     /// What goes out on a channel: nothing where it is a register or the superbank's.
@@ -100,11 +197,12 @@ impl Machine {
 }
 
 /// Whether extracode is in force after an instruction.
-fn extra_after(instruction: &Instruction) -> bool
-    ensures { result ≡ extra_after instruction.now }
+fn extra_after(instruction: &Instruction, extra: bool) -> bool
+    ensures { result ≡ extra_after instruction.now extra }
 {
-    match instruction {
+    match *instruction {
         Instruction::Extend => true,
+        Instruction::Index(_) => extra,
         _ => false,
     }
 }
@@ -115,6 +213,8 @@ fn written_channel(instruction: &Instruction) -> Option<Chan>
 {
     match *instruction {
         Instruction::Write(channel) => Some(channel),
+        Instruction::Wand(channel) => Some(channel),
+        Instruction::Wor(channel) => Some(channel),
         _ => None,
     }
 }

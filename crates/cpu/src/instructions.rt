@@ -1,15 +1,48 @@
 //! Each instruction.
 
-ghost use Rattle.std.specs.Prelude.{◌≡◌, ◌+◌, Some, None, true, false, [], ◌∷◌};
-ghost use Rattle.cpu.specs.Effects.{changes, tcf, ca, ad, ts, write, carry};
+ghost use Rattle.std.specs.Prelude.{◌≡◌, ◌+◌, ◌≤◌, Some, None, true, false, [], ◌∷◌, if◌then◌else◌};
+ghost use Rattle.words.specs.Numbers.{neg_wide};
+ghost use Rattle.cpu.specs.Effects.{changes, carry, ccs_skip, exchange, is_zero, is_minus_wide, is_at_zero, is_at_zero_or_minus, tc, ccs, tcf, ca, cs, ad, su, mask, ts, xch, lxch, qxch, dxch, ads, incr, aug, dim, das, dca, dcs, index, mp, dv, msu, bzf, bzmf, relint, inhint, resume};
 
-use crate::address::Addr10;
+use crate::address::{Addr10, before};
+use crate::bits::{and, is_whole};
 use crate::machine::Machine;
 use rope::Rope;
-use space::numbers::{Addr12, Chan, Eras};
-use words::{Overflow, Wide};
+use space::numbers::{Addr12, Eras};
+use words::{Overflow, Wide, div};
+
+/// -0
+const MINUS_ZERO: u16 = 0o177777;
+
+/// Bit 16 of a wide.
+const SIGN: u16 = 0o100000;
 
 impl Machine {
+    /// TC
+    #[tactic(auto, unfolding(crate::specs::Effects::tc, crate::specs::Effects::tcf))]
+    pub(crate) fn transfer_control(&mut self, address: Addr12)
+        ensures { self.new ≡ changes self.old (tc self.old address) }
+    {
+        let next = Wide::of_u16(self.next_address().number());
+        if address.number() != Eras::Q.number() {
+            self.put(Eras::Q, next);
+        }
+        self.jump(address);
+    }
+
+    /// CCS
+    #[tactic(auto, unfolding(crate::specs::Effects::ccs))]
+    pub(crate) fn count_compare_and_skip(&mut self, rope: &Rope, address: Addr10)
+        ensures { self.new ≡ changes self.old (ccs rope.now self.old address) }
+    {
+        let place = self.place(address.widen());
+        let count = self.value_at(rope, &place);
+        let next = self.next_address().number() + ccs_skip(count);
+        self.put(Eras::A, count.dabs());
+        self.put(Eras::Z, Wide::of_u16(next));
+        self.edit(&place, count);
+    }
+
     /// TCF
     #[tactic(auto, unfolding(crate::specs::Effects::tcf))]
     pub(crate) fn jump(&mut self, address: Addr12)
@@ -29,6 +62,17 @@ impl Machine {
         self.edit(&place, value);
     }
 
+    /// CS
+    #[tactic(auto, unfolding(crate::specs::Effects::cs))]
+    pub(crate) fn clear_and_subtract(&mut self, rope: &Rope, address: Addr12)
+        ensures { self.new ≡ changes self.old (cs rope.now self.old address) }
+    {
+        let place = self.place(address);
+        let operand = self.value_at(rope, &place);
+        self.put(Eras::A, operand.neg());
+        self.edit(&place, operand);
+    }
+
     /// AD
     #[tactic(auto, unfolding(crate::specs::Effects::ad))]
     pub(crate) fn add(&mut self, rope: &Rope, address: Addr12)
@@ -36,9 +80,33 @@ impl Machine {
     {
         let place = self.place(address);
         let addend = self.value_at(rope, &place);
-        let sum = self.get(Eras::A).add(addend);
+        let sum = self.reg(Eras::A).add(addend);
         self.put(Eras::A, sum);
         self.edit(&place, addend);
+    }
+
+    /// SU
+    #[tactic(auto, unfolding(crate::specs::Effects::su))]
+    pub(crate) fn subtract(&mut self, rope: &Rope, address: Addr10)
+        ensures { self.new ≡ changes self.old (su rope.now self.old address) }
+    {
+        let place = self.place(address.widen());
+        let subtrahend = self.value_at(rope, &place);
+        let difference = self.reg(Eras::A).add(subtrahend.neg());
+        self.put(Eras::A, difference);
+        self.edit(&place, subtrahend);
+    }
+
+    /// MASK
+    #[tactic(auto, unfolding(crate::specs::Effects::mask))]
+    pub(crate) fn mask(&mut self, rope: &Rope, address: Addr12)
+        ensures { self.new ≡ changes self.old (mask rope.now self.old address) }
+    {
+        let place = self.place(address);
+        let mask = self.value_at(rope, &place);
+        let masked = and(is_whole(&place), self.reg(Eras::A), mask);
+        self.put(Eras::A, masked);
+        self.edit(&place, mask);
     }
 
     /// TS
@@ -47,7 +115,7 @@ impl Machine {
         ensures { self.new ≡ changes self.old (ts self.old address) }
     {
         let place = self.erasable(address);
-        let value = self.get(Eras::A);
+        let value = self.reg(Eras::A);
         let corrected = value.correct().extend();
         let skip = Wide::of_u16(self.next_address().number() + 1);
         let overflow = value.overflow();
@@ -65,13 +133,257 @@ impl Machine {
         }
     }
 
-    /// WRITE
-    #[tactic(auto, unfolding(crate::specs::Effects::write))]
-    pub(crate) fn write_channel(&mut self, channel: Chan)
-        ensures { self.new ≡ changes self.old (write self.old channel) }
+    /// A register and a place are exchanged.
+    fn exchange(&mut self, register: Eras, place: Eras)
+        ensures { self.new ≡ changes self.old (exchange self.old register place) }
     {
-        let word = self.get(Eras::A);
-        self.set_channel(channel, word);
+        let from_register = self.reg(register);
+        let from_place = self.reg(place);
+        self.put(register, from_place);
+        self.put(place, from_register);
+    }
+
+    /// XCH
+    #[tactic(auto, unfolding(crate::specs::Effects::xch))]
+    pub(crate) fn exchange_a(&mut self, address: Addr10)
+        ensures { self.new ≡ changes self.old (xch self.old address) }
+    {
+        let place = self.erasable(address);
+        self.exchange(Eras::A, place);
+    }
+
+    /// LXCH
+    #[tactic(auto, unfolding(crate::specs::Effects::lxch))]
+    pub(crate) fn exchange_l(&mut self, address: Addr10)
+        ensures { self.new ≡ changes self.old (lxch self.old address) }
+    {
+        let place = self.erasable(address);
+        self.exchange(Eras::L, place);
+    }
+
+    /// QXCH
+    #[tactic(auto, unfolding(crate::specs::Effects::qxch))]
+    pub(crate) fn exchange_q(&mut self, address: Addr10)
+        ensures { self.new ≡ changes self.old (qxch self.old address) }
+    {
+        let place = self.erasable(address);
+        self.exchange(Eras::Q, place);
+    }
+
+    /// DXCH
+    #[tactic(auto, unfolding(crate::specs::Effects::dxch))]
+    pub(crate) fn double_exchange(&mut self, address: Addr10)
+        ensures { self.new ≡ dxch self.old address }
+    {
+        let low = self.erasable(address);
+        let high = self.erasable(address.before());
+        self.exchange(Eras::L, low);
+        self.exchange(Eras::A, high);
+    }
+
+    /// ADS
+    #[tactic(auto, unfolding(crate::specs::Effects::ads))]
+    pub(crate) fn add_to_storage(&mut self, address: Addr10)
+        ensures { self.new ≡ changes self.old (ads self.old address) }
+    {
+        let place = self.erasable(address);
+        let sum = self.reg(Eras::A).add(self.reg(place));
+        self.put(place, sum.correct().extend());
+        self.put(Eras::A, sum);
+    }
+
+    /// INCR
+    #[tactic(auto, unfolding(crate::specs::Effects::incr))]
+    pub(crate) fn increment(&mut self, address: Addr10)
+        ensures { self.new ≡ changes self.old (incr self.old address) }
+    {
+        let place = self.erasable(address);
+        let sum = self.reg(place).add(Wide::ONE);
+        self.put(place, sum);
+    }
+
+    /// AUG
+    #[tactic(auto, unfolding(crate::specs::Effects::aug))]
+    pub(crate) fn augment(&mut self, address: Addr10)
+        ensures { self.new ≡ changes self.old (aug self.old address) }
+    {
+        let place = self.erasable(address);
+        let value = self.reg(place);
+        self.put(place, value.add(unit(is_minus(value))));
+    }
+
+    /// DIM
+    #[tactic(auto, unfolding(crate::specs::Effects::dim))]
+    pub(crate) fn diminish(&mut self, address: Addr10)
+        ensures { self.new ≡ changes self.old (dim self.old address) }
+    {
+        let place = self.erasable(address);
+        let value = self.reg(place);
+        if !is_zero(value) {
+            self.put(place, value.add(unit(!is_minus(value))));
+        }
+    }
+
+    /// DAS
+    #[tactic(auto, unfolding(crate::specs::Effects::das))]
+    pub(crate) fn double_add_to_storage(&mut self, address: Addr10)
+        ensures { self.new ≡ changes self.old (das self.old address) }
+    {
+        let low = self.erasable(address);
+        let high = self.erasable(address.before());
+        let low_sum = self.reg(Eras::L).add(self.reg(low));
+        let carried = carry(low_sum.overflow());
+        let high_sum = self.reg(Eras::A).add(self.reg(high)).add(carried);
+        if high == Eras::A {
+            self.put(Eras::L, low_sum.correct().extend());
+            self.put(Eras::A, high_sum);
+        } else {
+            self.put(low, low_sum.correct().extend());
+            self.put(high, high_sum.correct().extend());
+            self.put(Eras::L, Wide::ZERO);
+            self.put(Eras::A, carry(high_sum.overflow()));
+        }
+    }
+
+    /// DCA
+    #[tactic(auto, using(crate::proofs::ChangeLaws::changes_append), unfolding(crate::specs::Effects::dca))]
+    pub(crate) fn double_clear_and_add(&mut self, rope: &Rope, address: Addr12)
+        ensures { self.new ≡ changes self.old (dca rope.now self.old address) }
+    {
+        let high = self.place(before(address));
+        let low = self.place(address);
+        let high_value = self.value_at(rope, &high);
+        let low_value = self.value_at(rope, &low);
+        self.put(Eras::A, high_value);
+        self.put(Eras::L, low_value);
+        self.edit(&high, high_value);
+        self.edit(&low, low_value);
+    }
+
+    /// DCS
+    #[tactic(auto, using(crate::proofs::ChangeLaws::changes_append), unfolding(crate::specs::Effects::dcs))]
+    pub(crate) fn double_clear_and_subtract(&mut self, rope: &Rope, address: Addr12)
+        ensures { self.new ≡ changes self.old (dcs rope.now self.old address) }
+    {
+        let high = self.place(before(address));
+        let low = self.place(address);
+        let high_value = self.value_at(rope, &high);
+        let low_value = self.value_at(rope, &low);
+        self.put(Eras::A, high_value.neg());
+        self.put(Eras::L, low_value.neg());
+        self.edit(&high, high_value);
+        self.edit(&low, low_value);
+    }
+
+    /// INDEX
+    #[tactic(auto, unfolding(crate::specs::Effects::index))]
+    pub(crate) fn index(&mut self, rope: &Rope, address: Addr12)
+        ensures { self.new ≡ changes self.old (index rope.now self.old address) }
+    {
+        let place = self.place(address);
+        let increment = self.value_at(rope, &place);
+        self.wait_with_sum(increment);
+        self.edit(&place, increment);
+    }
+
+    /// MP
+    #[tactic(auto, unfolding(crate::specs::Effects::mp))]
+    pub(crate) fn multiply(&mut self, rope: &Rope, address: Addr12)
+        ensures { self.new ≡ changes self.old (mp rope.now self.old address) }
+    {
+        let place = self.place(address);
+        let multiplier = self.value_at(rope, &place);
+        let product = self.word(Eras::A).mul(multiplier.correct());
+        self.put(Eras::A, product.high.extend());
+        self.put(Eras::L, product.low.extend());
+        self.edit(&place, multiplier);
+    }
+
+    /// DV
+    #[tactic(auto, unfolding(crate::specs::Effects::dv))]
+    pub(crate) fn divide(&mut self, rope: &Rope, address: Addr10)
+        ensures { self.new ≡ changes self.old (dv rope.now self.old address) }
+    {
+        let place = self.place(address.widen());
+        let divisor = self.value_at(rope, &place);
+        let quotient = div(self.word(Eras::A), self.word(Eras::L), divisor.correct());
+        self.put(Eras::A, quotient.quotient.extend());
+        self.put(Eras::L, quotient.remainder.extend());
+        self.edit(&place, divisor);
+    }
+
+    /// MSU
+    #[tactic(auto, unfolding(crate::specs::Effects::msu))]
+    pub(crate) fn modular_subtract(&mut self, rope: &Rope, address: Addr10)
+        ensures { self.new ≡ changes self.old (msu rope.now self.old address) }
+    {
+        let place = self.place(address.widen());
+        let other = self.value_at(rope, &place);
+        let difference = self.word(Eras::A).modular_sub(other.correct());
+        self.put(Eras::A, difference.extend());
+        self.edit(&place, other);
+    }
+
+    /// BZF
+    #[tactic(auto, unfolding(crate::specs::Effects::bzf, crate::specs::Effects::tcf))]
+    pub(crate) fn branch_on_zero(&mut self, address: Addr12)
+        ensures { self.new ≡ changes self.old (bzf self.old address) }
+    {
+        if self.is_at_zero() {
+            self.jump(address);
+        }
+    }
+
+    /// BZMF
+    #[tactic(auto, unfolding(crate::specs::Effects::bzmf, crate::specs::Effects::tcf))]
+    pub(crate) fn branch_on_zero_or_minus(&mut self, address: Addr12)
+        ensures { self.new ≡ changes self.old (bzmf self.old address) }
+    {
+        if self.is_at_zero_or_minus() {
+            self.jump(address);
+        }
+    }
+
+    /// Whether A is +0 or -0.
+    pub(crate) fn is_at_zero(&self) -> bool
+        ensures { result ≡ is_at_zero self.now }
+    {
+        is_zero(self.reg(Eras::A))
+    }
+
+    /// Whether A is +0 or -0 or bit 16 of it is set.
+    pub(crate) fn is_at_zero_or_minus(&self) -> bool
+        ensures { result ≡ is_at_zero_or_minus self.now }
+    {
+        self.is_at_zero() || is_minus(self.reg(Eras::A))
+    }
+
+    /// RELINT
+    #[tactic(auto, unfolding(crate::specs::Effects::relint))]
+    pub(crate) fn allow_interrupts(&mut self)
+        ensures { self.new ≡ changes self.old relint }
+    {
+        self.set_inhibit(false);
+    }
+
+    /// INHINT
+    #[tactic(auto, unfolding(crate::specs::Effects::inhint))]
+    pub(crate) fn inhibit_interrupts(&mut self)
+        ensures { self.new ≡ changes self.old inhint }
+    {
+        self.set_inhibit(true);
+    }
+
+    /// RESUME
+    #[tactic(auto, unfolding(crate::specs::Effects::resume))]
+    pub(crate) fn resume(&mut self)
+        ensures { self.new ≡ changes self.old (resume self.old) }
+    {
+        let address = self.reg(Eras::ZRUPT);
+        let word = self.word(Eras::BRUPT);
+        self.put(Eras::Z, address);
+        self.wait_with_word(word);
+        self.set_inside(false);
     }
 }
 
@@ -84,4 +396,38 @@ fn carry(overflow: Overflow) -> Wide
         Overflow::Plus => Wide::ONE,
         Overflow::Minus => Wide::ONE.neg(),
     }
+}
+
+/// -1 or +1
+fn unit(minus: bool) -> Wide
+    ensures { result ≡ (if minus then neg_wide 1 else 1) }
+{
+    if minus { Wide::ONE.neg() } else { Wide::ONE }
+}
+
+/// How many instructions CCS skips.
+fn ccs_skip(value: Wide) -> u16
+    ensures skip { result ≡ ccs_skip value }
+    ensures few { result ≤ 3 }
+{
+    match value.to_u16() {
+        0 => 1,
+        MINUS_ZERO => 3,
+        bits => { if bits >= SIGN { 2 } else { 0 } }
+    }
+}
+
+/// Whether a wide is +0 or -0.
+fn is_zero(value: Wide) -> bool
+    ensures { result ≡ is_zero value }
+{
+    let bits = value.to_u16();
+    bits == 0 || bits == MINUS_ZERO
+}
+
+/// Whether bit 16 of a wide is set.
+fn is_minus(value: Wide) -> bool
+    ensures { result ≡ is_minus_wide value }
+{
+    value.to_u16() >= SIGN
 }

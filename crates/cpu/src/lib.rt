@@ -1,17 +1,24 @@
-//! The computer: its state, its instructions, and one step.
+//! The computer: its state, its instructions, its inputs, and one step.
 #![tactic(auto)]
 
 mod address;
-mod built;
+mod bits;
+mod channels;
+mod disassembly;
 mod dispatch;
 mod execute;
+#[cfg(test)]
+mod input_tests;
+mod inputs;
 mod instruction;
 mod instructions;
 mod machine;
 mod output;
+mod processor;
 #[cfg(test)]
 mod tests;
 
-pub use built::NotBuilt;
+pub use disassembly::disassemble;
 pub use machine::Machine;
 pub use output::Output;
+pub use processor::Processor;

@@ -1,13 +1,17 @@
 //! The machine, and what its parts read and keep.
 
-ghost use Rattle.std.specs.Prelude.{◌≡◌, ◌+◌, ◌<◌, ◌%◌, Some, None, true, false};
+ghost use Rattle.std.specs.Prelude.{◌≡◌, ◌+◌, ◌<◌, ◌%◌, ◌^◌, Some, None, true, false};
 ghost use Rattle.space.specs.Cells.{get, get_channel};
 ghost use Rattle.space.specs.Places.{IsErasable};
 ghost use Rattle.cpu.specs.State.{start};
 ghost use Rattle.cpu.specs.Effects.{change, changes, next_address, place_in, erasable_in, value_at, edits};
-ghost use Rattle.cpu.specs.Effects.Change.{AtPlace, OnChannel};
+ghost use Rattle.cpu.specs.Effects.Change.{AtPlace, OnChannel, Inhibits, Serves, WaitsWithSum, WaitsWithWord};
+ghost use Rattle.cpu.specs.Next.{least_request};
+ghost use Rattle.std.specs.FinSet.{insert, remove};
+ghost use Rattle.words.specs.Numbers.{correct};
 
 use crate::address::{Addr10, address};
+use feed::request::Request;
 use rope::Rope;
 use space::numbers::{Addr12, Chan, Eras};
 use space::place::Linear;
@@ -20,7 +24,7 @@ use words::{Wide, Word};
 const REQUESTS: usize = 10;
 
 /// The address at which a run starts.
-const FIRST_ADDRESS: u16 = 0o4000;
+pub(crate) const FIRST_ADDRESS: u16 = 0o4000;
 
 /// The registers, erasable memory, the channels, and what else the next step depends on.
 #[derive(Drop)]
@@ -32,7 +36,7 @@ pub struct Machine {
     waiting_sum: Option<Wide>,
     waiting_word: Option<Word>,
     requests: [bool; REQUESTS],
-    taken: u64,
+    taken: usize,
     cycles: u64,
 }
 
@@ -68,6 +72,21 @@ impl Machine {
         }
     }
 
+    /// Makes another machine equal to this one.
+    pub fn copy_to(&self, other: &mut Machine)
+        ensures { other.new ≡ self.now }
+    {
+        self.store.copy_to(&mut other.store);
+        other.extra = self.extra;
+        other.inhibit = self.inhibit;
+        other.inside = self.inside;
+        other.waiting_sum = self.waiting_sum;
+        other.waiting_word = self.waiting_word;
+        other.requests.copy_from_slice(&self.requests);
+        other.taken = self.taken;
+        other.cycles = self.cycles;
+    }
+
     /// The cycles since the start.
     pub fn cycles(&self) -> u64
         ensures { result ≡ self.now.cycles }
@@ -75,11 +94,18 @@ impl Machine {
         self.cycles
     }
 
-    /// What is read at an erasable place.
-    pub(crate) fn get(&self, place: Eras) -> Wide
+    /// What is read at an erasable place: 16 bits at A and Q, elsewhere a word, extended.
+    pub fn reg(&self, place: Eras) -> Wide
         ensures { result ≡ get self.now.cells place }
     {
         self.store.read(place)
+    }
+
+    /// The word at an erasable place: what is read there, corrected.
+    pub fn word(&self, place: Eras) -> Word
+        ensures { result ≡ correct (get self.now.cells place) }
+    {
+        self.reg(place).correct()
     }
 
     /// Stores at an erasable place.
@@ -90,7 +116,7 @@ impl Machine {
     }
 
     /// What is read on a channel.
-    pub(crate) fn channel(&self, channel: Chan) -> Wide
+    pub fn channel(&self, channel: Chan) -> Wide
         ensures { result ≡ get_channel self.now.cells channel }
     {
         self.store.channel(channel)
@@ -118,10 +144,31 @@ impl Machine {
     }
 
     /// Whether interrupts are inhibited.
-    pub(crate) fn inhibit(&self) -> bool
+    pub fn inhibit(&self) -> bool
         ensures { result ≡ self.now.inhibit }
     {
         self.inhibit
+    }
+
+    /// Whether an interrupt is being served.
+    pub fn inside(&self) -> bool
+        ensures { result ≡ self.now.inside }
+    {
+        self.inside
+    }
+
+    /// The place of Z, where the next word is fetched unless one waits.
+    pub fn next_place(&self) -> Linear
+        ensures { result ≡ place_in self.now (next_address self.now) }
+    {
+        self.place(self.next_address())
+    }
+
+    /// The registers, erasable memory and the channels.
+    pub fn store(&self) -> &Store
+        ensures { result.now ≡ self.now.cells }
+    {
+        &self.store
     }
 
     /// The sum that waits for the next instruction.
@@ -136,6 +183,83 @@ impl Machine {
         ensures { result ≡ self.now.waiting_word }
     {
         self.waiting_word
+    }
+
+    /// Keeps a sum for the next instruction.
+    pub(crate) fn wait_with_sum(&mut self, value: Wide)
+        ensures { self.new ≡ change self.old (WaitsWithSum value) }
+    {
+        self.waiting_sum = Some(value);
+    }
+
+    /// Keeps a word to be executed.
+    pub(crate) fn wait_with_word(&mut self, word: Word)
+        ensures { self.new ≡ change self.old (WaitsWithWord word) }
+    {
+        self.waiting_word = Some(word);
+    }
+
+    /// Inhibits interrupts, or allows them.
+    pub(crate) fn set_inhibit(&mut self, inhibit: bool)
+        ensures { self.new ≡ change self.old (Inhibits inhibit) }
+    {
+        self.inhibit = inhibit;
+    }
+
+    /// Begins to serve an interrupt, or ends it.
+    pub(crate) fn set_inside(&mut self, inside: bool)
+        ensures { self.new ≡ change self.old (Serves inside) }
+    {
+        self.inside = inside;
+    }
+
+    /// The least of the interrupts that are asked for.
+    pub(crate) fn least_request(&self) -> Option<Request>
+        ensures { result ≡ least_request self.now.requests }
+    {
+        for number in 1..11u8 {
+            if self.requests[usize::from(number) - 1] {
+                return Some(Request::new(number));
+            }
+        }
+        None
+    }
+
+    /// An interrupt is asked for.
+    pub(crate) fn ask(&mut self, request: Request)
+        ensures { self.new ≡ record self.old { requests = insert self.old.requests request } }
+    {
+        self.requests[request.index()] = true;
+    }
+
+    /// An interrupt is no longer asked for.
+    pub(crate) fn withdraw(&mut self, request: Request)
+        ensures { self.new ≡ record self.old { requests = remove self.old.requests request } }
+    {
+        self.requests[request.index()] = false;
+    }
+
+    /// How many inputs were taken.
+    pub(crate) fn taken(&self) -> usize
+        ensures { result ≡ self.now.taken }
+    {
+        self.taken
+    }
+
+    /// One input more was taken.
+    pub(crate) fn count_input(&mut self)
+        requires { self.old.taken < 2 ^ 63 }
+        ensures { self.new ≡ record self.old { taken = self.old.taken + 1 } }
+    {
+        self.taken += 1;
+    }
+
+    /// Adds to the cycles.
+    pub(crate) fn add_cycles(&mut self, cycles: u64)
+        requires { self.old.cycles + cycles < 2 ^ 64 }
+        ensures { self.new ≡ record self.old { cycles = self.old.cycles + cycles } }
+    {
+        self.cycles += cycles;
     }
 
     /// Uses up what waits.
@@ -180,8 +304,19 @@ impl Machine {
         ensures { result ≡ value_at rope.now self.now place.now }
     {
         match *place {
-            Linear::Erasable(place) => self.get(place),
+            Linear::Erasable(place) => self.reg(place),
             Linear::Fixed(bank, offset) => rope.word(bank, offset).extend(),
+        }
+    }
+
+    /// The word at a place: what is read there, corrected.
+    #[tactic(auto, unfolding(crate::specs::Effects::value_at))]
+    pub(crate) fn word_at(&self, rope: &Rope, place: &Linear) -> Word
+        ensures { result ≡ correct (value_at rope.now self.now place.now) }
+    {
+        match *place {
+            Linear::Erasable(place) => self.word(place),
+            Linear::Fixed(bank, offset) => rope.word(bank, offset),
         }
     }
 

@@ -1,4 +1,5 @@
 pub mod ImageLaws
 pub mod PlaceLaws
 pub mod ReadSteps
+pub mod SameImages
 pub mod SlotWords

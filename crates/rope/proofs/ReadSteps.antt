@@ -12,7 +12,7 @@ use Rattle.rope.proofs.PlaceLaws.{slot_at-with_word_same, slot_at-with_word_othe
 use Rattle.rope.proofs.ImageLaws.{image_front-none, image_front-more}
 
 -- the bank of an entry has its entry where that has its bank
-bank_of_entry-twice : (e : ℕ) → bank_of_entry (bank_of_entry e) ≡ e
+pub bank_of_entry-twice : (e : ℕ) → bank_of_entry (bank_of_entry e) ≡ e
 bank_of_entry-twice e =
     elim (cases_lt e 2) [
       | inl first ↦ rw (lt-ltb e 2 first, le-ltb (e + 2) 2 (omega arith), lt-ltb (e + 2) 4 (omega arith)) (omega arith)
@@ -24,7 +24,7 @@ bank_of_entry-twice e =
     ]
 
 -- entries and banks end together
-bank_of_entry-below : (e : ℕ) → e < banks → bank_of_entry e < banks
+pub bank_of_entry-below : (e : ℕ) → e < banks → bank_of_entry e < banks
 bank_of_entry-below e lt =
     elim (cases_lt e 2) [
       | inl first ↦ rw (lt-ltb e 2 first) (omega arith)
@@ -75,7 +75,7 @@ front_more old left new words p word lt front next =
     (front ∙ ap (λ t. image_front words p ++ t) next)
 
 -- how many bytes positions have
-length-image_front : (words : Words) (n : ℕ) → length (image_front words n) ≡ 2 * n
+pub length-image_front : (words : Words) (n : ℕ) → length (image_front words n) ≡ 2 * n
 length-image_front words zero = ap length (image_front-none words)
 length-image_front words (suc n) =
     let e : suc n ≡ n + 1 = omega arith in

@@ -15,9 +15,13 @@ word_of_position words position = word_at words (bank_of_entry (position / bank_
 abbrev pub spelled : ℕ → List ℕ
 spelled word = (2 * word) / 0o400 ∷ (2 * word) % 0o400 ∷ []
 
+-- the bytes of n positions, the first of them with a number
+unfoldable pub image_part : Words → ℕ → ℕ → List ℕ
+image_part words first n = flat_map (λ position. spelled (word_of_position words position)) (range_with_len first n)
+
 -- the bytes of the first n positions
-unfoldable pub image_front : Words → ℕ → List ℕ
-image_front words n = flat_map (λ position. spelled (word_of_position words position)) (range_with_len 0 n)
+abbrev pub image_front : Words → ℕ → List ℕ
+image_front words n = image_part words 0 n
 
 -- the bytes of all positions
 abbrev pub image : Words → List ℕ

@@ -1,30 +1,55 @@
 //! The image of fixed memory, as it is written.
 
-ghost use Rattle.std.specs.Prelude.{◌≡◌, ◌<◌, ◌/◌, ◌%◌, true};
+ghost use Rattle.std.specs.Prelude.{◌≡◌, ◌*◌, ◌<◌, ◌/◌, ◌%◌, true};
 ghost use Rattle.words.specs.Devices.{Writes, failures_after};
-ghost use Rattle.rope.specs.Places.{bank_words, fixed_places};
-ghost use Rattle.rope.specs.Image.{bank_of_entry, word_of_position, spelled, image};
+ghost use Rattle.rope.specs.Places.{banks, bank_words, fixed_places};
+ghost use Rattle.rope.specs.Image.{bank_of_entry, word_of_position, spelled, image_part, image};
 
-use crate::memory::{BANK_WORDS, PLACES, Rope};
+use crate::memory::{BANK_WORDS, ENTRIES, Rope};
+use arrayvec::ArrayVec;
 use space::numbers::{Bank, Offset};
-use words::{Write, WriteFailed, write_all};
+use words::{Write, WriteFailed, push_all, write_all};
+
+/// How many bytes the words of a bank are written as.
+const BANK_BYTES: usize = 2 * BANK_WORDS;
 
 impl Rope {
     /// Writes the image of 73,728 bytes: banks 2, 3, 0, 1, 4 to 043, in each bank the words by rising offsets, each as
-    /// two bytes, high byte first, of twice the word. A place without a word gives 0.
+    /// two bytes, high byte first, of twice the word. A place without a word gives 0. A bank is one write.
     ///
     /// After a failure a beginning of it was written.
     pub fn write<W: Write>(&self, out: &mut W) -> Result<(), WriteFailed>
         ensures written { W.told ≡ true → Writes (W.written out.old) (W.written out.new) (image self.now) result }
         ensures failures { W.failures out.new ≡ failures_after (W.failures out.old) result }
     {
-        for position in 0..PLACES {
-            match write_all(out, &self.spelled_at(position)) {
+        for entry in 0..ENTRIES {
+            match self.write_bank(entry, out) {
                 Ok(()) => {}
                 Err(failed) => return Err(failed),
             }
         }
         Ok(())
+    }
+
+    // Writes the bank at an entry of the image.
+    fn write_bank<W: Write>(&self, entry: usize, out: &mut W) -> Result<(), WriteFailed>
+        requires { entry < banks }
+        ensures written { W.told ≡ true → Writes (W.written out.old) (W.written out.new) (image_part self.now (bank_words * entry) bank_words) result }
+        ensures failures { W.failures out.new ≡ failures_after (W.failures out.old) result }
+    {
+        write_all(out, self.spelled_bank(entry).as_slice())
+    }
+
+    // The bytes of the bank at an entry of the image.
+    fn spelled_bank(&self, entry: usize) -> ArrayVec<u8, BANK_BYTES>
+        requires { entry < banks }
+        ensures { result.items ≡ image_part self.now (bank_words * entry) bank_words }
+    {
+        let mut bytes = ArrayVec::new();
+        for offset in 0..BANK_WORDS {
+            push_all(&mut bytes, &self.spelled_at(BANK_WORDS * entry + offset));
+        }
+        bytes
     }
 
     // The two bytes at a position of the image.

@@ -3,6 +3,7 @@
 
 mod fault;
 mod image;
+pub mod laws;
 mod memory;
 mod reading;
 #[cfg(test)]

@@ -1,6 +1,6 @@
 //! Fixed memory.
 
-ghost use Rattle.std.specs.Prelude.{◌≡◌, ◌<◌, ℕ, false, None, IfOk, IfErr, replicate, slice_index_or};
+ghost use Rattle.std.specs.Prelude.{◌≡◌, ◌<◌, ℕ, false, None, IfOk, IfErr, replicate, length, slice_index_or};
 ghost use Rattle.rope.specs.Places.{place_number, fixed_places, banks, no_words, with_word, slot_at, stands, word_at};
 ghost use Rattle.rope.specs.declared.fault.RopeFault.TheVariants.{NoMemory};
 
@@ -10,11 +10,17 @@ use std::alloc::{AllocError, Global};
 use std::marker::Model;
 use words::Word;
 
+/// How many banks hold words.
+const BANKS: u16 = 0o44;
+
 /// The words of one bank.
 pub(crate) const BANK_WORDS: usize = 0o2000;
 
+/// How many banks an image has.
+pub(crate) const ENTRIES: usize = 0o44;
+
 /// The places of the banks 0 to 043.
-pub(crate) const PLACES: usize = 0o44 * BANK_WORDS;
+pub(crate) const PLACES: usize = ENTRIES * BANK_WORDS;
 
 /// Fixed memory, seen as the words that stand in it, each at its bank and offset.
 #[derive(Drop)]
@@ -87,14 +93,18 @@ impl Rope {
     fn slot(&self, bank: Bank, offset: Offset) -> Option<Word>
         ensures { result ≡ slot_at self.now bank offset }
     {
+        if bank.number() >= BANKS {
+            return None;
+        }
         slot_of(&self.slots, slot_number(bank, offset))
     }
 }
 
 fn slot_of(slots: &[Option<Word>], number: usize) -> Option<Word>
+    requires { number < length slots.now }
     ensures { result ≡ slice_index_or slots.now number None }
 {
-    slots.get(number).copied().unwrap_or(None)
+    slots[number]
 }
 
 fn slot_number(bank: Bank, offset: Offset) -> usize

@@ -1,4 +1,4 @@
-//! Worked rows of the arithmetic, and devices that are in trouble at each place.
+//! Worked examples of the arithmetic, and devices that are in trouble at each place.
 
 use super::faulty::{FaultyReader, FaultyWriter, Trouble};
 use super::*;

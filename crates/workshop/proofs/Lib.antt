@@ -1,3 +1,3 @@
-mod FeedLines
+mod Feeds
 mod Preparing
 mod RunSteps

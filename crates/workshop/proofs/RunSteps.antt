@@ -7,15 +7,11 @@ use Rattle.words.proofs.Texts.{append-then, beginning-after}
 use Rattle.cpu.specs.declared.output.Output.{Output}
 use Rattle.cpu.specs.State.{Scenario, State, start}
 use Rattle.cpu.specs.Next.{next}
-use Rattle.cpu.specs.Built.{is_built}
 use Rattle.cpu.specs.Run.{run, outs}
 use Rattle.cpu.proofs.RunLaws.{run-zero, run-add-one, out-add-one, outs-zero, outs-add-one, cycles-run}
 use Rattle.workshop.specs.ChannelLines.{channel_line, channel_lines}
-use Rattle.workshop.specs.Runs.{AreBuilt, Stops, BreaksOff}
-use Rattle.workshop.specs.Steps.{Runs, Steps, StepWrites, outputs_after}
-use Rattle.workshop.specs.declared.engine.Summary.{Summary}
-use Rattle.workshop.specs.declared.fault.WorkshopFault.{WorkshopFault}
-use Rattle.workshop.specs.declared.fault.WorkshopFault.TheVariants.{NoMemory, ReadFailed, WriteFailed, Source, Feed, TooLong, NotBuilt}
+use Rattle.workshop.specs.Runs.{BreaksOff}
+use Rattle.workshop.specs.Steps.{outputs_after}
 
 pub lines_of_none : channel_lines (option_to_list None) ≡ []
 unfolding channel_lines
@@ -50,10 +46,6 @@ lines_more scenario n =
 pub count_more : (scenario : Scenario) (n : ℕ) → length (outs scenario (n + 1)) ≡ length (outs scenario n) + length (outputs_after scenario (run scenario n))
 count_more scenario n = ap length (outs_more scenario n) ∙ length-append (outs scenario n) (outputs_after scenario (run scenario n))
 
-pub built_more : (scenario : Scenario) (n : ℕ) (s : State) → s ≡ run scenario n → AreBuilt scenario n → is_built scenario s ≡ true → AreBuilt scenario (n + 1)
-built_more scenario n s e below here =
-    below_more (λ k. is_built scenario (run scenario k) ≡ true) n below (subst (λ (t : State). is_built scenario t ≡ true) e here)
-
 pub state_more : (scenario : Scenario) (n : ℕ) (s t : State) → s ≡ run scenario n → t ≡ (next scenario s).0 → t ≡ run scenario (n + 1)
 state_more scenario n s t e h = rw (run-add-one scenario n) (subst (λ (u : State). t ≡ (next scenario u).0) e h)
 
@@ -71,25 +63,12 @@ lines_after scenario n s a b c e p q =
     rw (lines_more scenario n) (append-then a b c _ _ p next_lines)
 
 -- a run that ends in step n + 1
-pub ends : (scenario : Scenario) (steps n : ℕ) (s t : State) (a b c : List ℕ) (fault : WorkshopFault) → n < steps → s ≡ run scenario n → AreBuilt scenario n
-    → b ≡ a ++ channel_lines (outs scenario n) → Steps scenario s t (Err fault) → StepWrites scenario s b c (Err fault) → Runs scenario steps a c (Err fault)
-ends scenario steps n s t a b c NoMemory h e built p q r = absurd q
-ends scenario steps n s t a b c ReadFailed h e built p q r = absurd q
-ends scenario steps n s t a b c WriteFailed h e built p q r =
+pub breaks_off : (scenario : Scenario) (steps n : ℕ) (s : State) (a b c : List ℕ) → n < steps → s ≡ run scenario n
+    → b ≡ a ++ channel_lines (outs scenario n) → WritesBeginning b c (channel_lines (outputs_after scenario s)) → BreaksOff scenario steps a c
+breaks_off scenario steps n s a b c h e p r =
     let here : WritesBeginning b c (channel_lines (outputs_after scenario (run scenario n))) = subst (λ (u : State). WritesBeginning b c (channel_lines (outputs_after scenario u))) e r in
     record {
       made = n + 1;
       within = omega (arith, h);
-      built = built_more scenario n s e built q;
       written = rw (lines_more scenario n) (beginning-after a b c _ _ p here);
     }
-ends scenario steps n s t a b c (Source fault) h e built p q r = absurd q
-ends scenario steps n s t a b c (Feed fault) h e built p q r = absurd q
-ends scenario steps n s t a b c TooLong h e built p q r = absurd q
-ends scenario steps n s t a b c NotBuilt h e built p q r = record {
-  made = n;
-  before = h;
-  built = built;
-  unbuilt = subst (λ (u : State). is_built scenario u ≡ false) e q;
-  written = r ∙ p;
-}

@@ -2,8 +2,8 @@
 use Rattle.std.specs.Prelude.{◌≡◌, ℕ, ◌+◌, ◌⊎◌, Bool, true, false, if◌then◌else◌, Result, Ok, Err}
 use Rattle.words.specs.Devices.{one_more}
 use Rattle.workshop.specs.declared.fault.WorkshopFault.{WorkshopFault}
-use Rattle.workshop.specs.declared.fault.WorkshopFault.TheVariants.{NoMemory, ReadFailed, WriteFailed, Source, Feed, TooLong, NotBuilt}
-use Rattle.workshop.specs.Inputs.{most_bytes}
+use Rattle.workshop.specs.declared.fault.WorkshopFault.TheVariants.{NoMemory, ReadFailed, WriteFailed, Source, Feed, TooLong}
+use Rattle.feed.specs.Feed.{most_bytes}
 
 -- the fault that a failed read gives
 abbrev pub is_read_failed : WorkshopFault → Bool
@@ -13,7 +13,6 @@ is_read_failed WriteFailed = false
 is_read_failed (Source fault) = false
 is_read_failed (Feed fault) = false
 is_read_failed TooLong = false
-is_read_failed NotBuilt = false
 
 abbrev pub has_read_failed : {T : Type 0} → Result T WorkshopFault → Bool
 has_read_failed (Ok x) = false
@@ -27,7 +26,6 @@ is_write_failed WriteFailed = true
 is_write_failed (Source fault) = false
 is_write_failed (Feed fault) = false
 is_write_failed TooLong = false
-is_write_failed NotBuilt = false
 
 abbrev pub has_write_failed : {T : Type 0} → Result T WorkshopFault → Bool
 has_write_failed (Ok x) = false
@@ -52,7 +50,6 @@ most_read_before WriteFailed = most_bytes
 most_read_before (Source fault) = most_bytes
 most_read_before (Feed fault) = most_bytes
 most_read_before TooLong = most_bytes + 1
-most_read_before NotBuilt = most_bytes
 
 abbrev pub most_read : {T : Type 0} → Result T WorkshopFault → ℕ
 most_read (Ok x) = most_bytes

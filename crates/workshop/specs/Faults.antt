@@ -2,13 +2,9 @@
 use Rattle.std.specs.Prelude.{ℕ, ◌==◌, nat_lt, if◌then◌else◌, List, [], ◌++◌, codes, decimal, Option, None, Some}
 use Rattle.yayul.specs.Faults as source
 use Rattle.yayul.specs.declared.fault.Fault.{Fault}
-use Rattle.workshop.specs.declared.fault.FeedFault.{FeedFault}
-use Rattle.workshop.specs.declared.fault.FeedFault.TheVariants.{BadLine}
+use Rattle.feed.specs.Faults as feed
 use Rattle.workshop.specs.declared.fault.WorkshopFault.{WorkshopFault}
-use Rattle.workshop.specs.declared.fault.WorkshopFault.TheVariants.{NoMemory, ReadFailed, WriteFailed, Source, Feed, TooLong, NotBuilt}
-
-abbrev pub feed_number_of : FeedFault → ℕ
-feed_number_of (BadLine line) = 30
+use Rattle.workshop.specs.declared.fault.WorkshopFault.TheVariants.{NoMemory, ReadFailed, WriteFailed, Source, Feed, TooLong}
 
 -- the number that a fault is told by
 abbrev pub number_of : WorkshopFault → ℕ
@@ -16,16 +12,12 @@ number_of NoMemory = 2
 number_of ReadFailed = 6
 number_of WriteFailed = 7
 number_of (Source fault) = source.number_of fault.kind
-number_of (Feed fault) = feed_number_of fault
+number_of (Feed fault) = feed.number_of fault
 number_of TooLong = 34
-number_of NotBuilt = 53
 
 -- the line of a fault of the source: 0 counts as none
 abbrev pub source_line_of : Fault → Option ℕ
 source_line_of fault = if fault.line == 0 then None else Some fault.line
-
-abbrev pub feed_line_of : FeedFault → Option ℕ
-feed_line_of (BadLine line) = Some line
 
 -- the line that a fault stands on
 abbrev pub line_of : WorkshopFault → Option ℕ
@@ -33,9 +25,8 @@ line_of NoMemory = None
 line_of ReadFailed = None
 line_of WriteFailed = None
 line_of (Source fault) = source_line_of fault
-line_of (Feed fault) = feed_line_of fault
+line_of (Feed fault) = feed.line_of fault
 line_of TooLong = None
-line_of NotBuilt = None
 
 -- how a line is told
 abbrev pub line_text : Option ℕ → List ℕ

@@ -1,8 +1,8 @@
+pub mod Assemblies
 pub mod ChannelLines
-pub mod Faults
-pub mod Feed
-pub mod Inputs
 pub mod Failures
-pub mod Runs
+pub mod Faults
+pub mod Inputs
 pub mod Refusals
+pub mod Runs
 pub mod Steps

@@ -1,19 +1,17 @@
 -- Which faults the parts of an engine may tell.
 use Rattle.std.specs.Prelude.{◌≡◌, ℕ, ◌<◌, List, length, Result, Err, ⊤}
-use Rattle.yayul.specs.Program.{Program}
 use Rattle.workshop.specs.declared.fault.WorkshopFault.{WorkshopFault}
-use Rattle.workshop.specs.declared.fault.WorkshopFault.TheVariants.{NoMemory, ReadFailed, WriteFailed, Source, Feed, TooLong, NotBuilt}
-use Rattle.workshop.specs.Inputs.{most_bytes}
+use Rattle.workshop.specs.declared.fault.WorkshopFault.TheVariants.{NoMemory, ReadFailed, WriteFailed, Source, Feed, TooLong}
+use Rattle.feed.specs.Feed.{most_bytes}
 
 -- the fault of a source and a feed, where that is what is told of them; that memory ran out or a read failed says nothing of them
-abbrev pub Refuses : Result Program WorkshopFault → WorkshopFault → Type 0
+abbrev pub Refuses : {T : Type 0} → Result T WorkshopFault → WorkshopFault → Type 0
 Refuses inputs NoMemory = ⊤
 Refuses inputs ReadFailed = ⊤
 Refuses inputs WriteFailed = ⊥
 Refuses inputs (Source fault) = inputs ≡ Err (Source fault)
 Refuses inputs (Feed fault) = inputs ≡ Err (Feed fault)
 Refuses inputs TooLong = inputs ≡ Err TooLong
-Refuses inputs NotBuilt = ⊥
 
 -- the fault of a text that was to be read
 abbrev pub RefusesText : List ℕ → WorkshopFault → Type 0
@@ -23,4 +21,3 @@ RefusesText text WriteFailed = ⊥
 RefusesText text (Source fault) = ⊥
 RefusesText text (Feed fault) = ⊥
 RefusesText text TooLong = most_bytes < length text
-RefusesText text NotBuilt = ⊥

@@ -1,19 +1,20 @@
 //! The engine that runs a program.
 
-ghost use Rattle.std.specs.Prelude.{◌≡◌, ◌+◌, ◌-◌, ◌≤◌, ◌^◌, true, false, IfOk, IfErr, IsErr};
+ghost use Rattle.std.specs.Prelude.{◌≡◌, ◌+◌, ◌-◌, ◌≤◌, ◌^◌, true, false, length, IfOk, IfErr, IsErr};
 ghost use Rattle.words.specs.Devices.{Writes, failures_after};
 ghost use Rattle.words.specs.Readings.{TakesAtMost};
-ghost use Rattle.workshop.specs.ChannelLines.{channel_line};
-ghost use Rattle.workshop.specs.Inputs.{most_bytes, assembled, prepared, scenario_of};
+ghost use Rattle.workshop.specs.ChannelLines.{channel_line, channel_lines};
+ghost use Rattle.feed.specs.Feed.{most_bytes};
+ghost use Rattle.workshop.specs.Inputs.{assembled};
 ghost use Rattle.workshop.specs.Failures.{has_read_failed, has_write_failed, failures_if, OneFails, most_read};
 ghost use Rattle.workshop.specs.Runs.{Answers};
-ghost use Rattle.workshop.specs.Steps.{Runs, Steps, StepWrites};
+ghost use Rattle.workshop.specs.Steps.{Runs, outputs_after};
+ghost use Rattle.cpu.specs.Next.{next};
 
 use crate::channel_line::channel_line;
 use crate::fault::WorkshopFault;
 use crate::inputs::read_inputs;
-use cpu::{Machine, NotBuilt, Output};
-use rope::Rope;
+use cpu::{Machine, Output, Processor};
 use std::alloc::Global;
 use words::{Read, Write, WriteFailed, write_all};
 
@@ -31,9 +32,8 @@ pub struct Summary {
 /// Assembles the source, reads the feed, and runs the program for some steps: the line of each output is written, as
 /// `7 CH 010 00012` with the cycles, the channel and the word.
 ///
-/// The source and the feed have at most 8,388,608 bytes each, and the feed may have empty lines alone. The first fault of
-/// the source is answered, else that of the feed, and then nothing is written. `NotBuilt` is answered before a step that
-/// needs more than what is built, once the lines of the steps before it are written.
+/// The source and the feed have at most 8,388,608 bytes each. The first fault of the source is answered, else that of the
+/// feed, and then nothing is written.
 pub fn run_engine<S: Read, F: Read, W: Write>(
     alloc: Global,
     source: &mut S,
@@ -47,7 +47,9 @@ pub fn run_engine<S: Read, F: Read, W: Write>(
 
     // E6 only where a reader has failed, the feed's only once the source is assembled; E7 only where the writer has.
     ensures readers { OneFails (has_read_failed result) (S.failures source.old) (S.failures source.new) (F.failures feed.old) (F.failures feed.new) }
+    // Nothing of the feed is read before the source is assembled.
     ensures source_first { S.told ≡ true → IsErr (assembled (S.left source.old)) → F.failures feed.new ≡ F.failures feed.old }
+    ensures feed_kept { S.told ≡ true → IsErr (assembled (S.left source.old)) → F.left feed.new ≡ F.left feed.old }
     ensures writer { W.failures out.new ≡ failures_if (has_write_failed result) (W.failures out.old) }
 
     // No more is read than it takes to tell that there is too much.
@@ -55,15 +57,22 @@ pub fn run_engine<S: Read, F: Read, W: Write>(
     ensures feed_read { F.told ≡ true → TakesAtMost (most_read result) (F.left feed.old) (F.left feed.new) }
 {
     match read_inputs(alloc, source, feed) {
-        Ok(program) => run(program.rope(), steps, out),
+        Ok(loaded) => {
+            let (rope, _) = loaded.program.split();
+            run(&mut Processor::new(rope, loaded.feed), steps, out)
+        }
         Err(fault) => Err(fault),
     }
 }
 
 /// Makes some steps from the start, and writes the lines of what they put out.
-fn run<W: Write>(rope: &Rope, steps: u64, out: &mut W) -> Result<Summary, WorkshopFault>
+fn run<W: Write>(
+    processor: &mut Processor,
+    steps: u64,
+    out: &mut W,
+) -> Result<Summary, WorkshopFault>
     requires { steps ≤ 2 ^ 40 - 2 }
-    ensures runs { W.told ≡ true → Runs (record { rope = rope.now }) steps (W.written out.old) (W.written out.new) result }
+    ensures runs { W.told ≡ true → Runs processor.old.scenario steps (W.written out.old) (W.written out.new) result }
     ensures failures { W.failures out.new ≡ failures_if (has_write_failed result) (W.failures out.old) }
     ensures reader { has_read_failed result ≡ false }
     ensures most { most_read result ≡ most_bytes }
@@ -71,9 +80,9 @@ fn run<W: Write>(rope: &Rope, steps: u64, out: &mut W) -> Result<Summary, Worksh
     let mut machine = Machine::start();
     let mut outputs = 0;
     for _done in 0..steps {
-        match step_and_write(&mut machine, rope, out) {
+        match step_and_write(processor, &mut machine, out) {
             Ok(count) => outputs += count,
-            Err(fault) => return Err(fault),
+            Err(_) => return Err(WorkshopFault::WriteFailed),
         }
     }
     Ok(Summary {
@@ -86,25 +95,25 @@ fn run<W: Write>(rope: &Rope, steps: u64, out: &mut W) -> Result<Summary, Worksh
 /// Makes a step, writes the line of what it puts out, and answers how many lines that is.
 #[tactic(auto, using(crate::proofs::RunSteps::lines_of_none, crate::proofs::RunSteps::lines_of_one))]
 fn step_and_write<W: Write>(
+    processor: &mut Processor,
     machine: &mut Machine,
-    rope: &Rope,
     out: &mut W,
-) -> Result<u64, WorkshopFault>
+) -> Result<u64, WriteFailed>
     requires { machine.old.cycles ≤ 2 ^ 62 }
-    ensures steps { Steps (record { rope = rope.now }) machine.old machine.new result }
-    ensures written { W.told ≡ true → StepWrites (record { rope = rope.now }) machine.old (W.written out.old) (W.written out.new) result }
+    ensures scenario { processor.new.scenario ≡ processor.old.scenario }
+    ensures state { machine.new ≡ (next processor.old.scenario machine.old).0 }
+    ensures count { IfOk result (λ count. count ≡ length (outputs_after processor.old.scenario machine.old)) }
     ensures at_most_one { IfOk result (λ count. count ≤ 1) }
-    ensures failures { W.failures out.new ≡ failures_if (has_write_failed result) (W.failures out.old) }
-    ensures reader { has_read_failed result ≡ false }
-    ensures most { most_read result ≡ most_bytes }
+    ensures written { W.told ≡ true →
+        Writes (W.written out.old) (W.written out.new) (channel_lines (outputs_after processor.old.scenario machine.old)) result }
+    ensures failures { W.failures out.new ≡ failures_after (W.failures out.old) result }
 {
-    match machine.step(rope) {
-        Ok(Some(output)) => match write_line(&output, out) {
+    match processor.step(machine) {
+        Some(output) => match write_line(&output, out) {
             Ok(()) => Ok(1),
-            Err(_) => Err(WorkshopFault::WriteFailed),
+            Err(failed) => Err(failed),
         },
-        Ok(None) => Ok(0),
-        Err(NotBuilt) => Err(WorkshopFault::NotBuilt),
+        None => Ok(0),
     }
 }
 

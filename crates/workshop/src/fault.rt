@@ -6,17 +6,10 @@ ghost use Rattle.words.specs.Devices.{Writes, failures_after};
 ghost use Rattle.workshop.specs.Faults.{number_of, line_of, line_text, fault_text, status_of};
 
 use arrayvec::ArrayVec;
+use feed::FeedFault;
 use thiserror::Error;
 use words::{Write, push_all, push_decimal, write_all};
 use yayul::fault::{Fault, FaultKind};
-
-/// What is wrong with a feed.
-#[derive(Clone, Copy, PartialEq, Eq, Debug, Drop, Error)]
-pub enum FeedFault {
-    /// A line, counted from 1, has no form of a line, is too long or holds a byte that no line may hold.
-    #[error("E30 LINE {0}")]
-    BadLine(u32),
-}
 
 /// Why an engine has ended early.
 #[derive(Clone, Copy, PartialEq, Eq, Debug, Drop, Error)]
@@ -39,9 +32,6 @@ pub enum WorkshopFault {
     /// The source or the feed has more than 8,388,608 bytes.
     #[error("E34")]
     TooLong,
-    /// The next step needs more than what is built.
-    #[error("E53")]
-    NotBuilt,
 }
 
 impl WorkshopFault {
@@ -54,9 +44,8 @@ impl WorkshopFault {
             WorkshopFault::ReadFailed => 6,
             WorkshopFault::WriteFailed => 7,
             WorkshopFault::Source(fault) => fault.kind.number(),
-            WorkshopFault::Feed(FeedFault::BadLine(_)) => 30,
+            WorkshopFault::Feed(fault) => fault.number(),
             WorkshopFault::TooLong => 34,
-            WorkshopFault::NotBuilt => 53,
         }
     }
 
@@ -66,7 +55,7 @@ impl WorkshopFault {
     {
         match self {
             WorkshopFault::Source(fault) if fault.line > 0 => Some(fault.line),
-            WorkshopFault::Feed(FeedFault::BadLine(line)) => Some(*line),
+            WorkshopFault::Feed(fault) => fault.line(),
             _ => None,
         }
     }
@@ -83,8 +72,9 @@ impl WorkshopFault {
                     ..
                 },
             ) => 3,
+            WorkshopFault::Feed(FeedFault::NoMemory | FeedFault::ReadFailed) => 3,
             WorkshopFault::Source(_) | WorkshopFault::Feed(_) => 1,
-            WorkshopFault::TooLong | WorkshopFault::NotBuilt => 1,
+            WorkshopFault::TooLong => 1,
         }
     }
 }

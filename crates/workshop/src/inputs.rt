@@ -2,21 +2,26 @@
 
 ghost use Rattle.std.specs.Prelude.{◌≡◌, ◌≤◌, true, false, Ok, IfOk, IfErr, IsErr, length};
 ghost use Rattle.words.specs.Readings.{TakesAtMost};
-ghost use Rattle.workshop.specs.Inputs.{most_bytes, assembled, prepared, with_feed};
+ghost use Rattle.feed.specs.Feed.{most_bytes};
+ghost use Rattle.workshop.specs.Inputs.{assembled, prepared, with_feed};
 ghost use Rattle.workshop.specs.Refusals.{Refuses, RefusesText};
 ghost use Rattle.yayul.specs.Program as spec;
 ghost use Rattle.workshop.specs.Failures.{has_read_failed, has_write_failed, failures_if, OneFails, most_read};
 
 use crate::fault::WorkshopFault;
-use crate::feed::first_fault;
+use feed::{Feed, FeedFault, MOST_BYTES};
 use std::alloc::Global;
 use words::{Read, ReadFault, read_text};
 use yayul::assemble;
 use yayul::fault::FaultKind;
 use yayul::program::Program;
 
-/// The most bytes of a source, and of a feed.
-const MOST_BYTES: usize = 8_388_608;
+/// An assembled source and the inputs of a feed.
+#[derive(Drop)]
+pub(crate) struct Loaded {
+    pub(crate) program: Program,
+    pub(crate) feed: Feed,
+}
 
 /// Reads and assembles the source, and then reads the feed.
 #[tactic(auto, using(crate::proofs::Preparing::refuses_source))]
@@ -24,18 +29,19 @@ pub(crate) fn read_inputs<S: Read, F: Read>(
     alloc: Global,
     source: &mut S,
     feed: &mut F,
-) -> Result<Program, WorkshopFault>
-    ensures ok { S.told ≡ true → F.told ≡ true → IfOk result (λ p. prepared (S.left source.old) (F.left feed.old) ≡ Ok p) }
+) -> Result<Loaded, WorkshopFault>
+    ensures ok { S.told ≡ true → F.told ≡ true → IfOk result (λ l. prepared (S.left source.old) (F.left feed.old) ≡ Ok l) }
     ensures fault { S.told ≡ true → F.told ≡ true → IfErr result (Refuses (prepared (S.left source.old) (F.left feed.old))) }
     ensures readers { OneFails (has_read_failed result) (S.failures source.old) (S.failures source.new) (F.failures feed.old) (F.failures feed.new) }
     ensures writer { has_write_failed result ≡ false }
     ensures source_first { S.told ≡ true → IsErr (assembled (S.left source.old)) → F.failures feed.new ≡ F.failures feed.old }
+    ensures feed_kept { S.told ≡ true → IsErr (assembled (S.left source.old)) → F.left feed.new ≡ F.left feed.old }
     ensures source_read { S.told ≡ true → TakesAtMost (most_read result) (S.left source.old) (S.left source.new) }
     ensures feed_read { F.told ≡ true → TakesAtMost (most_read result) (F.left feed.old) (F.left feed.new) }
 {
     match read_program(alloc, source) {
         Ok(program) => match read_feed(alloc, feed) {
-            Ok(()) => Ok(program),
+            Ok(feed) => Ok(Loaded { program, feed }),
             Err(fault) => Err(fault),
         },
         Err(fault) => Err(fault),
@@ -61,21 +67,21 @@ pub(crate) fn read_program<S: Read>(alloc: Global, source: &mut S) -> Result<Pro
     }
 }
 
-/// Reads the feed whole, and answers its first fault.
-pub(crate) fn read_feed<F: Read>(alloc: Global, feed: &mut F) -> Result<(), WorkshopFault>
-    ensures ok { F.told ≡ true → IfOk result (λ _. (p : spec.Program) → with_feed (F.left feed.old) (Ok p) ≡ Ok p) }
+/// Reads the feed.
+#[tactic(auto, using(crate::proofs::Feeds::within))]
+pub(crate) fn read_feed<F: Read>(alloc: Global, feed: &mut F) -> Result<Feed, WorkshopFault>
+    ensures ok { F.told ≡ true → IfOk result (λ is. (p : spec.Program) → with_feed (F.left feed.old) (Ok p) ≡ Ok (record { program = p; feed = is })) }
     ensures fault { F.told ≡ true → IfErr result (λ fault. (p : spec.Program) → Refuses (with_feed (F.left feed.old) (Ok p)) fault) }
     ensures writer { has_write_failed result ≡ false }
     ensures failures { F.failures feed.new ≡ failures_if (has_read_failed result) (F.failures feed.old) }
     ensures read { F.told ≡ true → TakesAtMost (most_read result) (F.left feed.old) (F.left feed.new) }
 {
-    let text = match read_whole(alloc, feed) {
-        Ok(text) => text,
-        Err(fault) => return Err(fault),
-    };
-    match first_fault(&text) {
-        None => Ok(()),
-        Some(fault) => Err(WorkshopFault::Feed(fault)),
+    match feed::read(alloc, feed) {
+        Ok(inputs) => Ok(inputs),
+        Err(FeedFault::NoMemory) => Err(WorkshopFault::NoMemory),
+        Err(FeedFault::ReadFailed) => Err(WorkshopFault::ReadFailed),
+        Err(FeedFault::TooLong) => Err(WorkshopFault::TooLong),
+        Err(fault) => Err(WorkshopFault::Feed(fault)),
     }
 }
 

@@ -1,13 +1,16 @@
 //! The engines of the programs: from the bytes of sources and feeds to the bytes that go out.
 #![tactic(auto)]
 
+mod assembly;
+#[cfg(test)]
+mod assembly_tests;
 mod channel_line;
 mod engine;
 mod fault;
-mod feed;
 mod inputs;
 #[cfg(test)]
 mod tests;
 
+pub use assembly::asm_engine;
 pub use engine::{Summary, run_engine};
-pub use fault::{FeedFault, WorkshopFault, report};
+pub use fault::{WorkshopFault, report};

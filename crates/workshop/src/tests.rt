@@ -1,6 +1,7 @@
 ghost use Rattle.std.specs.Prelude.{◌-◌, ◌≤◌, ◌^◌};
 
 use super::*;
+use feed::FeedFault;
 use std::alloc::{AllocError, Global};
 use words::Buffer;
 use words::faulty::{FaultyReader, FaultyWriter, Trouble};
@@ -71,6 +72,20 @@ fn no_steps_no_lines(rt: HostRuntime) {
 }
 
 #[test]
+fn empty_source_runs(rt: HostRuntime) {
+    let mut out = Buffer::new(rt.alloc());
+    assert_eq!(rt;
+        run(rt.alloc(), b"", b"", 3, &mut out),
+        Ok(Summary {
+            steps: 3,
+            cycles: 3,
+            outputs: 0,
+        })
+    );
+    assert_eq!(rt; out.as_slice(), b"".as_slice());
+}
+
+#[test]
 fn five_thousand_steps_write_a_thousand_lines(rt: HostRuntime) {
     let mut out = Buffer::new(rt.alloc());
     let summary = run(rt.alloc(), FIVE_PLUS_FIVE, b"", 5000, &mut out);
@@ -83,7 +98,7 @@ fn five_thousand_steps_write_a_thousand_lines(rt: HostRuntime) {
 
 #[test]
 fn first_faults_are_told(rt: HostRuntime) {
-    let rows: [(&[u8], &[u8], u64, WorkshopFault); 7] = [
+    let rows: [(&[u8], &[u8], u64, WorkshopFault); 6] = [
         (
             b" SETLOC 4000\n CA NOSUCH\n",
             b"",
@@ -91,22 +106,21 @@ fn first_faults_are_told(rt: HostRuntime) {
             source_fault(2, FaultKind::Undefined),
         ),
         (
-            b" SETLOC 4000\n DAS 100\n",
+            b" SETLOC 4000\n FROB 100\n",
             b"",
             1,
             source_fault(2, FaultKind::UnknownOperator),
         ),
         (
-            b" SETLOC 4000\n DAS 100\n",
+            b" SETLOC 4000\n FROB 100\n",
             b"0 RUPT 1\n",
             1,
             source_fault(2, FaultKind::UnknownOperator),
         ),
-        (b"", b"", 1, WorkshopFault::NotBuilt),
-        (b"", b"0 RUPT 1\n", 1, feed_fault(1)),
+        (b"", b"0 RUPT 11\n", 1, feed_fault(1)),
         (
             b"",
-            b"\n# nothing\n \t \n0 RUPT 1 # one\n\n",
+            b"\n# nothing\n \t \n0 RUPT 0 # one\n\n",
             0,
             feed_fault(4),
         ),
@@ -197,7 +211,7 @@ fn readers_in_trouble(rt: HostRuntime) {
 #[test]
 fn source_is_told_before_the_feed_is_read(rt: HostRuntime) {
     let mut out = Buffer::new(rt.alloc());
-    let mut source: &[u8] = b" SETLOC 4000\n DAS 100\n";
+    let mut source: &[u8] = b" SETLOC 4000\n FROB 100\n";
     let mut feed = FaultyReader::new(b"", Some(0));
     assert_eq!(rt;
         run_engine(rt.alloc(), &mut source, &mut feed, 4, &mut out),
@@ -238,7 +252,7 @@ fn faults_are_reported(rt: HostRuntime) {
             1,
         ),
         (WorkshopFault::TooLong, b"agcws: E34\n", 1),
-        (WorkshopFault::NotBuilt, b"agcws: E53\n", 1),
+        (WorkshopFault::Feed(FeedFault::TooMany), b"agcws: E32\n", 1),
     ];
     for (fault, text, status) in rows {
         let mut errors = Buffer::new(rt.alloc());

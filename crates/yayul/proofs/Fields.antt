@@ -8,7 +8,7 @@ use Rattle.agc_text.specs.declared.fields.Field.{Field}
 use Rattle.agc_text.specs.declared.fields.Line.{Line}
 use Rattle.yayul.specs.Operators.{operators}
 use Rattle.yayul.specs.Statements.{Arguments, arguments_in, operation_in, operation_of}
-use Rattle.yayul.specs.Tables.{value_in}
+use Rattle.agc_text.specs.Tables.{value_in}
 use Rattle.yayul.specs.Views.{text_of, arguments_of, operation_by}
 use Rattle.yayul.specs.declared.statement.Operation.TheVariants.{Nothing}
 

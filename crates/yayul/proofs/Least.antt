@@ -1,10 +1,9 @@
 -- The least fault of a list that grows, and of the faults of lines in order.
-use Rattle.std.proofs.Common.{◌≡◌, ◌≢◌, ℕ, suc, ◌+◌, ◌<◌, ◌≤◌, Bool, true, false, List, [], ◌∷◌, ◌++◌, length, map, take, drop, get_or, fold, Option, Some, None, refl, ap, sym, ◌∙◌, arith, append_assoc, inl, inr, cond}
-use Rattle.std.specs.List.{filter_map, cons_option, All}
+use Rattle.std.proofs.Common.{◌≡◌, ℕ, ◌+◌, ◌<◌, ◌≤◌, List, [], ◌∷◌, ◌++◌, length, take, get_or, fold, Option, Some, None, refl, ap, ◌∙◌, arith}
 use Rattle.std.proofs.lemmas.Bool.Decides.{nat_tests}
 use Rattle.std.proofs.lemmas.List.{take_more}
 use Rattle.yayul.specs.Layout.{or_else}
-use Rattle.yayul.specs.Faults.{number_of, lesser_kind, least_kind, lesser_if, standing, lesser, least, on_line}
+use Rattle.yayul.specs.Faults.{lesser_kind, least_kind, lesser_if, standing, lesser, least, on_line}
 use Rattle.yayul.specs.declared.fault.FaultKind.{FaultKind}
 use Rattle.yayul.specs.declared.fault.Fault.{Fault}
 

@@ -2,9 +2,13 @@ mod Codes
 mod Fields
 mod Names
 mod Rows
+mod ListingRows
 mod Least
 mod Lines
 mod Tables
 mod Taken
 mod Asked
 mod Completed
+mod Ends
+mod Decimals
+mod Fronts

@@ -1,9 +1,9 @@
-use Rattle.std.proofs.Common.{length, drop, get_or, ◌+◌, ◌<◌, ◌≡◌, ℕ, Bool, true, false, cond, List, [], ◌∷◌, ◌++◌, map, Option, Some, None, is_some, refl, ap, sym, ◌∙◌, inl, inr}
+use Rattle.std.proofs.Common.{length, drop, get_or, ◌+◌, ◌<◌, ◌≡◌, ℕ, Bool, false, cond, List, [], ◌∷◌, ◌++◌, map, Some, None, refl, ap, inl, inr}
 use Rattle.std.proofs.lemmas.List.{drop_more}
 use Rattle.std.proofs.lemmas.Bool.{cases_Bool}
 use Rattle.std.specs.Map.{lookup}
 use Rattle.indexmap.specs.IndexMap.{insert_entry}
-use Rattle.yayul.specs.Tables.{same_name, value_in}
+use Rattle.agc_text.specs.Tables.{same_name, value_in}
 
 -- two keys have the same bytes
 abbrev pub same_key : {K : Type 0} → (K → List ℕ) → K → K → Bool

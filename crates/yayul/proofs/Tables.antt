@@ -1,7 +1,7 @@
 use Rattle.std.proofs.Common.{◌≡◌, ◌<◌, ◌≤◌, ℕ, suc, Bool, true, List, [], ◌∷◌, length, nat_eq, None, IfSome, refl, ap, inl, inr, arith}
 use Rattle.std.proofs.lemmas.Bool.{cases_Bool, and_parts}
 use Rattle.std.specs.List.{All, list_all}
-use Rattle.yayul.specs.Tables.{same_name, value_in}
+use Rattle.agc_text.specs.Tables.{same_name, value_in}
 use Rattle.yayul.proofs.Names.{seen}
 
 -- names of the same bytes are of the same length

@@ -1,11 +1,16 @@
 -- Which places the requests of a layout take.
-use Rattle.std.proofs.Common.{◌≡◌, ℕ, ◌<◌, Bool, true, false, ◌&&◌, ◌||◌, ◌==◌, List, [], ◌∷◌, ◌++◌, map, Option, Some, None, is_some, cond, refl, ap, sym, ◌∙◌, arith}
-use Rattle.std.specs.List.{list_any, All}
+use Rattle.std.proofs.Common.{◌≡◌, ℕ, zero, suc, ◌+◌, ◌<◌, ◌≤◌, Bool, true, false, ◌&&◌, ◌||◌, ◌==◌, nat_lt, nat_le, List, [], ◌∷◌, ◌++◌, length, replicate, Option, Some, is_some, cond, refl, ap, sym, ◌∙◌, arith}
+use Rattle.std.specs.List.{list_any, flat_map}
+use Rattle.std.proofs.lemmas.List.{flat_map_more}
+use Rattle.std.proofs.lemmas.Bool.{lt-ltb}
+use Rattle.std.proofs.lemmas.Bool.Decides.{nat_tests}
 use Rattle.std.proofs.lemmas.List.Elements.{All-head, All-tail}
-use Rattle.rope.specs.Places.{Words, Placed, banks, bank_words, no_words, with_word, with_words, slot_at, stands}
-use Rattle.rope.proofs.PlaceLaws.{slot_at-with_word, slot_at-no_words, with_words-push}
-use Rattle.yayul.specs.Layout.{stands_at}
-use Rattle.yayul.specs.Sound.{zero_at, taken_by, AreWithin}
+use Rattle.rope.specs.Places.{Words, banks, bank_words, Placed, no_words, with_word, with_words, slot_at, stands}
+use Rattle.rope.proofs.PlaceLaws.{slot_at-with_word, slot_at-no_words, with_words-append}
+use Rattle.yayul.specs.Layout.{width, stands_at}
+use Rattle.yayul.specs.Placing.{placed_from}
+use Rattle.yayul.specs.Requests.{meets}
+use Rattle.yayul.specs.Sound.{zeros_at, taken_by, AreWithin}
 use Rattle.yayul.specs.declared.layout.WordRequest.{WordRequest}
 
 is_some-or : (b : Bool) (word : ℕ) (slot : Option ℕ) → is_some (cond b (Some word) slot) ≡ (b || is_some slot)
@@ -22,34 +27,78 @@ pub or-false : (a : Bool) → (a || false) ≡ a
 or-false true = refl
 or-false false = refl
 
--- a word stands where one of some was put, or one stood before
-pub stands-with_words : (f : WordRequest → ℕ) (rs : List WordRequest) (words : Words) (bank offset : ℕ) → AreWithin rs
-    → stands (with_words words (map (λ r. record { bank = r.bank; offset = r.offset; word = f r }) rs)) bank offset ≡ (list_any (stands_at bank offset) rs || stands words bank offset)
-stands-with_words f [] words bank offset within = refl
-stands-with_words f (r ∷ rs) words bank offset within =
-    let here : (r.bank < banks) × (r.offset < bank_words) = All-head (λ q. (q.bank < banks) × (q.offset < bank_words)) r rs within in
-    let rest : AreWithin rs = All-tail (λ q. (q.bank < banks) × (q.offset < bank_words)) r rs within in
-    stands-with_words f rs (with_word words r.bank r.offset (f r)) bank offset rest
-    ∙ ap (λ slot. list_any (stands_at bank offset) rs || is_some slot) (slot_at-with_word words r.bank r.offset (f r) bank offset here.0 here.1)
-    ∙ ap (λ b. list_any (stands_at bank offset) rs || b) (is_some-or (bank == r.bank && offset == r.offset) (f r) (slot_at words bank offset))
+or-assoc : (a b c : Bool) → (a || (b || c)) ≡ ((a || b) || c)
+or-assoc true b c = refl
+or-assoc false b c = refl
+
+-- neither of two holds
+pub or-parts : (a b : Bool) → (a || b) ≡ false → (a ≡ false) × (b ≡ false)
+or-parts true b e = absurd (cc)
+or-parts false b e = (refl, e)
+
+-- an offset is among none from another on
+among-none : (same : Bool) (first offset : ℕ) → (same && (nat_le first offset && nat_lt offset (first + 0))) ≡ false
+among-none same first offset = grind (arith, nat_tests)
+
+-- an offset is among some from another on, where it is that or among the rest
+among-more : (same : Bool) (first offset count : ℕ)
+    → ((same && (nat_le (first + 1) offset && nat_lt offset (first + 1 + count))) || (same && offset == first)) ≡ (same && (nat_le first offset && nat_lt offset (first + suc count)))
+among-more same first offset count = grind (arith, nat_tests)
+
+-- a request that meets none shares neither place
+pub meets_not : (others : List WordRequest) (r : WordRequest) → meets others r ≡ false
+    → (list_any (stands_at r.bank r.offset) others ≡ false) × (1 < width r.source → list_any (stands_at r.bank (r.offset + 1)) others ≡ false)
+meets_not others r e =
+    let parts = or-parts (list_any (stands_at r.bank r.offset) others) (nat_lt 1 (width r.source) && list_any (stands_at r.bank (r.offset + 1)) others) e in
+    (parts.0, λ two. rw (lt-ltb 1 (width r.source) two) at parts.1)
+
+-- words stand where some were put from a place on, or where they stood before
+pub stands-placed_from : (ws : List ℕ) (words : Words) (b o bank offset : ℕ) → b < banks → o + length ws ≤ bank_words
+    → stands (with_words words (placed_from b o ws)) bank offset ≡ ((bank == b && (nat_le o offset && nat_lt offset (o + length ws))) || stands words bank offset)
+stands-placed_from [] words b o bank offset in_banks room =
+    ap (λ (x : Bool). x || stands words bank offset) (sym (among-none (bank == b) o offset))
+stands-placed_from (w ∷ ws) words b o bank offset in_banks room =
+    stands-placed_from ws (with_word words b o w) b (o + 1) bank offset in_banks (omega (arith, room))
+    ∙ ap (λ slot. (bank == b && (nat_le (o + 1) offset && nat_lt offset (o + 1 + length ws))) || is_some slot) (slot_at-with_word words b o w bank offset in_banks (omega (arith, room)))
+    ∙ ap (λ x. (bank == b && (nat_le (o + 1) offset && nat_lt offset (o + 1 + length ws))) || x) (is_some-or (bank == b && offset == o) w (slot_at words bank offset))
+    ∙ or-assoc (bank == b && (nat_le (o + 1) offset && nat_lt offset (o + 1 + length ws))) (bank == b && offset == o) (stands words bank offset)
+    ∙ ap (λ x. x || stands words bank offset) (among-more (bank == b) o offset (length ws))
+
+-- words stand where requests put as many as they ask for, or where they stood before
+pub stands-with_words : (f : WordRequest → List ℕ) → ((r : WordRequest) → length (f r) ≡ width r.source) → (rs : List WordRequest) (words : Words) (bank offset : ℕ) → AreWithin rs
+    → stands (with_words words (flat_map (λ r. placed_from r.bank r.offset (f r)) rs)) bank offset ≡ (list_any (stands_at bank offset) rs || stands words bank offset)
+stands-with_words f wide [] words bank offset within = refl
+stands-with_words f wide (r ∷ rs) words bank offset within =
+    let here : (r.bank < banks) × (r.offset + width r.source ≤ bank_words) = All-head (λ q. (q.bank < banks) × (q.offset + width q.source ≤ bank_words)) r rs within in
+    let rest : AreWithin rs = All-tail (λ q. (q.bank < banks) × (q.offset + width q.source ≤ bank_words)) r rs within in
+    ap (λ ws. stands ws bank offset) (with_words-append words (placed_from r.bank r.offset (f r)) (flat_map (λ r. placed_from r.bank r.offset (f r)) rs))
+    ∙ stands-with_words f wide rs (with_words words (placed_from r.bank r.offset (f r))) bank offset rest
+    ∙ ap (λ x. list_any (stands_at bank offset) rs || x) (stands-placed_from (f r) words r.bank r.offset bank offset here.0 (rw (wide r) here.1))
+    ∙ ap (λ n. list_any (stands_at bank offset) rs || ((bank == r.bank && (nat_le r.offset offset && nat_lt offset (r.offset + n))) || stands words bank offset)) (wide r)
     ∙ or-swap (list_any (stands_at bank offset) rs) (stands_at bank offset r) (stands words bank offset)
+
+pub length-zeros : (n : ℕ) → length {A = ℕ} (replicate n 0) ≡ n
+length-zeros zero = refl
+length-zeros (suc n) = ap suc (length-zeros n)
 
 -- a place is taken where a request asks for its word
 pub stands-taken_by : (rs : List WordRequest) (bank offset : ℕ) → AreWithin rs → stands (taken_by rs) bank offset ≡ list_any (stands_at bank offset) rs
 unfolding taken_by
 stands-taken_by rs bank offset within =
-    stands-with_words (λ r. 0) rs no_words bank offset within
+    stands-with_words (λ r. replicate (width r.source) 0) (λ r. length-zeros (width r.source)) rs no_words bank offset within
     ∙ ap (λ slot. list_any (stands_at bank offset) rs || is_some slot) (slot_at-no_words bank offset)
     ∙ or-false (list_any (stands_at bank offset) rs)
 
-pub map-push : {A B : Type 0} (f : A → B) (xs : List A) (x : A) → map f (xs ++ x ∷ []) ≡ map f xs ++ f x ∷ []
-map-push f [] x = refl
-map-push f (y ∷ xs) x = ap (λ ys. f y ∷ ys) (map-push f xs x)
+-- one more is mapped to a list
+pub with_words-more : (words : Words) (f : WordRequest → List Placed) (rs : List WordRequest) (r : WordRequest)
+    → with_words words (flat_map f (rs ++ r ∷ [])) ≡ with_words (with_words words (flat_map f rs)) (f r)
+with_words-more words f rs r =
+    ap (with_words words) (sym (flat_map_more f [] rs r)) ∙ with_words-append words (flat_map f rs) (f r)
 
--- one request more takes one place more
-pub taken_by-push : (rs : List WordRequest) (r : WordRequest) → taken_by (rs ++ r ∷ []) ≡ with_word (taken_by rs) r.bank r.offset 0
+-- one request more takes its places more
+pub taken_by-push : (rs : List WordRequest) (r : WordRequest) → taken_by (rs ++ r ∷ []) ≡ with_words (taken_by rs) (zeros_at r)
 unfolding taken_by
-taken_by-push rs r = ap (with_words no_words) (map-push zero_at rs r) ∙ with_words-push no_words (map zero_at rs) (zero_at r)
+taken_by-push rs r = with_words-more no_words zeros_at rs r
 
 pub taken_by-none : taken_by [] ≡ no_words
 unfolding taken_by

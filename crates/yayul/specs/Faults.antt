@@ -1,5 +1,5 @@
 -- The faults of a source and their order.
-use Rattle.std.specs.Prelude.{ℕ, Bool, ◌&&◌, ◌||◌, ◌==◌, nat_lt, if◌then◌else◌, List, [], ◌∷◌, Option, None, Some, Result, map, fold}
+use Rattle.std.specs.Prelude.{◌≡◌, ◌≢◌, ℕ, Bool, ◌&&◌, ◌||◌, ◌==◌, nat_lt, if◌then◌else◌, List, [], ◌∷◌, Option, None, Some, map, fold}
 use Rattle.std.specs.List.{filter_map}
 use Rattle.yayul.specs.declared.fault.FaultKind.{FaultKind}
 use Rattle.yayul.specs.declared.fault.FaultKind.TheVariants.{NoMemory, NotAscii, LongLine, TooManyLines, BadLabel, TwiceDefined, UnknownOperator, BadOperand, Undefined, UsedTooEarly, BadBank, BankFull, PlaceTaken, CodeInErasable, NeedsExtend, NotExtracode, WrongKindOfAddress, OutOfRange}
@@ -61,3 +61,7 @@ least (f ∷ fs) = Some (fold lesser f fs)
 -- faults of these kinds on a line
 abbrev pub on_line : ℕ → List FaultKind → List Fault
 on_line line kinds = map (λ kind. record { line = line; kind = kind }) kinds
+
+-- what is expected of a fault that is told, unless memory ran out, which no line is named for
+abbrev pub IsTold : Type 0 → Fault → Type 0
+IsTold expected fault = (fault.kind ≢ NoMemory → expected) × (fault.kind ≡ NoMemory → fault.line ≡ 0)

@@ -1,7 +1,7 @@
 pub mod Faults
 pub mod Names
-pub mod Tables
 pub mod Values
+pub mod Decimals
 pub mod Operators
 pub mod Codes
 pub mod Operands
@@ -9,8 +9,11 @@ pub mod Statements
 pub mod Views
 pub mod Layout
 pub mod Words
+pub mod Placing
+pub mod Marks
 pub mod Assembled
 pub mod Program
+pub mod Listing
 pub mod Requests
 pub mod Passes
 pub mod Sound

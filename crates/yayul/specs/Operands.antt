@@ -1,8 +1,8 @@
 -- Operands: their form, and their value.
-use Rattle.std.specs.Prelude.{ℕ, ◌-◌, ◌+◌, ◌==◌, Bool, nat_le, List, [], ◌∷◌, drop, length, Option, None, Some, Result, Ok, Err, ok_or, if◌then◌else◌, option_and_then}
+use Rattle.std.specs.Prelude.{ℕ, ◌-◌, ◌+◌, ◌==◌, nat_le, List, drop, Option, None, Some, Result, Ok, Err, ok_or, if◌then◌else◌, option_and_then}
 use Rattle.std.specs.Option.{option_map}
 use Rattle.yayul.specs.Names.{plus_sign, minus_sign, is_sign, first_is, number_in, is_name, greatest_number, up_to}
-use Rattle.yayul.specs.Tables.{value_in}
+use Rattle.agc_text.specs.Tables.{value_in}
 use Rattle.yayul.specs.declared.operand.Term.{Term}
 use Rattle.yayul.specs.declared.operand.Term.TheVariants.{Number, Named, Here}
 use Rattle.yayul.specs.declared.operand.Shift.{Shift}

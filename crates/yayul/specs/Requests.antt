@@ -1,7 +1,7 @@
 -- What the requests of faultless lines keep: their lines rise, and no two share a place.
-use Rattle.std.specs.Prelude.{◌≡◌, ℕ, ◌+◌, ◌≤◌, false, List, [], ◌∷◌, ◌++◌}
+use Rattle.std.specs.Prelude.{◌≡◌, ℕ, ◌+◌, ◌≤◌, Bool, false, ◌&&◌, ◌||◌, nat_lt, List, [], ◌∷◌, ◌++◌}
 use Rattle.std.specs.List.{list_any}
-use Rattle.yayul.specs.Layout.{stands_at}
+use Rattle.yayul.specs.Layout.{width, stands_at}
 use Rattle.yayul.specs.declared.layout.WordRequest.{WordRequest}
 
 -- requests of lines from a number on
@@ -19,13 +19,18 @@ abbrev pub AreRising : List WordRequest → Type 0
 AreRising [] = Unit {0}
 AreRising (r ∷ rs) = AreFrom (r.line + 1) rs × AreRising rs
 
--- no request shares its place with one before it
+-- a request asks for a place of one or two that others ask for
+abbrev pub meets : List WordRequest → WordRequest → Bool
+meets others r =
+    list_any (stands_at r.bank r.offset) others || (nat_lt 1 (width r.source) && list_any (stands_at r.bank (r.offset + 1)) others)
+
+-- no request shares a place with one before it
 abbrev pub AreApart : List WordRequest → List WordRequest → Type 0
 AreApart before [] = Unit {0}
-AreApart before (r ∷ rs) = (list_any (stands_at r.bank r.offset) before ≡ false) × AreApart (before ++ r ∷ []) rs
+AreApart before (r ∷ rs) = (meets before r ≡ false) × AreApart (before ++ r ∷ []) rs
 
--- what one line asks for: nothing, or one word at a place that no earlier line asks for
+-- what one line asks for: nothing, or words at places that no earlier line asks for
 abbrev pub IsNext : ℕ → List WordRequest → List WordRequest → Type 0
 IsNext line before [] = Unit {0}
-IsNext line before (r ∷ []) = (r.line ≡ line) × (list_any (stands_at r.bank r.offset) before ≡ false)
+IsNext line before (r ∷ []) = (r.line ≡ line) × (meets before r ≡ false)
 IsNext line before (r ∷ q ∷ more) = ⊥

@@ -5,7 +5,7 @@ use Rattle.agc_text.specs.declared.fields.Field.{Field}
 use Rattle.agc_text.specs.declared.fields.Line.{Line}
 use Rattle.yayul.specs.Operators.{operators}
 use Rattle.yayul.specs.Statements.{Arguments, operation_of}
-use Rattle.yayul.specs.Tables.{value_in}
+use Rattle.agc_text.specs.Tables.{value_in}
 use Rattle.yayul.specs.declared.statement.Operation.{Operation}
 use Rattle.yayul.specs.declared.statement.Operation.TheVariants.{Nothing}
 

@@ -1,7 +1,7 @@
-//! Instructions whose words have 15 bits.
+//! Codes whose words have 15 bits.
 
 ghost use Rattle.std.specs.Prelude.{◌≡◌, ◌≤◌};
-ghost use Rattle.yayul.specs.Codes.{greatest_code, greatest_least};
+ghost use Rattle.yayul.specs.Codes.{greatest_code, greatest_with_field};
 
 use crate::operator::{AddressedCode, PlainCode};
 use std::marker::Model;
@@ -43,7 +43,7 @@ impl PlainInstruction {
     }
 }
 
-/// An instruction with an operand, whose code has 15 bits with any address of 12 bits added.
+/// A code with a field, which has 15 bits with any field added.
 #[derive(Clone, Copy, Drop)]
 pub struct AddressedInstruction {
     code: AddressedCode,
@@ -51,21 +51,21 @@ pub struct AddressedInstruction {
 
 impl Model for AddressedInstruction {
     ghost use Rattle.std.specs.Prelude.{◌≤◌};
-    ghost use Rattle.yayul.specs.Codes.{greatest_least};
+    ghost use Rattle.yayul.specs.Codes.{greatest_code, greatest_with_field};
     ghost use Rattle.yayul.specs.declared.operator.AddressedCode.{AddressedCode as Code};
 
     ghost Value = { Code };
 
     ghost view = { λ i. i.code };
 
-    ghost invariant = { λ i. i.code.least ≤ greatest_least };
+    ghost invariant = { λ i. greatest_with_field i.code ≤ greatest_code };
 
     ghost inverse = { λ c. record { code = c } };
 }
 
 impl AddressedInstruction {
     pub(crate) fn new(code: AddressedCode) -> AddressedInstruction
-        requires { code.least ≤ greatest_least }
+        requires { greatest_with_field code ≤ greatest_code }
         ensures { result ≡ code }
     {
         AddressedInstruction { code }
@@ -74,7 +74,7 @@ impl AddressedInstruction {
     /// Its code.
     pub fn code(self) -> AddressedCode
         ensures value { result ≡ self }
-        ensures fits { result.least ≤ greatest_least }
+        ensures fits { greatest_with_field result ≤ greatest_code }
     {
         self.code
     }

@@ -2,11 +2,14 @@
 #![tactic(auto)]
 
 pub mod bank;
+mod decimal;
 pub mod fault;
 pub mod instruction;
 mod laid_out;
 mod lay_out;
 pub mod layout;
+mod listing;
+mod mark;
 pub mod name;
 mod number;
 pub mod operand;
@@ -19,3 +22,8 @@ pub mod value;
 mod word;
 
 pub use passes::assemble;
+
+#[cfg(test)]
+mod source_tests;
+#[cfg(test)]
+mod tests;

@@ -1,10 +1,15 @@
 //! The operators of the source language.
 
-ghost use Rattle.std.specs.Prelude.{◌≡◌, true, IfSome};
+ghost use Rattle.std.specs.Prelude.{◌≡◌, ◌≤◌, true, IfSome};
+ghost use Rattle.std.specs.Option.{SomeIff};
 ghost use Rattle.yayul.specs.Codes.{has_room};
-ghost use Rattle.yayul.specs.Operators.{operators, named};
-ghost use Rattle.yayul.specs.Tables.{value_in};
-ghost use Rattle.yayul.specs.Words.{needs_extend};
+ghost use Rattle.yayul.specs.Layout.{is_bank};
+ghost use Rattle.agc_text.specs.Tables.{named};
+ghost use Rattle.yayul.specs.Operators.{operators};
+ghost use Rattle.agc_text.specs.Tables.{value_in};
+ghost use Rattle.yayul.specs.Words.{field_size, needs_extend, is_barred};
+
+use crate::bank::FixedBank;
 
 /// Whether an instruction is an extracode.
 #[derive(Clone, Copy, Drop)]
@@ -13,6 +18,8 @@ pub enum Extracode {
     No,
     /// A code that needs extracode in force.
     Yes,
+    /// A code with and without extracode in force. Under extracode its field has 12 bits, and extracode stays in force.
+    Either,
 }
 
 impl Extracode {
@@ -23,21 +30,63 @@ impl Extracode {
         match self {
             Extracode::No => false,
             Extracode::Yes => true,
+            Extracode::Either => false,
+        }
+    }
+
+    /// Whether extracode must not be in force.
+    pub(crate) fn is_barred(self) -> bool
+        ensures { result ≡ is_barred self }
+    {
+        match self {
+            Extracode::No => true,
+            Extracode::Yes => false,
+            Extracode::Either => false,
         }
     }
 }
 
-/// What the operand of an instruction has to be.
+/// How many bits an address or a channel's number has.
+#[derive(Clone, Copy, Drop)]
+pub enum Bits {
+    /// A channel's number.
+    Nine,
+    /// An address below 02000.
+    Ten,
+    /// An address.
+    Twelve,
+}
+
+impl Bits {
+    /// How many numbers so many bits tell apart.
+    pub(crate) fn size(self) -> u16
+        ensures value { result ≡ field_size self }
+        ensures some { 1 ≤ result }
+        ensures few { result ≤ 0o10000 }
+    {
+        match self {
+            Bits::Nine => 0o1000,
+            Bits::Ten => 0o2000,
+            Bits::Twelve => 0o10000,
+        }
+    }
+}
+
+/// What the field of a code holds.
 #[derive(Clone, Copy, Drop)]
 pub enum Takes {
-    /// An address of 12 bits.
-    Address12,
-    /// An address of 10 bits: below 02000.
-    Address10,
+    /// An address of so many bits.
+    Address,
+    /// The address, of so many bits, of the first of two words; the field holds the next address, in the same bits.
+    Pair,
     /// An address of fixed memory: from 02000 on.
     FixedAddress,
-    /// A channel's number: below 01000.
+    /// A channel's number of so many bits.
     Channel,
+    /// The number of an erasable place.
+    ErasablePlace,
+    /// A fixed place: the bank as FB holds it, and the offset.
+    FixedPlace,
 }
 
 /// An instruction without an operand: its code.
@@ -47,12 +96,35 @@ pub struct PlainCode {
     pub extracode: Extracode,
 }
 
-/// An instruction with an operand: its least code, to which the operand's address is added.
+/// A code with a field: the least code, to which the field is added.
 #[derive(Clone, Copy, Drop)]
 pub struct AddressedCode {
     pub least: u16,
+    pub bits: Bits,
     pub extracode: Extracode,
     pub takes: Takes,
+}
+
+/// The banks that an operator takes.
+#[derive(Clone, Copy, Drop)]
+pub enum Banks {
+    /// All banks of fixed memory.
+    All,
+    /// Banks 2 and 3.
+    TwoOrThree,
+}
+
+impl Banks {
+    /// The number as a bank, where the operator takes it.
+    pub(crate) fn bank(self, number: u16) -> Option<FixedBank>
+        ensures { SomeIff result (is_bank self number ≡ true) number }
+    {
+        match self {
+            Banks::All => FixedBank::try_new(number),
+            Banks::TwoOrThree if number == 2 || number == 3 => FixedBank::try_new(number),
+            Banks::TwoOrThree => None,
+        }
+    }
 }
 
 /// What an operator does.
@@ -60,65 +132,142 @@ pub struct AddressedCode {
 pub enum Operator {
     /// Moves the location.
     Setloc,
+    /// Moves the location past the words of a bank.
+    Bank(Banks),
+    /// Passes erasable words.
+    Erase,
+    /// Gives its label the value of an operand.
+    Equals,
+    /// Sets the erasable bank of 2CADR.
+    Ebank,
     /// Gives a word of octal digits.
     Octal,
+    /// Gives the word of a decimal constant.
+    Decimal,
+    /// Gives the address of a fixed place, and a word of what selects it.
+    FarAddress,
     /// Gives the word of an instruction without an operand.
     Plain(PlainCode),
-    /// Gives the word of an instruction with an operand.
+    /// Gives the word of a code with an operand in its field.
     Addressed(AddressedCode),
+    /// Gives the word of a code with the next location in its field.
+    ToNext(AddressedCode),
+}
+
+// An instruction without an operand: its code, and whether it is an extracode.
+macro_rules! plain {
+    ($code:literal, $extracode:ident) => {
+        Operator::Plain(PlainCode {
+            code: $code,
+            extracode: Extracode::$extracode,
+        })
+    };
+}
+
+// A code with a field: the least code, the bits of an address or a channel, whether it is an extracode, and what the field holds.
+macro_rules! code {
+    ($least:literal, $bits:ident, $extracode:ident, $takes:ident) => {
+        AddressedCode {
+            least: $least,
+            bits: Bits::$bits,
+            extracode: Extracode::$extracode,
+            takes: Takes::$takes,
+        }
+    };
+}
+
+macro_rules! addressed {
+    ($least:literal, $bits:ident, $extracode:ident, $takes:ident) => {
+        Operator::Addressed(code!($least, $bits, $extracode, $takes))
+    };
+}
+
+// A constant of an address or a place, which is the whole word.
+macro_rules! constant {
+    ($takes:ident) => {
+        addressed!(0o0, Twelve, No, $takes)
+    };
+}
+
+macro_rules! to_next {
+    ($least:literal, $bits:ident, $extracode:ident, $takes:ident) => {
+        Operator::ToNext(code!($least, $bits, $extracode, $takes))
+    };
 }
 
 /// Each operator by its name.
-const OPERATORS: [(&str, Operator); 8] = [
+const OPERATORS: [(&str, Operator); 71] = [
     ("SETLOC", Operator::Setloc),
+    ("BANK", Operator::Bank(Banks::All)),
+    ("BLOCK", Operator::Bank(Banks::TwoOrThree)),
+    ("ERASE", Operator::Erase),
+    ("EQUALS", Operator::Equals),
+    ("=", Operator::Equals),
+    ("EBANK=", Operator::Ebank),
     ("OCT", Operator::Octal),
-    (
-        "CA",
-        Operator::Addressed(AddressedCode {
-            least: 0o30000,
-            extracode: Extracode::No,
-            takes: Takes::Address12,
-        }),
-    ),
-    (
-        "AD",
-        Operator::Addressed(AddressedCode {
-            least: 0o60000,
-            extracode: Extracode::No,
-            takes: Takes::Address12,
-        }),
-    ),
-    (
-        "TS",
-        Operator::Addressed(AddressedCode {
-            least: 0o54000,
-            extracode: Extracode::No,
-            takes: Takes::Address10,
-        }),
-    ),
-    (
-        "TCF",
-        Operator::Addressed(AddressedCode {
-            least: 0o10000,
-            extracode: Extracode::No,
-            takes: Takes::FixedAddress,
-        }),
-    ),
-    (
-        "EXTEND",
-        Operator::Plain(PlainCode {
-            code: 0o6,
-            extracode: Extracode::No,
-        }),
-    ),
-    (
-        "WRITE",
-        Operator::Addressed(AddressedCode {
-            least: 0o1000,
-            extracode: Extracode::Yes,
-            takes: Takes::Channel,
-        }),
-    ),
+    ("DEC", Operator::Decimal),
+    ("ADRES", constant!(Address)),
+    ("ECADR", constant!(ErasablePlace)),
+    ("CADR", constant!(FixedPlace)),
+    ("FCADR", constant!(FixedPlace)),
+    ("2CADR", Operator::FarAddress),
+    ("TC", addressed!(0o0, Twelve, No, Address)),
+    ("TCR", addressed!(0o0, Twelve, No, Address)),
+    ("CCS", addressed!(0o10000, Ten, No, Address)),
+    ("TCF", addressed!(0o10000, Twelve, No, FixedAddress)),
+    ("DAS", addressed!(0o20000, Ten, No, Pair)),
+    ("LXCH", addressed!(0o22000, Ten, No, Address)),
+    ("INCR", addressed!(0o24000, Ten, No, Address)),
+    ("ADS", addressed!(0o26000, Ten, No, Address)),
+    ("CA", addressed!(0o30000, Twelve, No, Address)),
+    ("CAE", addressed!(0o30000, Ten, No, Address)),
+    ("CAF", addressed!(0o30000, Twelve, No, FixedAddress)),
+    ("CS", addressed!(0o40000, Twelve, No, Address)),
+    ("INDEX", addressed!(0o50000, Ten, Either, Address)),
+    ("NDX", addressed!(0o50000, Ten, Either, Address)),
+    ("DXCH", addressed!(0o52000, Ten, No, Pair)),
+    ("TS", addressed!(0o54000, Ten, No, Address)),
+    ("XCH", addressed!(0o56000, Ten, No, Address)),
+    ("AD", addressed!(0o60000, Twelve, No, Address)),
+    ("MASK", addressed!(0o70000, Twelve, No, Address)),
+    ("MSK", addressed!(0o70000, Twelve, No, Address)),
+    ("READ", addressed!(0o0, Nine, Yes, Channel)),
+    ("WRITE", addressed!(0o1000, Nine, Yes, Channel)),
+    ("RAND", addressed!(0o2000, Nine, Yes, Channel)),
+    ("WAND", addressed!(0o3000, Nine, Yes, Channel)),
+    ("ROR", addressed!(0o4000, Nine, Yes, Channel)),
+    ("WOR", addressed!(0o5000, Nine, Yes, Channel)),
+    ("RXOR", addressed!(0o6000, Nine, Yes, Channel)),
+    ("DV", addressed!(0o10000, Ten, Yes, Address)),
+    ("BZF", addressed!(0o10000, Twelve, Yes, FixedAddress)),
+    ("MSU", addressed!(0o20000, Ten, Yes, Address)),
+    ("QXCH", addressed!(0o22000, Ten, Yes, Address)),
+    ("AUG", addressed!(0o24000, Ten, Yes, Address)),
+    ("DIM", addressed!(0o26000, Ten, Yes, Address)),
+    ("DCA", addressed!(0o30000, Twelve, Yes, Pair)),
+    ("DCS", addressed!(0o40000, Twelve, Yes, Pair)),
+    ("SU", addressed!(0o60000, Ten, Yes, Address)),
+    ("BZMF", addressed!(0o60000, Twelve, Yes, FixedAddress)),
+    ("MP", addressed!(0o70000, Twelve, Yes, Address)),
+    ("RELINT", plain!(0o3, No)),
+    ("INHINT", plain!(0o4, No)),
+    ("EXTEND", plain!(0o6, No)),
+    ("RESUME", plain!(0o50017, No)),
+    ("XXALQ", plain!(0o0, No)),
+    ("XLQ", plain!(0o1, No)),
+    ("RETURN", plain!(0o2, No)),
+    ("DDOUBL", plain!(0o20001, No)),
+    ("ZL", plain!(0o22007, No)),
+    ("COM", plain!(0o40000, No)),
+    ("DTCF", plain!(0o52005, No)),
+    ("DTCB", plain!(0o52006, No)),
+    ("OVSK", plain!(0o54000, No)),
+    ("TCAA", plain!(0o54005, No)),
+    ("DOUBLE", plain!(0o60000, No)),
+    ("ZQ", plain!(0o22007, Yes)),
+    ("DCOM", plain!(0o40001, Yes)),
+    ("SQUARE", plain!(0o70000, Yes)),
+    ("NOOP", to_next!(0o10000, Twelve, No, FixedAddress)),
 ];
 
 /// The operator of a name.

@@ -1,13 +1,15 @@
 //! The passes over a source.
 
-ghost use Rattle.std.specs.Prelude.{◌≡◌, ◌≢◌, []};
+ghost use Rattle.std.specs.Prelude.{◌≡◌, ◌≢◌, ◌++◌, [], OnOk};
 ghost use Rattle.std.specs.Result.{result_err};
 ghost use Rattle.agc_text.specs.Lines.{lines};
-ghost use Rattle.yayul.specs.Completing.{Gives, Assembles, Completes, PlacesWords};
+ghost use Rattle.yayul.specs.Completing.{Gives, Assembles, PlacesWords};
 ghost use Rattle.yayul.specs.Faults.{least_kind, standing};
 ghost use Rattle.yayul.specs.LaidOut.{layout_of};
 ghost use Rattle.yayul.specs.Laying.{LaysOut};
-ghost use Rattle.yayul.specs.Program.{program};
+ghost use Rattle.yayul.specs.Layout.{start};
+ghost use Rattle.yayul.specs.Marks.{marks_of};
+ghost use Rattle.yayul.specs.Program.{program, completed};
 ghost use Rattle.yayul.specs.Requests.{AreRising, AreApart};
 ghost use Rattle.yayul.specs.Sound.{AreWithin};
 ghost use Rattle.yayul.specs.Words.{request_conditions};
@@ -15,28 +17,30 @@ ghost use Rattle.yayul.specs.Words.{request_conditions};
 use crate::fault::{Fault, FaultKind, least_fault};
 use crate::laid_out::LaidOut;
 use crate::layout::WordRequest;
+use crate::mark::Marks;
 use crate::program::Program;
 use crate::symbols::Symbols;
-use crate::word::source_word;
+use crate::word::{LineWords, put_words, source_words};
 use agc_text::next_line;
 use rope::Rope;
 use std::alloc::Global;
-use words::Word;
 
 /// Assembles a source: its program, or its least fault. A fault of kind `NoMemory` says nothing of the
 /// source, and stands on line 0.
 pub fn assemble(alloc: Global, source: &[u8]) -> Result<Program, Fault>
     ensures { Assembles (program source.now) result }
 {
-    match lay_out(alloc, source) {
-        Ok(laid_out) => complete(alloc, laid_out),
+    let mut marks = Marks::new(alloc);
+    match lay_out(alloc, source, &mut marks) {
+        Ok(laid_out) => complete(alloc, laid_out, source, marks),
         Err(fault) => Err(fault),
     }
 }
 
-/// Lays out the lines of a source, up to the first fault.
-fn lay_out(alloc: Global, source: &[u8]) -> Result<LaidOut, Fault>
-    ensures { LaysOut (lines source.now) result }
+/// Lays out the lines of a source, up to the first fault, and appends what each shows in the listing.
+fn lay_out(alloc: Global, source: &[u8], marks: &mut Marks) -> Result<LaidOut, Fault>
+    ensures lays_out { LaysOut (lines source.now) result }
+    ensures marks { OnOk result (marks.new ≡ marks.old ++ marks_of 1 start (lines source.now)) }
 {
     let mut laid_out = match LaidOut::start(alloc) {
         Ok(start) => start,
@@ -46,7 +50,10 @@ fn lay_out(alloc: Global, source: &[u8]) -> Result<LaidOut, Fault>
     let mut line = 1;
     while let Some((text, after)) = next_line(rest) {
         match laid_out.line(line, text) {
-            Ok(()) => rest = after,
+            Ok(mark) => match marks.push(mark) {
+                Ok(()) => rest = after,
+                Err(_) => return Err(fault_on(line, FaultKind::NoMemory)),
+            },
             Err(kind) => return Err(fault_on(line, kind)),
         }
         line += 1;
@@ -67,18 +74,21 @@ fn fault_on(line: u32, kind: FaultKind) -> Fault
 }
 
 /// Makes the words that lines ask for, up to the first fault.
-fn complete(alloc: Global, laid_out: LaidOut) -> Result<Program, Fault>
+fn complete(alloc: Global, laid_out: LaidOut, source: &[u8], marks: Marks) -> Result<Program, Fault>
     requires rising { AreRising laid_out.requests.items }
     requires apart { AreApart [] laid_out.requests.items }
-    ensures { Completes (layout_of laid_out) result }
+    ensures { Assembles (completed (layout_of laid_out) source.now marks) result }
 {
     let LaidOut {
         symbols,
         requests,
         ..
     } = laid_out;
+    let Ok(text) = Vec::from_slice(alloc, source) else {
+        return Err(fault_on(0, FaultKind::NoMemory));
+    };
     match place_words(alloc, &symbols, &requests) {
-        Ok(rope) => Ok(Program::new(rope, symbols)),
+        Ok(rope) => Ok(Program::new(rope, symbols, text, marks)),
         Err(fault) => Err(fault),
     }
 }
@@ -94,41 +104,41 @@ fn place_words(alloc: Global, symbols: &Symbols, requests: &[WordRequest]) -> Re
         return Err(fault_on(0, FaultKind::NoMemory));
     };
     for request in requests {
-        match word_of(symbols, request) {
-            Ok(word) => rope.put(request.bank.bank(), request.offset, word),
+        match request_words(symbols, request) {
+            Ok(words) => put_words(&mut rope, request.bank, request.offset, words),
             Err(kind) => return Err(fault_on(request.line, kind)),
         }
     }
     Ok(rope)
 }
 
-// The word of a request, or its least fault.
-fn word_of(symbols: &Symbols, request: &WordRequest) -> Result<Word, FaultKind>
+// The words of a request, or its least fault.
+fn request_words(symbols: &Symbols, request: &WordRequest) -> Result<LineWords, FaultKind>
     ensures { Gives symbols.now request.now result }
 {
-    let word = source_word(symbols, request.bank, request.offset, &request.source);
-    match request_fault(request, &word) {
+    let words = source_words(symbols, request);
+    match request_fault(request, &words) {
         Some(kind) => Err(kind),
-        None => word,
+        None => words,
     }
 }
 
-// The least fault of a request that comes to a word.
-fn request_fault(request: &WordRequest, word: &Result<Word, FaultKind>) -> Option<FaultKind>
-    ensures { result ≡ least_kind (standing (request_conditions request.now word.now)) }
+// The least fault of a request that comes to words or a fault.
+fn request_fault(request: &WordRequest, words: &Result<LineWords, FaultKind>) -> Option<FaultKind>
+    ensures { result ≡ least_kind (standing (request_conditions request.now words.now)) }
 {
-    let is_extracode = request.source.is_extracode();
+    let extracode = request.source.extracode();
     least_fault(&[
-        fault_of(word),
-        FaultKind::NeedsExtend.when(is_extracode && !request.extracode),
-        FaultKind::NotExtracode.when(!is_extracode && request.extracode),
+        fault_of(words),
+        FaultKind::NeedsExtend.when(extracode.needs_extend() && !request.extracode),
+        FaultKind::NotExtracode.when(extracode.is_barred() && request.extracode),
     ])
 }
 
-fn fault_of(word: &Result<Word, FaultKind>) -> Option<FaultKind>
-    ensures { result ≡ result_err word.now }
+fn fault_of(words: &Result<LineWords, FaultKind>) -> Option<FaultKind>
+    ensures { result ≡ result_err words.now }
 {
-    match word {
+    match words {
         Ok(_) => None,
         Err(kind) => Some(*kind),
     }

@@ -1,7 +1,8 @@
 //! Symbols and their values, in order of definition.
 
-ghost use Rattle.std.specs.Prelude.{◌≡◌, ◌≤◌, [], ◌∷◌, ◌++◌, None, OnOk, OnErr, length};
-ghost use Rattle.yayul.specs.Tables.{value_in};
+ghost use Rattle.std.specs.Prelude.{◌≡◌, ◌≤◌, [], ◌∷◌, ◌++◌, None, OnOk, OnErr, IfSome, length, slice_get};
+ghost use Rattle.std.specs.Option.{option_map};
+ghost use Rattle.agc_text.specs.Tables.{value_in};
 
 use crate::name::{NAME_LENGTH, Name};
 use crate::value::Value;
@@ -47,6 +48,22 @@ impl Symbols {
             return None;
         }
         values.get(&key_of(name)).copied()
+    }
+
+    /// How many symbols there are.
+    pub(crate) fn len(&self) -> usize
+        ensures { result ≡ length self.now }
+    {
+        self.values.len()
+    }
+
+    /// The name and the value of the symbol that was defined after so many others.
+    pub(crate) fn entry(&self, index: usize) -> Option<(&[u8], Value)>
+        ensures value { option_map (λ e. (e.0.now, e.1)) result ≡ slice_get self.now index }
+        ensures fits { IfSome result (λ e. length e.0.now ≤ NAME_LENGTH) }
+    {
+        let entry = self.values.get_index(index)?;
+        Some((entry.0.as_slice(), *entry.1))
     }
 
     // Adds a name that is not there.

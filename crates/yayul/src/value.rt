@@ -1,10 +1,10 @@
 //! What a symbol or an operand stands for.
 
-ghost use Rattle.std.specs.Prelude.{◌≡◌, ◌≤◌, IfSome};
+ghost use Rattle.std.specs.Prelude.{◌≡◌, ◌≤◌, ◌<◌, IfSome, IfOk};
 ghost use Rattle.std.specs.Result.{result_map_both};
-ghost use Rattle.yayul.specs.Layout.{value_here, location_at};
+ghost use Rattle.yayul.specs.Layout.{value_here, location_at, erasable_place};
 ghost use Rattle.yayul.specs.Operands.{moved, moved_value, term_value, value_of};
-ghost use Rattle.yayul.specs.Sound.{IsLocation};
+ghost use Rattle.yayul.specs.Sound.{IsPlace};
 ghost use Rattle.yayul.specs.Values.{value_at};
 
 use crate::bank::FixedBank;
@@ -92,7 +92,7 @@ pub(crate) fn value_of(
 // The place of a value as a location. A number is one of erasable memory, of bank 2 or of bank 3.
 pub(crate) fn location_at(value: Value) -> Option<Location>
     ensures value { result ≡ location_at value }
-    ensures located { IfSome result IsLocation }
+    ensures located { IfSome result IsPlace }
 {
     match value {
         Value::Num(number) => match number.to_u16() {
@@ -103,6 +103,18 @@ pub(crate) fn location_at(value: Value) -> Option<Location>
         },
         Value::Erasable(place) => Some(Location::Erasable(place.number())),
         Value::Fixed(bank, offset) => Some(Location::Fixed(bank, offset.number())),
+    }
+}
+
+// The number of the erasable place that a value names.
+pub(crate) fn erasable_place(value: Value) -> Result<u16, FaultKind>
+    ensures value { result ≡ erasable_place (location_at value) }
+    ensures range { IfOk result (λ place. place < 0o4000) }
+{
+    match location_at(value) {
+        Some(Location::Erasable(number)) => Ok(number),
+        Some(Location::Fixed(..)) => Err(FaultKind::WrongKindOfAddress),
+        None => Err(FaultKind::OutOfRange),
     }
 }
 

@@ -1,18 +1,21 @@
-use Rattle.std.proofs.Common.{◌≡◌, ◌∙◌, refl, sym, arith}
+use Rattle.std.proofs.Common.{◌≡◌, ◌∙◌, ◌++◌, List, ℕ, length, refl, sym, subst, arith}
+use Rattle.cpu.specs.Next.{next}
 use Rattle.cpu.specs.State.{Scenario}
 use Rattle.cpu.proofs.RunLaws.{run-zero, outs-zero}
-use Rattle.workshop.proofs.RunSteps.{start_writes, few_cycles, ends, state_more, built_more, lines_after, outputs_more}
+use Rattle.words.specs.Devices.{WritesBeginning}
+use Rattle.workshop.specs.ChannelLines.{channel_lines}
+use Rattle.workshop.specs.Steps.{outputs_after}
+use Rattle.workshop.proofs.RunSteps.{start_writes, few_cycles, breaks_off, state_more, lines_after, outputs_more}
 use Rattle.workshop.proofs.engine.run.Goals as goal
 
 pub loop-done-init : goal.loop-done-init
 loop-done-init g c =
-    let scenario : Scenario = record { rope = c.args.rope.now } in
     record {
-      state = c.start-machine.ensures ∙ sym (run-zero scenario);
-      built = λ k h. absurd (omega (arith, h));
-      written = λ told. start_writes scenario _;
+      scenario = refl;
+      state = c.start-machine.ensures ∙ sym (run-zero c.args.processor.now.scenario);
+      written = λ told. start_writes c.args.processor.now.scenario _;
       failures = refl;
-      outputs = rw (outs-zero scenario) refl;
+      outputs = rw (outs-zero c.args.processor.now.scenario) refl;
       few_outputs = omega arith;
     }
 
@@ -21,19 +24,29 @@ step_and_write-requires g c = few_cycles _ c.loop-done._done _ c.loop-done.invar
 
 pub returns-in-Err-clause-runs : goal.returns-in-Err-clause-runs
 returns-in-Err-clause-runs g c = λ told.
-    let scenario : Scenario = record { rope = c.args.rope.now } in
-    ends scenario c.args.steps c.loop-done._done c.loop-done.machine c.step_and_write.new.machine (g.W.Write.written c.args.out.now) (g.W.Write.written c.loop-done.out)
-    (g.W.Write.written c.step_and_write.new.out) c.in-Err.fault (omega arith) c.loop-done.invariant.state c.loop-done.invariant.built
-    (c.loop-done.invariant.written told) c.in-Err.ensures.steps (c.in-Err.ensures.written told)
+    let before : List ℕ = g.W.Write.written c.loop-done.out in
+    let after : List ℕ = g.W.Write.written c.step_and_write.new.out in
+    let part : WritesBeginning before after (channel_lines (outputs_after c.args.processor.now.scenario c.loop-done.machine)) =
+    subst (λ (u : Scenario). WritesBeginning before after (channel_lines (outputs_after u c.loop-done.machine))) c.loop-done.invariant.scenario (c.in-Err.ensures.written told) in
+    breaks_off _ c.args.steps c.loop-done._done _ _ before after (omega arith) c.loop-done.invariant.state (c.loop-done.invariant.written told) part
 
 pub loop-done-preserved : goal.loop-done-preserved
 loop-done-preserved g c =
-    let scenario : Scenario = record { rope = c.args.rope.now } in
+    let scenario : Scenario = c.args.processor.now.scenario in
+    let machine : _ = c.step_and_write.new.machine in
+    let after : List ℕ = g.W.Write.written c.step_and_write.new.out in
+    let before : List ℕ = g.W.Write.written c.loop-done.out in
     record {
-      state = state_more scenario c.loop-done._done _ _ c.loop-done.invariant.state c.in-Ok.ensures.steps.state;
-      built = built_more scenario c.loop-done._done _ c.loop-done.invariant.state c.loop-done.invariant.built c.in-Ok.ensures.steps.built;
-      written = λ told. lines_after scenario c.loop-done._done _ _ _ _ c.loop-done.invariant.state (c.loop-done.invariant.written told) (c.in-Ok.ensures.written told);
+      scenario = c.in-Ok.ensures.scenario ∙ c.loop-done.invariant.scenario;
+      state =
+          state_more scenario c.loop-done._done c.loop-done.machine machine c.loop-done.invariant.state
+          (subst (λ (u : Scenario). machine ≡ (next u c.loop-done.machine).0) c.loop-done.invariant.scenario c.in-Ok.ensures.state);
+      written = λ told.
+          lines_after scenario c.loop-done._done c.loop-done.machine _ before after c.loop-done.invariant.state (c.loop-done.invariant.written told)
+          (subst (λ (u : Scenario). after ≡ before ++ channel_lines (outputs_after u c.loop-done.machine)) c.loop-done.invariant.scenario (c.in-Ok.ensures.written told));
       failures = c.in-Ok.ensures.failures ∙ c.loop-done.invariant.failures;
-      outputs = outputs_more scenario c.loop-done._done _ _ _ c.loop-done.invariant.state c.loop-done.invariant.outputs c.in-Ok.ensures.steps.count;
+      outputs =
+          outputs_more scenario c.loop-done._done c.loop-done.machine c.loop-done.outputs c.in-Ok.count c.loop-done.invariant.state c.loop-done.invariant.outputs
+          (subst (λ (u : Scenario). c.in-Ok.count ≡ length (outputs_after u c.loop-done.machine)) c.loop-done.invariant.scenario c.in-Ok.ensures.count);
       few_outputs = omega (arith, c.in-Ok.ensures.at_most_one, c.loop-done.invariant.few_outputs);
     }

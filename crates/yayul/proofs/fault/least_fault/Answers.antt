@@ -1,4 +1,4 @@
-use Rattle.std.proofs.Common.{◌≡◌, sym, ◌∙◌, ap, get_or, None, arith}
+use Rattle.std.proofs.Common.{sym, ◌∙◌, ap, get_or, None, arith}
 use Rattle.yayul.specs.Faults.{lesser_if}
 use Rattle.yayul.proofs.Least.{least_standing-more}
 use Rattle.yayul.proofs.fault.least_fault.Goals as goal

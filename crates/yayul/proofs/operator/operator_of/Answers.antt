@@ -1,6 +1,6 @@
 use Rattle.std.proofs.Common.{◌≡◌}
 use Rattle.yayul.specs.Operators.{operators}
-use Rattle.yayul.specs.Tables.{value_in}
+use Rattle.agc_text.specs.Tables.{value_in}
 use Rattle.yayul.proofs.Codes.{operators_fit}
 use Rattle.yayul.proofs.operator.operator_of.Goals as goal
 

@@ -1,22 +1,23 @@
-use Rattle.std.proofs.Common.{◌≡◌, ◌∙◌, sym, ap, refl}
+use Rattle.std.proofs.Common.{◌++◌, ◌∙◌, ap, refl}
 use Rattle.agc_text.specs.Lines.{lines}
 use Rattle.yayul.specs.LaidOut.{layout_of}
 use Rattle.yayul.specs.Layout.{start}
+use Rattle.yayul.specs.Marks.{marks_of}
 use Rattle.yayul.specs.Program.{program, completed}
 use Rattle.yayul.proofs.Asked.{ordered}
 use Rattle.yayul.proofs.Completed.{program_ok, program_err, answers_same}
 use Rattle.yayul.proofs.passes.assemble.Goals as goal
 
 pub complete-requires-clause-rising : goal.complete-requires-clause-rising
-complete-requires-clause-rising c = (ordered (lines c.args.source.now) start (layout_of c.in-Ok.laid_out) refl c.in-Ok.ensures.1 c.in-Ok.ensures.0).0
+complete-requires-clause-rising c = (ordered (lines c.args.source.now) start (layout_of c.in-Ok.laid_out) refl c.in-Ok.ensures.lays_out.1 c.in-Ok.ensures.lays_out.0).0
 
 pub complete-requires-clause-apart : goal.complete-requires-clause-apart
-complete-requires-clause-apart c = (ordered (lines c.args.source.now) start (layout_of c.in-Ok.laid_out) refl c.in-Ok.ensures.1 c.in-Ok.ensures.0).1
+complete-requires-clause-apart c = (ordered (lines c.args.source.now) start (layout_of c.in-Ok.laid_out) refl c.in-Ok.ensures.lays_out.1 c.in-Ok.ensures.lays_out.0).1
 
 pub returns-in-Ok : goal.returns-in-Ok
 returns-in-Ok c =
-    answers_same (program c.args.source.now) (completed (layout_of c.in-Ok.laid_out)) c.complete.result
-    (program_ok c.args.source.now (layout_of c.in-Ok.laid_out) c.in-Ok.ensures.0 c.in-Ok.ensures.1) c.complete.ensures
+    answers_same (program c.args.source.now) (completed (layout_of c.in-Ok.laid_out) c.args.source.now c.lay_out.new.marks) c.complete.result
+    (program_ok c.args.source.now (layout_of c.in-Ok.laid_out) c.lay_out.new.marks c.in-Ok.ensures.lays_out.0 c.in-Ok.ensures.lays_out.1 (c.in-Ok.ensures.marks ∙ ap (λ ms. ms ++ marks_of 1 start (lines c.args.source.now)) c.new-marks.ensures)) c.complete.ensures
 
 pub returns-in-Err : goal.returns-in-Err
-returns-in-Err c = (λ known. program_err c.args.source.now c.in-Err.fault (c.in-Err.ensures.told known), c.in-Err.ensures.unknown)
+returns-in-Err c = (λ known. program_err c.args.source.now c.in-Err.fault (c.in-Err.ensures.lays_out.0 known), c.in-Err.ensures.lays_out.1)

@@ -1,22 +1,23 @@
-use Rattle.std.proofs.Common.{◌∙◌, arith, refl}
+use Rattle.std.proofs.Common.{◌∙◌, ◌*◌, ◌+◌, arith, refl}
 use Rattle.words.proofs.Texts.{append-nothing, append-then}
-use Rattle.rope.proofs.ImageLaws.{image_front-more, begins_image, image_front-none}
+use Rattle.rope.specs.Places.{bank_words}
+use Rattle.rope.proofs.ImageLaws.{image_front-part, begins_image, image_front-none}
 use Rattle.rope.proofs.memory.Rope.write.Goals as goal
 
-pub loop-position-init : goal.loop-position-init
-loop-position-init g c = record {
+pub loop-entry-init : goal.loop-entry-init
+loop-entry-init g c = record {
   written = λ told. rw (image_front-none c.args.self.now) (append-nothing _ _ refl);
   failures = refl;
 }
 
-pub loop-position-preserved : goal.loop-position-preserved
-loop-position-preserved g c = record {
-  written = λ told. rw (image_front-more c.args.self.now c.loop-position.position, ← c.spelled_at.ensures)
-      (append-then _ _ _ _ _ (c.loop-position.invariant.written told) (c.in-Ok.ensures.written told));
-  failures = c.in-Ok.ensures.failures ∙ c.loop-position.invariant.failures;
+pub loop-entry-preserved : goal.loop-entry-preserved
+loop-entry-preserved g c = record {
+  written = λ told.
+      rw (image_front-part c.args.self.now (bank_words * c.loop-entry.entry) bank_words (bank_words * (c.loop-entry.entry + 1)) (omega arith))
+      (append-then _ _ _ _ _ (c.loop-entry.invariant.written told) (c.in-Ok.ensures.written told));
+  failures = c.in-Ok.ensures.failures ∙ c.loop-entry.invariant.failures;
 }
 
 pub returns-in-Err-clause-written : goal.returns-in-Err-clause-written
 returns-in-Err-clause-written g c = λ told.
-    begins_image _ _ _ c.args.self.now c.loop-position.position (omega arith) (c.loop-position.invariant.written told)
-    (rw c.spelled_at.ensures at (c.in-Err.ensures.written told))
+    begins_image _ _ _ c.args.self.now (bank_words * c.loop-entry.entry) bank_words (omega arith) (c.loop-entry.invariant.written told) (c.in-Err.ensures.written told)

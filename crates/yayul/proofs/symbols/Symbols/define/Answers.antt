@@ -1,7 +1,7 @@
 use Rattle.std.proofs.Common.{◌≡◌, ◌≤◌, None, ap, ◌∙◌, ◌∷◌, ◌++◌, [], length}
 use Rattle.std.proofs.lemmas.List.Elements.{All-push}
 use Rattle.indexmap.proofs.CallerLemmas.{insert_entry-new}
-use Rattle.yayul.specs.Tables.{value_in}
+use Rattle.agc_text.specs.Tables.{value_in}
 use Rattle.yayul.proofs.Names.{lookup-seen, insert-seen, same_key, seen}
 use Rattle.yayul.proofs.symbols.Symbols.define.Goals as goal
 

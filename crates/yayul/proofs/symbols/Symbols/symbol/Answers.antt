@@ -1,5 +1,5 @@
 use Rattle.std.proofs.Common.{ap, ◌∙◌}
-use Rattle.yayul.specs.Tables.{value_in}
+use Rattle.agc_text.specs.Tables.{value_in}
 use Rattle.yayul.proofs.Names.{lookup-seen}
 use Rattle.yayul.proofs.Tables.{value_in-long}
 use Rattle.yayul.proofs.symbols.Symbols.symbol.Goals as goal

@@ -1,0 +1,22 @@
+//! What a line of text may hold.
+
+ghost use Rattle.std.specs.Prelude.{◌≡◌};
+ghost use Rattle.std.specs.List.{list_all};
+ghost use Rattle.agc_text.specs.Bytes.{is_text_byte};
+
+/// The most bytes of a line, without its line feed.
+pub const LINE_LENGTH: usize = 120;
+
+/// Whether a line may hold each of its bytes: a space, a character that prints, or a tab.
+pub fn is_text(line: &[u8]) -> bool
+    ensures { result ≡ list_all is_text_byte line.now }
+{
+    line.iter().all(|byte| is_text_byte(*byte))
+}
+
+// Whether a line may hold a byte.
+fn is_text_byte(byte: u8) -> bool
+    ensures { result ≡ is_text_byte byte }
+{
+    (b' '..=b'~').contains(&byte) || byte == b'\t'
+}

@@ -1,0 +1,160 @@
+-- What an input does when it is taken.
+use Rattle.std.specs.Prelude.{ℕ, ◌+◌, Bool, true, false, Option, Some, None, if◌then◌else◌, ◌==◌}
+use Rattle.std.specs.FinSet as set
+use Rattle.words.specs.declared.counters.Carry.{Carry}
+use Rattle.words.specs.declared.counters.Carry.TheVariants.{No, Plus, Minus, ShiftedOut}
+use Rattle.words.specs.declared.counters.CounterStep.{CounterStep}
+use Rattle.words.specs.Numbers.{extend, correct}
+use Rattle.words.specs.Counters.{pinc, minc, dinc, pcdu, mcdu, shinc, shanc}
+use Rattle.space.specs.Cells.{get}
+use Rattle.feed.specs.declared.input.Counter.{Counter}
+use Rattle.feed.specs.declared.input.Counter.TheVariants.{Time1, Time2, Time3, Time4, Time5, Time6, CduX, CduY, CduZ, OptY, OptX, PipaX, PipaY, PipaZ, Inlink}
+use Rattle.feed.specs.declared.input.Sequence.{Sequence}
+use Rattle.feed.specs.declared.input.Sequence.TheVariants.{Pinc, Minc, Dinc, Pcdu, Mcdu, Shinc, Shanc}
+use Rattle.feed.specs.declared.input.Input.{Input}
+use Rattle.feed.specs.declared.input.Input.TheVariants.{Count, Word, Request}
+use Rattle.feed.specs.Inputs.{counter_place}
+use Rattle.cpu.specs.State.{State}
+use Rattle.cpu.specs.Effects.{change}
+use Rattle.cpu.specs.Effects.Change.{AtPlace, OnChannel}
+
+-- the interrupts for which inputs ask: those of four timers, of the two keyboards, and of the uplink
+abbrev pub timer_6_interrupt : ℕ
+timer_6_interrupt = 1
+
+abbrev pub timer_5_interrupt : ℕ
+timer_5_interrupt = 2
+
+abbrev pub timer_3_interrupt : ℕ
+timer_3_interrupt = 3
+
+abbrev pub timer_4_interrupt : ℕ
+timer_4_interrupt = 4
+
+abbrev pub first_keyboard_interrupt : ℕ
+first_keyboard_interrupt = 5
+
+abbrev pub second_keyboard_interrupt : ℕ
+second_keyboard_interrupt = 6
+
+abbrev pub uplink_interrupt : ℕ
+uplink_interrupt = 7
+
+-- the channels of the two keyboards
+abbrev pub first_keyboard_channel : ℕ
+first_keyboard_channel = 0o15
+
+abbrev pub second_keyboard_channel : ℕ
+second_keyboard_channel = 0o16
+
+-- the step that a sequence makes of a word
+abbrev pub step_of : Sequence → ℕ → CounterStep
+step_of Pinc w = pinc w
+step_of Minc w = minc w
+step_of Dinc w = dinc w
+step_of Pcdu w = pcdu w
+step_of Mcdu w = mcdu w
+step_of Shinc w = shinc w
+step_of Shanc w = shanc w
+
+-- whether plus or minus one has overflowed
+abbrev pub is_overflow : Carry → Bool
+is_overflow No = false
+is_overflow Plus = true
+is_overflow Minus = true
+is_overflow ShiftedOut = false
+
+-- whether a one was shifted out
+abbrev pub is_shifted_out : Carry → Bool
+is_shifted_out No = false
+is_shifted_out Plus = false
+is_shifted_out Minus = false
+is_shifted_out ShiftedOut = true
+
+-- the interrupt for which a counter asks after a step: TIME3, TIME4 and TIME5 on an overflow, TIME6 on a result of +0,
+-- INLINK on a one that is shifted out
+abbrev pub asked_after : Counter → CounterStep → Option ℕ
+asked_after Time1 step = None
+asked_after Time2 step = None
+asked_after Time3 step = if is_overflow step.carry then Some timer_3_interrupt else None
+asked_after Time4 step = if is_overflow step.carry then Some timer_4_interrupt else None
+asked_after Time5 step = if is_overflow step.carry then Some timer_5_interrupt else None
+asked_after Time6 step = if step.word == 0 then Some timer_6_interrupt else None
+asked_after CduX step = None
+asked_after CduY step = None
+asked_after CduZ step = None
+asked_after OptY step = None
+asked_after OptX step = None
+asked_after PipaX step = None
+asked_after PipaY step = None
+asked_after PipaZ step = None
+asked_after Inlink step = if is_shifted_out step.carry then Some uplink_interrupt else None
+
+-- the counter into which an overflow is carried: TIME2 for TIME1
+abbrev pub carries_into : Counter → Option Counter
+carries_into Time1 = Some Time2
+carries_into Time2 = None
+carries_into Time3 = None
+carries_into Time4 = None
+carries_into Time5 = None
+carries_into Time6 = None
+carries_into CduX = None
+carries_into CduY = None
+carries_into CduZ = None
+carries_into OptY = None
+carries_into OptX = None
+carries_into PipaX = None
+carries_into PipaY = None
+carries_into PipaZ = None
+carries_into Inlink = None
+
+-- the word that a counter holds
+abbrev pub count_of : State → Counter → ℕ
+count_of s counter = correct (get s.cells (counter_place counter))
+
+-- a counter holds the word of a step
+abbrev pub stepped : State → Counter → CounterStep → State
+stepped s counter step = change s (AtPlace (counter_place counter) (extend step.word))
+
+-- what a counter's overflow adds to another counter
+abbrev pub carried : State → Option Counter → Carry → State
+carried s None carry = s
+carried s (Some counter) carry = if is_overflow carry then stepped s counter (pinc (count_of s counter)) else s
+
+-- an interrupt is asked for, if any is
+abbrev pub asked : State → Option ℕ → State
+asked s None = s
+asked s (Some k) = record s { requests = set.insert s.requests k }
+
+-- a sequence of a counter: the counter's step, what it carries into another counter, and the interrupt for which it asks
+unfoldable pub counted : State → Counter → Sequence → State
+counted s counter sequence =
+    let step = step_of sequence (count_of s counter) in
+    asked (carried (stepped s counter step) (carries_into counter) step.carry) (asked_after counter step)
+
+-- the interrupt for which a word on a channel asks: that of a keyboard on the keyboard's channel
+abbrev pub asked_on : ℕ → Option ℕ
+asked_on n =
+    if n == first_keyboard_channel then Some first_keyboard_interrupt
+    else (if n == second_keyboard_channel then Some second_keyboard_interrupt
+    else None)
+
+-- a word on a channel is stored as a program's would be, and may ask for an interrupt
+unfoldable pub received : State → ℕ → ℕ → State
+received s n w = asked (change s (OnChannel n (extend w))) (asked_on n)
+
+-- what an input does
+abbrev pub input_effect : State → Input → State
+input_effect s (Count counter sequence) = counted s counter sequence
+input_effect s (Word n w) = received s n w
+input_effect s (Request k) = asked s (Some k)
+
+-- the cycles that an input takes
+abbrev pub input_cycles : Input → ℕ
+input_cycles (Count counter sequence) = 1
+input_cycles (Word n w) = 0
+input_cycles (Request k) = 0
+
+-- an input is taken: it is counted, its cycles pass, and it does what it does
+unfoldable pub take : State → Input → State
+take s input = input_effect (record s { taken = s.taken + 1; cycles = s.cycles + input_cycles input }) input

@@ -1,0 +1,172 @@
+//! Taking an input.
+
+ghost use Rattle.std.specs.Prelude.{◌≡◌, ◌<◌, ◌≤◌, ◌^◌, Some, None, true, false, if◌then◌else◌};
+ghost use Rattle.cpu.specs.Inputs.{step_of, is_overflow, is_shifted_out, asked_after, carries_into, stepped, carried, asked, counted, asked_on, received, take};
+ghost use Rattle.cpu.specs.Next.{most_cycles};
+
+use crate::machine::Machine;
+use feed::input::{Counter, Input, Sequence};
+use feed::request::Request;
+use space::numbers::Chan;
+use words::{Carry, CounterStep, Word};
+
+/// The cycles that a sequence of a counter takes.
+const COUNTER_CYCLES: u64 = 1;
+
+/// The interrupts for which inputs ask: those of four timers, of the two keyboards, and of the uplink.
+const TIMER_6: u8 = 1;
+
+const TIMER_5: u8 = 2;
+
+const TIMER_3: u8 = 3;
+
+const TIMER_4: u8 = 4;
+
+const FIRST_KEYBOARD: u8 = 5;
+
+const SECOND_KEYBOARD: u8 = 6;
+
+const UPLINK: u8 = 7;
+
+/// The channels of the two keyboards.
+const FIRST_KEYBOARD_CHANNEL: u16 = 0o15;
+
+const SECOND_KEYBOARD_CHANNEL: u16 = 0o16;
+
+impl Machine {
+    /// Takes an input.
+    #[tactic(auto, unfolding(crate::specs::Inputs::take))]
+    pub(crate) fn take(&mut self, input: Input)
+        requires cycles { self.old.cycles ≤ most_cycles }
+        requires taken { self.old.taken < 2 ^ 63 }
+        ensures { self.new ≡ take self.old input }
+    {
+        self.count_input();
+        match input {
+            Input::Count(counter, sequence) => {
+                self.add_cycles(COUNTER_CYCLES);
+                self.count(counter, sequence);
+            }
+            Input::Word(channel, word) => self.receive(channel, word),
+            Input::Request(request) => self.ask(request),
+        }
+    }
+
+    /// A sequence of a counter: its step, what that carries into another counter, and the interrupt for which it asks.
+    #[tactic(auto, unfolding(crate::specs::Inputs::counted))]
+    fn count(&mut self, counter: Counter, sequence: Sequence)
+        ensures { self.new ≡ counted self.old counter sequence }
+    {
+        let step = step_of(sequence, self.word(counter.place()));
+        self.set_counter(counter, &step);
+        self.carry(carries_into(counter), step.carry);
+        self.ask_any(asked_after(counter, &step));
+    }
+
+    /// A counter holds the word of a step.
+    fn set_counter(&mut self, counter: Counter, step: &CounterStep)
+        ensures { self.new ≡ stepped self.old counter step.now }
+    {
+        self.put(counter.place(), step.word.extend());
+    }
+
+    /// Adds one to a counter into which an overflow is carried.
+    fn carry(&mut self, counter: Option<Counter>, carry: Carry)
+        ensures { self.new ≡ carried self.old counter carry }
+    {
+        if let Some(counter) = counter
+            && is_overflow(carry)
+        {
+            let step = self.word(counter.place()).pinc();
+            self.set_counter(counter, &step);
+        }
+    }
+
+    /// A word on a channel, which may ask for an interrupt.
+    #[tactic(auto, unfolding(crate::specs::Inputs::received))]
+    fn receive(&mut self, channel: Chan, word: Word)
+        ensures { self.new ≡ received self.old channel word }
+    {
+        self.set_channel(channel, word.extend());
+        self.ask_any(asked_on(channel));
+    }
+
+    /// Asks for an interrupt, if there is one to ask for.
+    fn ask_any(&mut self, request: Option<Request>)
+        ensures { self.new ≡ asked self.old request }
+    {
+        if let Some(request) = request {
+            self.ask(request);
+        }
+    }
+}
+
+/// The step that a sequence makes of a word.
+fn step_of(sequence: Sequence, word: Word) -> CounterStep
+    ensures { result ≡ step_of sequence word }
+{
+    match sequence {
+        Sequence::Pinc => word.pinc(),
+        Sequence::Minc => word.minc(),
+        Sequence::Dinc => word.dinc(),
+        Sequence::Pcdu => word.pcdu(),
+        Sequence::Mcdu => word.mcdu(),
+        Sequence::Shinc => word.shinc(),
+        Sequence::Shanc => word.shanc(),
+    }
+}
+
+/// Whether plus or minus one has overflowed.
+fn is_overflow(carry: Carry) -> bool
+    ensures { result ≡ is_overflow carry }
+{
+    carry == Carry::Plus || carry == Carry::Minus
+}
+
+/// The counter into which an overflow is carried.
+fn carries_into(counter: Counter) -> Option<Counter>
+    ensures { result ≡ carries_into counter }
+{
+    match counter {
+        Counter::Time1 => Some(Counter::Time2),
+        _ => None,
+    }
+}
+
+/// The interrupt for which a counter asks after a step.
+fn asked_after(counter: Counter, step: &CounterStep) -> Option<Request>
+    ensures { result ≡ asked_after counter step.now }
+{
+    match counter {
+        Counter::Time3 => request_if(is_overflow(step.carry), TIMER_3),
+        Counter::Time4 => request_if(is_overflow(step.carry), TIMER_4),
+        Counter::Time5 => request_if(is_overflow(step.carry), TIMER_5),
+        Counter::Time6 => request_if(step.word == Word::ZERO, TIMER_6),
+        Counter::Inlink => request_if(step.carry == Carry::ShiftedOut, UPLINK),
+        _ => None,
+    }
+}
+
+/// The interrupt for which a word on a channel asks.
+fn asked_on(channel: Chan) -> Option<Request>
+    ensures { result ≡ asked_on channel }
+{
+    match channel.number() {
+        FIRST_KEYBOARD_CHANNEL => Some(Request::new(FIRST_KEYBOARD)),
+        SECOND_KEYBOARD_CHANNEL => Some(Request::new(SECOND_KEYBOARD)),
+        _ => None,
+    }
+}
+
+/// The interrupt of this number, where it is asked for.
+fn request_if(is_asked: bool, number: u8) -> Option<Request>
+    requires low { 1 ≤ number }
+    requires high { number ≤ 10 }
+    ensures { result ≡ (if is_asked then Some number else None) }
+{
+    if is_asked {
+        Some(Request::new(number))
+    } else {
+        None
+    }
+}

@@ -1,0 +1,91 @@
+//! The processor: fixed memory, the inputs, and the count of steps.
+
+ghost use Rattle.std.specs.Prelude.{◌≡◌, ◌+◌, ◌-◌, ◌<◌, ◌≤◌, ◌^◌, min, Some, None};
+ghost use Rattle.cpu.specs.Next.{next, instruction_word, most_cycles};
+
+use crate::machine::Machine;
+use crate::output::Output;
+use feed::Feed;
+use rope::Rope;
+use std::marker::Model;
+use words::Word;
+
+/// A machine with more cycles than this makes no step.
+const MOST_CYCLES: u64 = 1 << 62;
+
+/// Fixed memory, the inputs, and a meter of the steps that were made.
+#[derive(Drop)]
+pub struct Processor {
+    rope: Rope,
+    feed: Feed,
+    meter: u128,
+}
+
+impl Model for Processor {
+    ghost use Rattle.cpu.specs.State.{Processing};
+    ghost use Rattle.cpu.specs.Representation.{processing_code};
+
+    ghost Value = { Processing };
+
+    ghost coded = { processing_code };
+
+    ghost view = { λ p. record { scenario = record { rope = p.rope; inputs = p.feed }; meter = p.meter } };
+}
+
+impl Processor {
+    /// A processor that has made no step.
+    pub fn new(rope: Rope, feed: Feed) -> Processor
+        ensures { result ≡ record { scenario = record { rope = rope; inputs = feed }; meter = 0 } }
+    {
+        Processor {
+            rope,
+            feed,
+            meter: 0,
+        }
+    }
+
+    /// Makes one step, and answers what it puts out: takes the next input where it is due, else enters an interrupt, else
+    /// executes an instruction. The meter counts the step, but stays at its greatest value. A machine with more than 2^62
+    /// cycles stays as it is: no run of fewer than 2^59 steps from the start leads there.
+    #[tactic(auto, unfolding(crate::specs::Next::next))]
+    pub fn step(&mut self, machine: &mut Machine) -> Option<Output>
+        ensures meter { self.new ≡ record self.old { meter = min (self.old.meter + 1) (2 ^ 128 - 1) } }
+        ensures growing { self.old.meter < 2 ^ 128 → self.old.meter ≤ self.new.meter }
+        ensures step { machine.old.cycles ≤ most_cycles → (machine.new, result) ≡ next self.old.scenario machine.old }
+    {
+        self.meter = self.meter.saturating_add(1);
+        if machine.cycles() > MOST_CYCLES {
+            return None;
+        }
+        if let Some(input) = self.feed.due(machine.taken(), machine.cycles()) {
+            machine.take(input);
+            return None;
+        }
+        if let Some(request) = machine.entry() {
+            machine.enter(&self.rope, request);
+            return None;
+        }
+        machine.execute(&self.rope)
+    }
+
+    /// How many steps were made.
+    pub fn meter(&self) -> u128
+        ensures { result ≡ self.now.meter }
+    {
+        self.meter
+    }
+
+    /// Fixed memory.
+    pub fn rope(&self) -> &Rope
+        ensures { result.now ≡ self.now.scenario.rope }
+    {
+        &self.rope
+    }
+
+    /// The word that a machine executes next, unless an interrupt is entered, and whether extracode is in force for it.
+    pub fn next_word(&self, machine: &Machine) -> (Word, bool)
+        ensures { result ≡ (instruction_word self.now.scenario.rope machine.now, machine.now.extra) }
+    {
+        (machine.instruction_word(&self.rope), machine.extra())
+    }
+}

@@ -1,0 +1,4 @@
+mod FieldSteps
+mod LineSteps
+mod Whole
+mod Rows

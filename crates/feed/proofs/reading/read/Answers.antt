@@ -1,0 +1,19 @@
+use Rattle.std.proofs.Common.{◌≤◌, length, sym, ◌∙◌}
+use Rattle.feed.specs.Feed.{most_bytes}
+use Rattle.feed.proofs.Whole.{reads_too_many, reads_inputs, reads_fault}
+use Rattle.feed.proofs.reading.read.Goals as goal
+
+pub returns-in-Err-TooLong-clause-bytes : goal.returns-in-Err-TooLong-clause-bytes
+returns-in-Err-TooLong-clause-bytes g c = λ told. reads_too_many _ _ (rw c.in-Err-TooLong.field-0-is at c.in-Err-TooLong.ensures.fault told)
+
+pub returns-in-Ok-inputs_in-clause-bytes : goal.returns-in-Ok-inputs_in-clause-bytes
+returns-in-Ok-inputs_in-clause-bytes g c = λ told.
+    let within : length c.deref.result.now ≤ most_bytes = rw c.deref.ensures.value c.in-Ok.ensures.within in
+    reads_inputs _ _ c.deref.result.now c.new.result (c.in-Ok.ensures.whole told ∙ sym c.deref.ensures.value) (c.in-Ok.ensures.end told) within
+    c.in-Ok-inputs_in.ensures.faultless (c.new.ensures ∙ c.in-Ok-inputs_in.ensures.inputs)
+
+pub returns-clause-bytes : goal.returns-clause-bytes
+returns-clause-bytes g c = λ told.
+    let within : length c.deref.result.now ≤ most_bytes = rw c.deref.ensures.value c.in-Ok.ensures.within in
+    reads_fault _ _ c.deref.result.now c.in-Err.fault (c.in-Ok.ensures.whole told ∙ sym c.deref.ensures.value) (c.in-Ok.ensures.end told) within
+    c.in-Err.ensures.fault

@@ -1,0 +1,24 @@
+-- The faults of a feed.
+use Rattle.std.specs.Prelude.{ℕ, Option, None, Some}
+use Rattle.feed.specs.declared.fault.FeedFault.{FeedFault}
+use Rattle.feed.specs.declared.fault.FeedFault.TheVariants.{NoMemory, ReadFailed, BadLine, OutOfOrder, TooMany, WrongCounter, TooLong}
+
+-- the number that a fault is told by
+abbrev pub number_of : FeedFault → ℕ
+number_of NoMemory = 2
+number_of ReadFailed = 6
+number_of (BadLine line) = 30
+number_of (OutOfOrder line) = 31
+number_of TooMany = 32
+number_of (WrongCounter line) = 33
+number_of TooLong = 34
+
+-- the line that it is told with
+abbrev pub line_of : FeedFault → Option ℕ
+line_of NoMemory = None
+line_of ReadFailed = None
+line_of (BadLine line) = Some line
+line_of (OutOfOrder line) = Some line
+line_of TooMany = None
+line_of (WrongCounter line) = Some line
+line_of TooLong = None

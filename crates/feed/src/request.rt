@@ -1,0 +1,55 @@
+//! Interrupts that are asked for.
+
+ghost use Rattle.std.specs.Prelude.{◌≡◌, ◌+◌, ◌-◌, ◌≤◌, ◌<◌};
+
+use std::marker::Model;
+
+/// How many interrupts there are.
+pub(crate) const REQUESTS: u64 = 10;
+
+/// The number of an interrupt, 1 to 10.
+#[derive(Clone, Copy, PartialEq, Eq, Debug)]
+pub struct Request {
+    number: u8,
+}
+
+impl Model for Request {
+    ghost use Rattle.std.specs.Prelude.{ℕ, ◌≤◌};
+
+    ghost Value = { ℕ };
+
+    ghost view = { λ r. r.number };
+
+    ghost invariant = { λ r. (1 ≤ r.number) × (r.number ≤ 10) };
+
+    ghost inverse = { λ n. record { number = n } };
+}
+
+impl Request {
+    /// The interrupt of this number.
+    pub fn new(number: u8) -> Request
+        requires low { 1 ≤ number }
+        requires high { number ≤ 10 }
+        ensures { result ≡ number }
+    {
+        Request { number }
+    }
+
+    /// Its number.
+    pub fn number(self) -> u8
+        ensures value { result ≡ self }
+        ensures low { 1 ≤ result }
+        ensures high { result ≤ 10 }
+    {
+        self.number
+    }
+
+    /// Its index among the interrupts, counted from 0.
+    pub fn index(self) -> usize
+        ensures value { result ≡ self - 1 }
+        ensures number { result + 1 ≡ self }
+        ensures range { result < 10 }
+    {
+        usize::from(self.number) - 1
+    }
+}

@@ -1,0 +1,168 @@
+use super::*;
+use cpu::{Machine, Processor};
+use feed::Feed;
+use space::numbers::{Bank, Eras, Offset};
+use space::place::Linear;
+use std::alloc::Global;
+use words::faulty::{FaultyReader, FaultyWriter, Trouble};
+use words::{Buffer, Word};
+use yayul::assemble;
+use yayul::fault::{Fault, FaultKind};
+
+const FIVE_PLUS_FIVE: &[u8] = b" SETLOC 4000
+ CA FIVE
+ AD FIVE
+ EXTEND
+ WRITE 10
+ TCF 4000
+FIVE OCT 5
+";
+
+const LISTING: &[u8] = b"    1                 SETLOC 4000
+    2 02,4000 34005   CA FIVE
+    3 02,4001 64005   AD FIVE
+    4 02,4002 00006   EXTEND
+    5 02,4003 01010   WRITE 10
+    6 02,4004 14000   TCF 4000
+    7 02,4005 00005  FIVE OCT 5
+SYMBOLS 1
+FIVE     FIXED 02,0005
+";
+
+const FAR_TRANSFER: &[u8] = b" SETLOC 4000
+ CA SUPB
+ EXTEND
+ WRITE 7
+ EXTEND
+ DCA TARG
+ DTCB
+SUPB OCT 100
+TARG 2CADR FAR
+ BANK 43
+FAR TCF FAR
+";
+
+/// How many bytes an image has.
+const IMAGE_BYTES: usize = 73_728;
+
+#[test]
+fn five_plus_five_words_and_image(rt: HostRuntime) {
+    let mut source = FIVE_PLUS_FIVE;
+    let mut image = Buffer::new(rt.alloc());
+    let mut listing = Buffer::new(rt.alloc());
+    assert_eq!(rt;
+        asm_engine(rt.alloc(), &mut source, &mut image, &mut listing),
+        Ok(())
+    );
+    let bytes = image.as_slice();
+    assert_eq!(rt; bytes.len(), IMAGE_BYTES);
+    assert!(rt;
+        bytes.starts_with(&[
+            0x70, 0x0a, 0xd0, 0x0a, 0x00, 0x0c, 0x04, 0x10, 0x30, 0x00, 0x00, 0x0a,
+        ])
+    );
+    assert_eq!(rt; bytes.iter().filter(|byte| **byte > 0).count(), 9);
+    assert_eq!(rt; listing.as_slice(), LISTING);
+}
+
+#[test]
+fn refused_sources_write_nothing(rt: HostRuntime) {
+    let mut source: &[u8] = b" SETLOC 4000\n CA NOSUCH\n";
+    let mut image = Buffer::new(rt.alloc());
+    let mut listing = Buffer::new(rt.alloc());
+    assert_eq!(rt;
+        asm_engine(rt.alloc(), &mut source, &mut image, &mut listing),
+        Err(WorkshopFault::Source(Fault {
+            line: 2,
+            kind: FaultKind::Undefined,
+        }))
+    );
+    let mut broken = FaultyReader::new(FIVE_PLUS_FIVE, Some(20));
+    assert_eq!(rt;
+        asm_engine(rt.alloc(), &mut broken, &mut image, &mut listing),
+        Err(WorkshopFault::ReadFailed)
+    );
+    assert_eq!(rt; image.as_slice(), b"".as_slice());
+    assert_eq!(rt; listing.as_slice(), b"".as_slice());
+}
+
+#[test]
+fn image_stands_whole_before_the_listing(rt: HostRuntime) {
+    for trouble in [Trouble::Fails, Trouble::TakesNothing] {
+        for place in [0, 5, 60, 240] {
+            let mut source = FIVE_PLUS_FIVE;
+            let mut image = Buffer::new(rt.alloc());
+            let mut listing = FaultyWriter::new(rt.alloc(), Some(place), trouble);
+            assert_eq!(rt;
+                asm_engine(rt.alloc(), &mut source, &mut image, &mut listing),
+                Err(WorkshopFault::WriteFailed)
+            );
+            assert_eq!(rt; image.as_slice().len(), IMAGE_BYTES);
+            assert_eq!(rt; listing.as_slice(), &LISTING[..place]);
+        }
+        let mut source = FIVE_PLUS_FIVE;
+        let mut image = FaultyWriter::new(rt.alloc(), Some(11), trouble);
+        let mut listing = Buffer::new(rt.alloc());
+        assert_eq!(rt;
+            asm_engine(rt.alloc(), &mut source, &mut image, &mut listing),
+            Err(WorkshopFault::WriteFailed)
+        );
+        assert_eq!(rt; image.as_slice().len(), 11);
+        assert_eq!(rt; listing.as_slice(), b"".as_slice());
+    }
+}
+
+/// The machine after some steps of a source, which put nothing out.
+fn after(alloc: Global, source: &[u8], steps: u8) -> Result<Machine, Fault> {
+    let program = match assemble(alloc, source) {
+        Ok(program) => program,
+        Err(fault) => return Err(fault),
+    };
+    let (rope, _) = program.split();
+    let mut processor = Processor::new(rope, Feed::empty(alloc));
+    let mut machine = Machine::start();
+    for _ in 0..steps {
+        if processor.step(&mut machine).is_some() {
+            return Ok(Machine::start());
+        }
+    }
+    Ok(machine)
+}
+
+/// A, L, Z, FB, EB and the cycles.
+fn state(machine: &Machine) -> (u16, u16, u16, u16, u16, u64) {
+    (
+        machine.reg(Eras::A).to_u16(),
+        machine.word(Eras::L).to_u16(),
+        machine.reg(Eras::Z).to_u16(),
+        machine.word(Eras::FB).to_u16(),
+        machine.word(Eras::EB).to_u16(),
+        machine.cycles(),
+    )
+}
+
+#[test]
+fn far_transfer(rt: HostRuntime) {
+    let program = assemble(rt.alloc(), FAR_TRANSFER).expect(&rt, "a program");
+    let bank = Bank::try_new(2).unwrap();
+    let words = [7u16, 8].map(|offset| {
+        program
+            .rope()
+            .word(bank, Offset::try_new(offset).unwrap())
+            .to_u16()
+    });
+    assert_eq!(rt; words, [0o02000, 0o66100]);
+    let six = after(rt.alloc(), FAR_TRANSFER, 6).expect(&rt, "a machine");
+    assert_eq!(rt; state(&six), (0o004006, 0, 0o2000, 0o66000, 0, 12));
+    let far = Linear::Fixed(Bank::try_new(0o43).unwrap(), Offset::try_new(0).unwrap());
+    assert_eq!(rt; six.next_place(), far);
+    let seven = after(rt.alloc(), FAR_TRANSFER, 7).expect(&rt, "a machine");
+    assert_eq!(rt; (state(&seven).2, seven.cycles()), (0o2000, 13));
+}
+
+#[test]
+fn words_of_nothing_transfer_control_to_a(rt: HostRuntime) {
+    let machine = after(rt.alloc(), b"", 3).expect(&rt, "a machine");
+    assert_eq!(rt; machine.reg(Eras::Q).to_u16(), 1);
+    assert_eq!(rt; (state(&machine).2, machine.cycles()), (0, 3));
+}

@@ -1,0 +1,6 @@
+use Rattle.std.proofs.Common.{sym, ◌∙◌}
+use Rattle.yayul.proofs.Decimals.{few_decimals}
+use Rattle.yayul.proofs.decimal.fraction_in.Goals as goal
+
+pub scaled-requires-clause-number : goal.scaled-requires-clause-number
+scaled-requires-clause-number c = (few_decimals c.args.decimals.now c.in_ok-number.number (sym c.decimal.ensures ∙ c.in_ok-number.was)).0

@@ -1,0 +1,140 @@
+//! Decimal constants.
+
+ghost use Rattle.std.specs.Prelude.{◌≡◌, ◌==◌, ◌≤◌, ◌<◌, ◌^◌, ℕ, length};
+ghost use Rattle.std.specs.List.{position_or_len};
+ghost use Rattle.std.specs.Option.{option_map};
+ghost use Rattle.agc_text.specs.Digits.{sized};
+ghost use Rattle.yayul.specs.Decimals.{point, greatest_magnitude, most_decimals, scaled, before_point, whole_in, fraction_in, magnitude_in, decimal_in};
+ghost use Rattle.yayul.specs.Names.{up_to};
+
+use agc_text::{Number, decimal, decimal_value};
+use words::Word;
+
+/// The greatest magnitude of a word.
+const GREATEST_MAGNITUDE: u16 = 0o37777;
+
+/// The most decimals of a fraction.
+const MOST_DECIMALS: usize = 9;
+
+// A decimal constant: where the text has the form of one, its word, where its magnitude has one.
+pub(crate) fn decimal_in(text: &[u8]) -> Option<Option<Word>>
+    ensures { result ≡ decimal_in text.now }
+{
+    match text {
+        [b'+', magnitude @ ..] => magnitude_in(magnitude),
+        [b'-', magnitude @ ..] => match magnitude_in(magnitude) {
+            Some(Some(word)) => Some(Some(word.neg())),
+            Some(None) => Some(None),
+            None => None,
+        },
+        _ => magnitude_in(text),
+    }
+}
+
+// Digits; or a fraction: digits or none, a point and 1 to 9 digits.
+fn magnitude_in(text: &[u8]) -> Option<Option<Word>>
+    ensures { result ≡ magnitude_in text.now }
+{
+    let whole = before_point(text);
+    if whole.len() < text.len() {
+        return fraction_in(whole, &text[whole.len() + 1..]);
+    }
+    match decimal_value(text) {
+        Some(number) => Some(magnitude_of(number)),
+        None => None,
+    }
+}
+
+// What stands before the first point.
+fn before_point(text: &[u8]) -> &[u8]
+    ensures value { result.now ≡ before_point text.now }
+    ensures within { length result.now ≤ length text.now }
+{
+    &text[..point_place(text)]
+}
+
+// How many bytes stand before the first point.
+fn point_place(text: &[u8]) -> usize
+    ensures { result ≡ position_or_len (λ byte. byte == point) text.now }
+{
+    for (i, byte) in text.iter().enumerate() {
+        if *byte == b'.' {
+            return i;
+        }
+    }
+    text.len()
+}
+
+// The number as a word, where it is one of a plus sign.
+fn magnitude_of(number: Number) -> Option<Word>
+    ensures { (n : ℕ) → number ≡ sized n → result ≡ up_to greatest_magnitude n }
+{
+    match number {
+        Number::Small(number) => match u16::try_from(number) {
+            Ok(number) if number <= GREATEST_MAGNITUDE => Some(Word::of_low_bits(number)),
+            _ => None,
+        },
+        Number::Large => None,
+    }
+}
+
+// A fraction of its digits before and after the point.
+fn fraction_in(whole: &[u8], decimals: &[u8]) -> Option<Option<Word>>
+    ensures { result ≡ fraction_in whole.now decimals.now }
+{
+    let is_zero = is_zero(whole)?;
+    let number = decimal(decimals, MOST_DECIMALS)?;
+    if is_zero {
+        Some(scaled(number, unit_of(decimals.len())))
+    } else {
+        Some(None)
+    }
+}
+
+// Whether digits, or none, are zero.
+fn is_zero(whole: &[u8]) -> Option<bool>
+    ensures { result ≡ option_map (λ w. w == 0) (whole_in whole.now) }
+{
+    if whole.is_empty() {
+        return Some(true);
+    }
+    match decimal_value(whole) {
+        Some(number) => Some(number == Number::Small(0)),
+        None => None,
+    }
+}
+
+// How many units of so many decimals there are in 1.
+fn unit_of(count: usize) -> u64
+    requires { count ≤ most_decimals }
+    ensures value { result ≡ 10 ^ count }
+    ensures some { 1 ≤ result }
+    ensures few { result ≤ 10 ^ 9 }
+{
+    match count {
+        0 => 1,
+        1 => 10,
+        2 => 100,
+        3 => 1_000,
+        4 => 10_000,
+        5 => 100_000,
+        6 => 1_000_000,
+        7 => 10_000_000,
+        8 => 100_000_000,
+        _ => 1_000_000_000,
+    }
+}
+
+// The fraction that so many units of 1 are, times 2^14, to the nearest.
+fn scaled(number: u64, unit: u64) -> Option<Word>
+    requires number { number < 10 ^ 9 }
+    requires some { 1 ≤ unit }
+    requires few { unit ≤ 10 ^ 9 }
+    ensures { result ≡ up_to greatest_magnitude (scaled number unit) }
+{
+    let magnitude = (number * 0o100000 + unit) / (2 * unit);
+    match u16::try_from(magnitude) {
+        Ok(magnitude) if magnitude <= GREATEST_MAGNITUDE => Some(Word::of_low_bits(magnitude)),
+        _ => None,
+    }
+}

@@ -1,0 +1,303 @@
+//! The listing of a program: a row for each line of its source, and its symbols. No memory is taken.
+
+ghost use Rattle.std.specs.Prelude.{◌≡◌, ◌+◌, ◌<◌, ◌≤◌, ◌++◌, ℕ, List, length, true, codes, decimal};
+ghost use Rattle.std.specs.List.{flat_map};
+ghost use Rattle.agc_text.specs.Lines.{lines};
+ghost use Rattle.arrayvec.specs.ArrayVec.{array_vec_len};
+ghost use Rattle.space.specs.declared.place.Linear.TheVariants as linear;
+ghost use Rattle.words.specs.Devices.{Writes, failures_after};
+ghost use Rattle.yayul.specs.Listing.{blanks, right_in, bank_text, place_text, number_column, word_columns, mark_columns, gap, row_front, second_row, line_rows, rows, value_text, symbol_row, symbols_head, symbol_rows};
+
+use crate::mark::Mark;
+use crate::name::NAME_LENGTH;
+use crate::symbols::Symbols;
+use crate::value::Value;
+use agc_text::next_line;
+use arrayvec::ArrayVec;
+use rope::Rope;
+use space::numbers::{Bank, Offset};
+use space::place::Linear;
+use space::resolve::window;
+use words::{Write, WriteFailed, push_all, push_decimal, push_octal, write_all};
+
+/// The most decimal digits of a number of 64 bits.
+const DECIMAL_DIGITS: usize = 20;
+
+/// How many places the number of a line has at least.
+const NUMBER_PLACES: usize = 5;
+
+/// The most bytes of a row before the text of its line: 20 digits, a blank, a place of 7 bytes, a blank, a word of 5 digits,
+/// and two blanks.
+const FRONT: usize = 36;
+
+/// The most bytes of a value: `FIXED `, two digits, a comma and four digits.
+const VALUE_LENGTH: usize = 13;
+
+/// The most bytes of a symbol's row: a name, a blank, a value and a line feed.
+const SYMBOL_ROW: usize = 23;
+
+/// The most bytes of the row before the symbols: `SYMBOLS `, 20 digits and a line feed.
+const HEAD: usize = 29;
+
+/// Writes the rows of the lines of a source, each with what it shows.
+pub(crate) fn write_rows<W: Write>(
+    rope: &Rope,
+    source: &[u8],
+    marks: &[Mark],
+    writer: &mut W,
+) -> Result<(), WriteFailed>
+    ensures written { W.told ≡ true → Writes (W.written writer.old) (W.written writer.new) (rows 1 rope.now (lines source.now) marks.now) result }
+    ensures failures { W.failures writer.new ≡ failures_after (W.failures writer.old) result }
+{
+    let mut rest = source;
+    let mut number = 1;
+    for mark in marks {
+        let Some((text, after)) = next_line(rest) else {
+            return Ok(());
+        };
+        match write_line(number, rope, text, mark, writer) {
+            Ok(()) => rest = after,
+            Err(failed) => return Err(failed),
+        }
+        number += 1;
+    }
+    Ok(())
+}
+
+// Writes the rows of a line.
+fn write_line<W: Write>(
+    number: u64,
+    rope: &Rope,
+    text: &[u8],
+    mark: &Mark,
+    writer: &mut W,
+) -> Result<(), WriteFailed>
+    ensures written { W.told ≡ true → Writes (W.written writer.old) (W.written writer.new) (line_rows number rope.now text.now mark.now) result }
+    ensures failures { W.failures writer.new ≡ failures_after (W.failures writer.old) result }
+{
+    let front = row_front(number, rope, mark, text);
+    match write_first_row(front.as_slice(), text, writer) {
+        Ok(()) => write_second_row(number, rope, mark, writer),
+        Err(failed) => Err(failed),
+    }
+}
+
+// Writes the front of a row, its text and a line feed.
+fn write_first_row<W: Write>(front: &[u8], text: &[u8], writer: &mut W) -> Result<(), WriteFailed>
+    ensures written { W.told ≡ true → Writes (W.written writer.old) (W.written writer.new) (front.now ++ text.now ++ codes "\n") result }
+    ensures failures { W.failures writer.new ≡ failures_after (W.failures writer.old) result }
+{
+    match write_all(writer, front) {
+        Ok(()) => write_ended(text, writer),
+        Err(failed) => Err(failed),
+    }
+}
+
+// Writes a text and a line feed.
+fn write_ended<W: Write>(text: &[u8], writer: &mut W) -> Result<(), WriteFailed>
+    ensures written { W.told ≡ true → Writes (W.written writer.old) (W.written writer.new) (text.now ++ codes "\n") result }
+    ensures failures { W.failures writer.new ≡ failures_after (W.failures writer.old) result }
+{
+    match write_all(writer, text) {
+        Ok(()) => write_all(writer, b"\n"),
+        Err(failed) => Err(failed),
+    }
+}
+
+// Writes the row of a second word, where there is one.
+fn write_second_row<W: Write>(
+    number: u64,
+    rope: &Rope,
+    mark: &Mark,
+    writer: &mut W,
+) -> Result<(), WriteFailed>
+    ensures written { W.told ≡ true → Writes (W.written writer.old) (W.written writer.new) (second_row number rope.now mark.now) result }
+    ensures failures { W.failures writer.new ≡ failures_after (W.failures writer.old) result }
+{
+    match mark {
+        Mark::Words(bank, _, second) => {
+            let mut line = number_column(number);
+            push_word(&mut line, rope, *bank, *second);
+            push_all(&mut line, b"\n");
+            write_all(writer, line.as_slice())
+        }
+        Mark::Nothing | Mark::Erasable(_) | Mark::Fixed(..) | Mark::Word(..) => Ok(()),
+    }
+}
+
+// What stands on a row before the text of its line.
+fn row_front(number: u64, rope: &Rope, mark: &Mark, text: &[u8]) -> ArrayVec<u8, FRONT>
+    ensures { result.items ≡ row_front number rope.now mark.now text.now }
+{
+    let mut line = number_column(number);
+    push_mark(&mut line, rope, mark);
+    if !text.is_empty() {
+        push_all(&mut line, b"  ");
+    }
+    line
+}
+
+// The number of a line, and a blank.
+#[tactic(auto, using(words::proofs::Digits::short_decimal), unfolding(crate::specs::Listing::number_column))]
+fn number_column(number: u64) -> ArrayVec<u8, FRONT>
+    ensures items { result.items ≡ number_column number }
+    ensures short { array_vec_len result ≤ 21 }
+{
+    let mut digits: ArrayVec<u8, DECIMAL_DIGITS> = ArrayVec::new();
+    push_decimal(&mut digits, number);
+    let mut line = ArrayVec::new();
+    push_blanks(&mut line, NUMBER_PLACES.saturating_sub(digits.len()));
+    push_all(&mut line, digits.as_slice());
+    push_all(&mut line, b" ");
+    line
+}
+
+// Appends the columns of a place and a word.
+fn push_mark(line: &mut ArrayVec<u8, FRONT>, rope: &Rope, mark: &Mark)
+    requires { array_vec_len line.old ≤ 21 }
+    ensures items { line.new.items ≡ line.old.items ++ mark_columns rope.now mark.now }
+    ensures len { array_vec_len line.new ≡ array_vec_len line.old + 13 }
+{
+    match mark {
+        Mark::Nothing => push_blanks(line, 13),
+        Mark::Erasable(place) => {
+            push_place(line, Linear::Erasable(*place));
+            push_blanks(line, 6);
+        }
+        Mark::Fixed(bank, offset) => {
+            push_place(line, Linear::Fixed(*bank, *offset));
+            push_blanks(line, 6);
+        }
+        Mark::Word(bank, offset) => push_word(line, rope, *bank, *offset),
+        Mark::Words(bank, offset, _) => push_word(line, rope, *bank, *offset),
+    }
+}
+
+// Appends a place of fixed memory and the word that stands there.
+#[tactic(auto, unfolding(crate::specs::Listing::word_columns))]
+fn push_word(line: &mut ArrayVec<u8, FRONT>, rope: &Rope, bank: Bank, offset: Offset)
+    requires { array_vec_len line.old ≤ 21 }
+    ensures items { line.new.items ≡ line.old.items ++ word_columns rope.now bank offset }
+    ensures len { array_vec_len line.new ≡ array_vec_len line.old + 13 }
+{
+    push_place(line, Linear::Fixed(bank, offset));
+    push_all(line, b" ");
+    push_octal(line, 5, rope.word(bank, offset).to_u16());
+}
+
+// Appends a place.
+#[tactic(auto, unfolding(crate::specs::Listing::place_text))]
+fn push_place(line: &mut ArrayVec<u8, FRONT>, place: Linear)
+    requires { array_vec_len line.old ≤ 21 }
+    ensures items { line.new.items ≡ line.old.items ++ place_text place }
+    ensures len { array_vec_len line.new ≡ array_vec_len line.old + 7 }
+{
+    push_bank(line, &place);
+    push_all(line, b",");
+    push_octal(line, 4, window(place).number());
+}
+
+// Appends the bank of a place.
+fn push_bank(line: &mut ArrayVec<u8, FRONT>, place: &Linear)
+    requires { array_vec_len line.old ≤ 21 }
+    ensures items { line.new.items ≡ line.old.items ++ bank_text place.now }
+    ensures len { array_vec_len line.new ≡ array_vec_len line.old + 2 }
+{
+    match place {
+        Linear::Erasable(place) => {
+            push_all(line, b"E");
+            push_octal(line, 1, place.number() / 0o400);
+        }
+        Linear::Fixed(bank, _) => push_octal(line, 2, bank.number()),
+    }
+}
+
+// Appends blanks.
+fn push_blanks<const N: usize>(line: &mut ArrayVec<u8, N>, count: usize)
+    requires { array_vec_len line.old + count ≤ N }
+    ensures items { line.new.items ≡ line.old.items ++ blanks count }
+    ensures len { array_vec_len line.new ≡ array_vec_len line.old + count }
+{
+    for i in 0..count {
+        line.push(b' ');
+    }
+}
+
+/// Writes how many symbols there are, and a row for each.
+pub(crate) fn write_symbols<W: Write>(symbols: &Symbols, writer: &mut W) -> Result<(), WriteFailed>
+    ensures written { W.told ≡ true → Writes (W.written writer.old) (W.written writer.new) (symbol_rows symbols.now) result }
+    ensures failures { W.failures writer.new ≡ failures_after (W.failures writer.old) result }
+{
+    match write_all(writer, symbols_head(symbols).as_slice()) {
+        Ok(()) => write_symbol_rows(symbols, writer),
+        Err(failed) => Err(failed),
+    }
+}
+
+// Writes a row for each symbol.
+fn write_symbol_rows<W: Write>(symbols: &Symbols, writer: &mut W) -> Result<(), WriteFailed>
+    ensures written { W.told ≡ true → Writes (W.written writer.old) (W.written writer.new) (flat_map symbol_row symbols.now) result }
+    ensures failures { W.failures writer.new ≡ failures_after (W.failures writer.old) result }
+{
+    for index in 0..symbols.len() {
+        let Some(symbol) = symbols.entry(index) else {
+            unreachable!()
+        };
+        match write_all(writer, symbol_row(symbol.0, symbol.1).as_slice()) {
+            Ok(()) => {}
+            Err(failed) => return Err(failed),
+        }
+    }
+    Ok(())
+}
+
+// The row before the symbols.
+#[tactic(auto, using(words::proofs::Digits::short_decimal), unfolding(crate::specs::Listing::symbols_head))]
+fn symbols_head(symbols: &Symbols) -> ArrayVec<u8, HEAD>
+    ensures { result.items ≡ symbols_head symbols.now }
+{
+    let mut line = ArrayVec::new();
+    push_all(&mut line, b"SYMBOLS ");
+    push_decimal(&mut line, symbols.len() as u64);
+    push_all(&mut line, b"\n");
+    line
+}
+
+// The row of a symbol.
+#[tactic(auto, unfolding(crate::specs::Listing::symbol_row))]
+fn symbol_row(name: &[u8], value: Value) -> ArrayVec<u8, SYMBOL_ROW>
+    requires { length name.now ≤ NAME_LENGTH }
+    ensures { result.items ≡ symbol_row (name.now, value) }
+{
+    let mut line = ArrayVec::new();
+    push_all(&mut line, name);
+    push_blanks(&mut line, NAME_LENGTH - name.len());
+    push_all(&mut line, b" ");
+    push_all(&mut line, value_text(value).as_slice());
+    push_all(&mut line, b"\n");
+    line
+}
+
+/// The value of a symbol as text, such as `NUM 00020`, `ERASABLE 0100` or `FIXED 02,0005`.
+pub(crate) fn value_text(value: Value) -> ArrayVec<u8, VALUE_LENGTH>
+    ensures { result.items ≡ value_text value }
+{
+    let mut text = ArrayVec::new();
+    match value {
+        Value::Num(number) => {
+            push_all(&mut text, b"NUM ");
+            push_octal(&mut text, 5, number.to_u16());
+        }
+        Value::Erasable(place) => {
+            push_all(&mut text, b"ERASABLE ");
+            push_octal(&mut text, 4, place.number());
+        }
+        Value::Fixed(bank, offset) => {
+            push_all(&mut text, b"FIXED ");
+            push_octal(&mut text, 2, bank.bank().number());
+            push_all(&mut text, b",");
+            push_octal(&mut text, 4, offset.number());
+        }
+    }
+    text
+}

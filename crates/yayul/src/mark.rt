@@ -1,0 +1,127 @@
+//! What the listing shows beside the number and the text of a line.
+
+ghost use Rattle.std.specs.Prelude.{◌≡◌, [], ◌∷◌, ◌++◌, OnOk};
+ghost use Rattle.yayul.specs.Marks.{place_mark, second_offset, source_mark, mark_of};
+
+use crate::layout::Location;
+use crate::statement::{Operation, Source, Statement};
+use space::numbers::{Bank, Eras, Offset};
+use std::alloc::{AllocError, Global};
+use std::marker::Model;
+
+/// What the listing shows beside the number and the text of a line.
+#[derive(Clone, Copy, Drop)]
+pub(crate) enum Mark {
+    /// Neither a place nor a word.
+    Nothing,
+    /// An erasable place alone.
+    Erasable(Eras),
+    /// A bank and an offset alone.
+    Fixed(Bank, Offset),
+    /// The word at a bank and an offset.
+    Word(Bank, Offset),
+    /// The word at a bank and an offset, and a second one of its bank.
+    Words(Bank, Offset, Offset),
+}
+
+impl Mark {
+    /// What a statement shows, which stands at a location.
+    pub(crate) fn of(here: Location, statement: &Statement) -> Mark
+        ensures { result ≡ mark_of here statement.now }
+    {
+        match &statement.operation {
+            Operation::Nothing if statement.label.is_missing() => Mark::Nothing,
+            Operation::Nothing | Operation::Erase(_) => Mark::of_place(here),
+            Operation::Gives(source) => Mark::of_source(here, source),
+            Operation::Unknown
+            | Operation::Setloc(_)
+            | Operation::Bank(..)
+            | Operation::Equals(_)
+            | Operation::Ebank(_) => Mark::Nothing,
+        }
+    }
+
+    // The place at a location alone, unless that stands past an end.
+    fn of_place(here: Location) -> Mark
+        ensures { result ≡ place_mark here }
+    {
+        match here {
+            Location::Erasable(number) => match Eras::try_new(number) {
+                Some(place) => Mark::Erasable(place),
+                None => Mark::Nothing,
+            },
+            Location::Fixed(bank, number) => match Offset::try_new(number) {
+                Some(offset) => Mark::Fixed(bank.bank(), offset),
+                None => Mark::Nothing,
+            },
+        }
+    }
+
+    // The words of a source at a location, where they may stand.
+    fn of_source(here: Location, source: &Option<Source>) -> Mark
+        ensures { result ≡ source_mark here source.now }
+    {
+        match (source, here.word_place()) {
+            (Some(source), Some(place)) => {
+                let bank = place.0.bank();
+                match second_offset(source.width(), place.1) {
+                    Some(second) => Mark::Words(bank, place.1, second),
+                    None => Mark::Word(bank, place.1),
+                }
+            }
+            _ => Mark::Nothing,
+        }
+    }
+}
+
+/// What the lines of a source show, in order.
+#[derive(Drop)]
+pub(crate) struct Marks {
+    marks: Vec<Mark>,
+}
+
+impl Model for Marks {
+    ghost use Rattle.std.specs.Prelude.{List};
+    ghost use Rattle.yayul.specs.declared.mark.Mark.{Mark as Shown};
+
+    ghost Value = { List Shown };
+
+    ghost view = { λ m. m.marks.items };
+}
+
+impl Marks {
+    /// What no line shows. Nothing is allocated.
+    pub(crate) fn new(alloc: Global) -> Marks
+        ensures { result ≡ [] }
+    {
+        Marks {
+            marks: Vec::new(alloc),
+        }
+    }
+
+    /// Adds what the next line shows.
+    pub(crate) fn push(&mut self, mark: Mark) -> Result<(), AllocError>
+        ensures { OnOk result (self.new ≡ self.old ++ mark ∷ []) }
+    {
+        self.marks.push(mark)?;
+        Ok(())
+    }
+
+    /// What each line shows.
+    pub(crate) fn as_slice(&self) -> &[Mark]
+        ensures { result.now ≡ self.now }
+    {
+        &self.marks
+    }
+}
+
+// The offset of a second word, where there is one in the bank.
+fn second_offset(count: usize, offset: Offset) -> Option<Offset>
+    ensures { result ≡ second_offset count offset }
+{
+    if count > 1 {
+        Offset::try_new(offset.number() + 1)
+    } else {
+        None
+    }
+}

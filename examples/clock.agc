@@ -1,0 +1,30 @@
+# A clock: TIME3 is set so that its second pulse overflows it. Its interrupt
+# counts a tick on channel 13, and sets it again.
+
+ARUPT   EQUALS  10              # where a program keeps A while it serves an interrupt
+TIME3   EQUALS  26
+
+        SETLOC  100
+TICKS   ERASE
+
+        SETLOC  4000
+        CAF     SOON
+        TS      TIME3
+        RELINT
+IDLE    TCF     IDLE
+
+        SETLOC  4014            # T3RUPT: four words, so that the rest stands elsewhere
+        TCF     TICK
+
+        SETLOC  4100
+TICK    XCH     ARUPT           # A is kept
+        CAF     SOON
+        TS      TIME3
+        INCR    TICKS
+        CA      TICKS
+        EXTEND
+        WRITE   13
+        XCH     ARUPT           # A is as it was
+        RESUME
+
+SOON    OCT     37776           # two pulses before overflow

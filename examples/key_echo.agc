@@ -1,0 +1,25 @@
+# Echoes keys: a word on channel 15 asks for KEYRUPT1, which writes it to
+# channel 10. A, L and Q are kept and had back, as flight programs do.
+
+ARUPT   EQUALS  10              # and LRUPT after it
+QRUPT   EQUALS  12
+
+        SETLOC  4000
+        RELINT
+IDLE    TCF     IDLE
+
+        SETLOC  4024            # KEYRUPT1
+        DXCH    ARUPT           # A and L are kept
+        TCF     KEY
+
+        SETLOC  4100
+KEY     EXTEND
+        QXCH    QRUPT           # Q is kept
+        EXTEND
+        READ    15
+        EXTEND
+        WRITE   10
+        EXTEND
+        QXCH    QRUPT           # Q is as it was
+        DXCH    ARUPT           # A and L are as they were
+        RESUME
