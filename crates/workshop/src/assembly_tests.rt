@@ -8,6 +8,7 @@ use words::faulty::{FaultyReader, FaultyWriter, Trouble};
 use words::{Buffer, Word};
 use yayul::assemble;
 use yayul::fault::{Fault, FaultKind};
+use yayul::program::Program;
 
 const FIVE_PLUS_FIVE: &[u8] = b" SETLOC 4000
  CA FIVE
@@ -129,6 +130,14 @@ fn after(alloc: Global, source: &[u8], steps: u8) -> Result<Machine, Fault> {
     Ok(machine)
 }
 
+/// The word at an offset of bank 2, 0 where none stands.
+fn word_in_bank_two(program: &Program, offset: u16) -> u16 {
+    match (Bank::try_new(2), Offset::try_new(offset)) {
+        (Some(bank), Some(offset)) => program.rope().word(bank, offset).to_u16(),
+        _ => 0,
+    }
+}
+
 /// A, L, Z, FB, EB and the cycles.
 fn state(machine: &Machine) -> (u16, u16, u16, u16, u16, u64) {
     (
@@ -144,14 +153,8 @@ fn state(machine: &Machine) -> (u16, u16, u16, u16, u16, u64) {
 #[test]
 fn far_transfer(rt: HostRuntime) {
     let program = assemble(rt.alloc(), FAR_TRANSFER).expect(&rt, "a program");
-    let bank = Bank::try_new(2).unwrap();
-    let words = [7u16, 8].map(|offset| {
-        program
-            .rope()
-            .word(bank, Offset::try_new(offset).unwrap())
-            .to_u16()
-    });
-    assert_eq!(rt; words, [0o02000, 0o66100]);
+    assert_eq!(rt; word_in_bank_two(&program, 7), 0o02000);
+    assert_eq!(rt; word_in_bank_two(&program, 8), 0o66100);
     let six = after(rt.alloc(), FAR_TRANSFER, 6).expect(&rt, "a machine");
     assert_eq!(rt; state(&six), (0o004006, 0, 0o2000, 0o66000, 0, 12));
     let far = Linear::Fixed(Bank::try_new(0o43).unwrap(), Offset::try_new(0).unwrap());
