@@ -2,19 +2,19 @@
    that the measured source uses, checks what agcws checks of them (a fault is told by its line alone), and writes the same
    rope image and the same listing.
    cc -O2 -o assemble assemble.c && ./assemble SRC ROPE >LISTING */
+#include "fields.h"
 #include <stdbool.h>
 #include <stdint.h>
 #include <stdio.h>
 #include <stdlib.h>
 #include <string.h>
 
-enum { MOST_BYTES = 8388608, MOST_LINES = 65536, LINE_BYTES = 120, SLOTS = 1 << 18 };
+enum { MOST_LINES = 65536, SLOTS = 1 << 18 };
 enum kind { NUM, ERASABLE, FIXED };
 enum takes { SETLOC, BANK, ERASE, EQUALS, EBANK, OCT, DEC, FAR, PLAIN, NEXT, ADDRESS, PAIR, FIXED_ADDRESS, PLACE, COMPLETE };
 enum extracode { NO, YES, EITHER };
 enum shows { NOTHING, THE_PLACE, WORD, WORDS };
 
-struct field { const char *text; unsigned length; };
 struct line { struct field label, operator, operand, offset; bool more; };
 struct value { enum kind kind; unsigned bank, number; };
 struct symbol { struct field name; struct value value; };
@@ -53,15 +53,6 @@ static struct value location = {FIXED, 2, 0};
 static void refuse(unsigned line) {
     fprintf(stderr, "assemble: line %u\n", line);
     exit(1);
-}
-
-static bool is_blank(char byte) { return byte == ' ' || byte == '\t'; }
-
-static struct field next_field(const char **at, const char *end) {
-    while (*at < end && is_blank(**at)) ++*at;
-    const char *start = *at;
-    while (*at < end && !is_blank(**at)) ++*at;
-    return (struct field){start, *at - start};
 }
 
 static struct line take_apart(const char *text, const char *end) {

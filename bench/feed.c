@@ -1,16 +1,16 @@
 /* A plain reader of feeds, unverified, beside which reading a feed is measured: it keeps the inputs in a table, checks the form
    that agcws checks, and tells the first line with a fault as agcws does.
    cc -O2 -o feed feed.c && ./feed FEED */
+#include "fields.h"
 #include <stdbool.h>
 #include <stdint.h>
 #include <stdio.h>
 #include <stdlib.h>
 #include <string.h>
 
-enum { MOST_BYTES = 8388608, MOST_INPUTS = 65536, LINE_BYTES = 120 };
+enum { MOST_INPUTS = 65536 };
 enum { PINC = 1, MINC = 2, DINC = 4, PCDU = 8, MCDU = 16, SHINC = 32, SHANC = 64 };
 
-struct field { const char *text; unsigned length; };
 struct name { const char *text; unsigned value; }; /* a counter takes some sequences, a sequence is one of them */
 struct input { uint64_t cycle; enum { CHANNEL, REQUEST, PULSE } kind; unsigned first, second; };
 
@@ -30,15 +30,6 @@ static unsigned input_count;
 static void refuse(unsigned number, unsigned line) {
     fprintf(stderr, line ? "agcws: E%u LINE %u\n" : "agcws: E%u\n", number, line);
     exit(1);
-}
-
-static bool is_blank(char byte) { return byte == ' ' || byte == '\t'; }
-
-static struct field next_field(const char **at, const char *end) {
-    while (*at < end && is_blank(**at)) ++*at;
-    const char *start = *at;
-    while (*at < end && !is_blank(**at)) ++*at;
-    return (struct field){start, *at - start};
 }
 
 static bool is(struct field field, const char *text) {

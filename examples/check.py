@@ -34,7 +34,7 @@ def told(label, is_well, detail=""):
         print(f"{label}: FAILED{': ' + detail if detail else ''}")
 
 
-def agcws(*words, stdin=None):
+def agcws(*words):
     """Runs the program, and answers its status, its output and its error output."""
     ran = subprocess.run([PROGRAM, *words], stdin=subprocess.DEVNULL, capture_output=True, timeout=60)
     return ran.returncode, ran.stdout, ran.stderr
