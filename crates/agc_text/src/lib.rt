@@ -6,8 +6,6 @@
 mod digits;
 mod fields;
 mod lines;
-#[cfg(test)]
-mod tests;
 mod text;
 
 pub use digits::{Number, decimal, decimal_value, octal, octal_value};

@@ -7,16 +7,12 @@ mod channels;
 mod disassembly;
 mod dispatch;
 mod execute;
-#[cfg(test)]
-mod input_tests;
 mod inputs;
 mod instruction;
 mod instructions;
 mod machine;
 mod output;
 mod processor;
-#[cfg(test)]
-mod tests;
 
 pub use disassembly::disassemble;
 pub use machine::Machine;

@@ -8,8 +8,6 @@ mod names;
 mod reading;
 pub mod request;
 mod statement;
-#[cfg(test)]
-mod tests;
 
 pub use fault::FeedFault;
 pub use list::Feed;

@@ -6,8 +6,6 @@ mod image;
 pub mod laws;
 mod memory;
 mod reading;
-#[cfg(test)]
-mod tests;
 
 pub use fault::RopeFault;
 pub use memory::Rope;

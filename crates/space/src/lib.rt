@@ -6,5 +6,3 @@ pub mod numbers;
 pub mod place;
 pub mod resolve;
 pub mod store;
-#[cfg(test)]
-mod tests;

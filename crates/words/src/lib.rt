@@ -24,6 +24,3 @@ pub use standard::Std;
 pub use text::{ReadFault, read_text};
 pub use wide::{Overflow, Wide};
 pub use word::{Word, WordFault};
-
-#[cfg(test)]
-mod tests;

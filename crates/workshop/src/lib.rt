@@ -2,14 +2,10 @@
 #![tactic(auto)]
 
 mod assembly;
-#[cfg(test)]
-mod assembly_tests;
 mod channel_line;
 mod engine;
 mod fault;
 mod inputs;
-#[cfg(test)]
-mod tests;
 
 pub use assembly::asm_engine;
 pub use engine::{Summary, run_engine};

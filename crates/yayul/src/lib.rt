@@ -22,8 +22,3 @@ pub mod value;
 mod word;
 
 pub use passes::assemble;
-
-#[cfg(test)]
-mod source_tests;
-#[cfg(test)]
-mod tests;

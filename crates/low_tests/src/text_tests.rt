@@ -1,4 +1,8 @@
-use super::*;
+//! Lines, fields and numbers of texts.
+
+use agc_text::{
+    Field, Line, Number, decimal, decimal_value, next_field, next_line, octal, octal_value,
+};
 
 fn text_of<'a>(field: Option<Field<'a>>) -> &'a [u8] {
     match field {

@@ -1,38 +1,20 @@
 //! Worked examples: programs in fixed memory, and the machine after some steps.
 
-use super::*;
+use crate::programs::{machine_after, rope_of};
+use cpu::{Machine, Output, Processor, disassemble};
 use feed::Feed;
-use rope::{Rope, RopeFault};
-use space::numbers::{Bank, Chan, Eras, Offset};
+use rope::RopeFault;
+use space::numbers::{Chan, Eras};
 use std::alloc::Global;
 use words::{Wide, Word};
 
 /// Where the programs keep their result.
 const X: u16 = 0o100;
 
-/// A rope with these words from address 04000 on.
-fn rope_of(alloc: Global, words: &[u16]) -> Result<Rope, RopeFault> {
-    let mut rope = Rope::empty(alloc)?;
-    let bank = Bank::try_new(2).unwrap();
-    for number in 0..0o2000u16 {
-        let offset = Offset::try_new(number).unwrap();
-        if let Some(word) = words.get(usize::from(number))
-            && !rope.has(bank, offset)
-        {
-            rope.put(bank, offset, Word::of_low_bits(*word));
-        }
-    }
-    Ok(rope)
-}
-
 /// The machine after some steps of these words.
 fn after(alloc: Global, words: &[u16], steps: u8) -> Result<Machine, RopeFault> {
-    let mut processor = Processor::new(rope_of(alloc, words)?, Feed::empty(alloc));
-    let mut machine = Machine::start();
-    for _ in 0..steps {
-        processor.step(&mut machine);
-    }
-    Ok(machine)
+    let processor = Processor::new(rope_of(alloc, words)?, Feed::empty(alloc));
+    Ok(machine_after(processor, steps))
 }
 
 fn place(number: u16) -> Eras {
@@ -264,7 +246,7 @@ fn edrupt_only_takes_cycles(rt: HostRuntime) -> Result<(), RopeFault> {
     let machine = after(rt.alloc(), &words, 2)?;
     assert_eq!(rt; state(&machine), (0, 0, 0o4002, 4));
     assert_eq!(rt; machine.reg(Eras::Q), Wide::ZERO);
-    assert!(rt; machine.inhibit() && !machine.inside() && !machine.extra());
+    assert!(rt; machine.inhibit() && !machine.inside());
     Ok(())
 }
 

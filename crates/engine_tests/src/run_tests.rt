@@ -1,20 +1,14 @@
+//! Runs: what they write, and the faults that they tell.
+
 ghost use Rattle.std.specs.Prelude.{◌-◌, ◌≤◌, ◌^◌};
 
-use super::*;
+use crate::sources::FIVE_PLUS_FIVE;
 use feed::FeedFault;
 use std::alloc::{AllocError, Global};
 use words::Buffer;
 use words::faulty::{FaultyReader, FaultyWriter, Trouble};
+use workshop::{Summary, WorkshopFault, report, run_engine};
 use yayul::fault::{Fault, FaultKind};
-
-const FIVE_PLUS_FIVE: &[u8] = b" SETLOC 4000
- CA FIVE
- AD FIVE
- EXTEND
- WRITE 10
- TCF 4000
-FIVE OCT 5
-";
 
 const ONE_LINE: &[u8] = b"7 CH 010 00012\n";
 

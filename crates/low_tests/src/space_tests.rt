@@ -1,7 +1,9 @@
-use crate::numbers::{Addr12, Bank, Chan, Eras, Offset};
-use crate::place::Linear;
-use crate::resolve::{banks_of, resolve, window};
-use crate::store::{Store, changed};
+//! Places, cells and channels.
+
+use space::numbers::{Addr12, Bank, Chan, Eras, Offset};
+use space::place::Linear;
+use space::resolve::{banks_of, resolve, window};
+use space::store::{Store, changed};
 use words::Wide;
 
 /// An erasable place of a test.

@@ -1,8 +1,10 @@
-use super::*;
-use crate::fault::Fault;
+//! Listings of sources.
+
 use std::alloc::Global;
 use words::Buffer;
 use words::faulty::{FaultyWriter, Trouble};
+use yayul::assemble;
+use yayul::fault::Fault;
 
 const FIVE_PLUS_FIVE: &[u8] = b" SETLOC 4000
  CA FIVE

@@ -1,26 +1,10 @@
 //! Worked examples: programs with a feed, and the machine after some steps.
 
-use super::*;
+use crate::programs::{machine_after, rope_of};
+use cpu::{Machine, Processor};
 use feed::{Feed, read};
-use rope::Rope;
-use space::numbers::{Bank, Chan, Eras, Offset};
+use space::numbers::{Chan, Eras};
 use std::alloc::Global;
-use words::Word;
-
-/// A rope with these words from address 04000 on.
-fn rope_of(alloc: Global, words: &[u16]) -> Option<Rope> {
-    let mut rope = Rope::empty(alloc).ok()?;
-    let bank = Bank::try_new(2)?;
-    for number in 0..0o2000u16 {
-        let offset = Offset::try_new(number)?;
-        if let Some(word) = words.get(usize::from(number))
-            && !rope.has(bank, offset)
-        {
-            rope.put(bank, offset, Word::of_low_bits(*word));
-        }
-    }
-    Some(rope)
-}
 
 /// The feed of these lines.
 fn feed_of(alloc: Global, text: &[u8]) -> Option<Feed> {
@@ -28,23 +12,16 @@ fn feed_of(alloc: Global, text: &[u8]) -> Option<Feed> {
     read(alloc, &mut reader).ok()
 }
 
-/// The machine after some steps of these words over these lines of a feed.
-fn after(alloc: Global, words: &[u16], text: &[u8], steps: u8) -> Option<Machine> {
-    let mut processor = Processor::new(rope_of(alloc, words)?, feed_of(alloc, text)?);
-    let mut machine = Machine::start();
-    for _ in 0..steps {
-        processor.step(&mut machine);
-    }
-    Some(machine)
+/// The processor of these words and these lines of a feed.
+fn processor_of(alloc: Global, words: &[u16], text: &[u8]) -> Option<Processor> {
+    let rope = rope_of(alloc, words).ok()?;
+    Some(Processor::new(rope, feed_of(alloc, text)?))
 }
 
-/// The machine after an input, where before it this word is held at an erasable place.
-fn after_input(alloc: Global, place: Eras, held: u16, text: &[u8]) -> Option<Machine> {
-    let mut processor = Processor::new(Rope::empty(alloc).ok()?, feed_of(alloc, text)?);
-    let mut machine = Machine::start();
-    machine.put(place, Word::of_low_bits(held).extend());
-    processor.step(&mut machine);
-    Some(machine)
+/// The machine after some steps of these words over these lines of a feed.
+fn after(alloc: Global, words: &[u16], text: &[u8], steps: u8) -> Option<Machine> {
+    let processor = processor_of(alloc, words, text)?;
+    Some(machine_after(processor, steps))
 }
 
 /// The word at a place.
@@ -52,11 +29,14 @@ fn at(machine: &Machine, number: u16) -> u16 {
     machine.word(Eras::of_low_bits(number)).to_u16()
 }
 
-/// The least interrupt that is asked for, 0 where none is.
-fn asked(machine: &Machine) -> u8 {
-    match machine.least_request() {
-        Some(request) => request.number(),
-        None => 0,
+/// The interrupt that is entered in two steps, RELINT and the entry, 0 where none is.
+fn entered(processor: &mut Processor, machine: &mut Machine) -> u16 {
+    processor.step(machine);
+    processor.step(machine);
+    if machine.inside() {
+        at(machine, 5) % 0o4000 / 4
+    } else {
+        0
     }
 }
 
@@ -77,18 +57,27 @@ fn state_after(
     ))
 }
 
-/// The word at a place, the least interrupt that is asked for, and the cycles, after an input.
-fn counted(alloc: Global, number: u16, held: u16, text: &[u8]) -> Option<(u16, u8, u64)> {
-    let place = Eras::of_low_bits(number);
-    let machine = after_input(alloc, place, held, text)?;
-    Some((at(&machine, number), asked(&machine), machine.cycles()))
+/// The word at a place after an input at cycle 4, where before it this word is held there, the cycles, and the interrupt
+/// that is then entered.
+fn counted(alloc: Global, number: u16, held: u16, text: &[u8]) -> Option<(u16, u64, u16)> {
+    let words = [0o34004, 0o54000 | number, 0o00003, 0o14003, held];
+    let mut processor = processor_of(alloc, &words, text)?;
+    let mut machine = Machine::start();
+    for _ in 0..3 {
+        processor.step(&mut machine);
+    }
+    let (word, cycles) = (at(&machine, number), machine.cycles());
+    Some((word, cycles, entered(&mut processor, &mut machine)))
 }
 
-/// What is read on a channel, the least interrupt that is asked for, and the cycles, after an input.
-fn received(alloc: Global, channel: u16, text: &[u8]) -> Option<(u16, u8, u64)> {
-    let machine = after_input(alloc, Eras::A, 0, text)?;
+/// What is read on a channel after an input at cycle 0, the cycles, and the interrupt that is then entered.
+fn received(alloc: Global, channel: u16, text: &[u8]) -> Option<(u16, u64, u16)> {
+    let mut processor = processor_of(alloc, &[0o00003, 0o14001], text)?;
+    let mut machine = Machine::start();
+    processor.step(&mut machine);
     let read = machine.channel(Chan::of_low_bits(channel));
-    Some((read.correct().to_u16(), asked(&machine), machine.cycles()))
+    let (word, cycles) = (read.correct().to_u16(), machine.cycles());
+    Some((word, cycles, entered(&mut processor, &mut machine)))
 }
 
 #[test]
@@ -145,12 +134,14 @@ fn counter_inputs(rt: HostRuntime) {
 
 #[test]
 fn least_request_is_entered(rt: HostRuntime) {
-    let words = [0o00003, 0o14001];
+    let words = [0o00003, 0o14001, 0, 0, 0, 0, 0, 0, 0, 0, 0, 0, 0o50017];
     let text = b"0 RUPT 10\n0 RUPT 3\n";
     for (steps, row) in [
         (2, (0, 0o4000, 0, 0, 0)),
         (3, (0, 0o4001, 0, 0, 1)),
         (4, (0, 0o4014, 0o14001, 0o4002, 4)),
+        (6, (0, 0o4001, 0o14001, 0o4002, 7)),
+        (7, (0, 0o4050, 0o14001, 0o4002, 10)),
     ] {
         assert_eq!(rt;
             state_after(rt.alloc(), &words, text, steps),
@@ -158,40 +149,38 @@ fn least_request_is_entered(rt: HostRuntime) {
             "after {steps}"
         );
     }
-    let machine = after(rt.alloc(), &words, text, 4).expect(&rt, "memory");
-    assert_eq!(rt; asked(&machine), 10);
 }
 
 /// Each counter: what it holds after a sequence, the interrupt for which it asks, and one cycle.
 #[test]
 fn counters(rt: HostRuntime) {
-    let rows: [(u16, u16, &[u8], u16, u8); 21] = [
-        (0o24, 0o37777, b"0 TIME2 PINC", 0, 0),
-        (0o25, 0o37777, b"0 TIME1 PINC", 0, 0),
-        (0o26, 0o37777, b"0 TIME3 PINC", 0, 3),
-        (0o26, 0o37776, b"0 TIME3 PINC", 0o37777, 0),
-        (0o27, 0o37777, b"0 TIME4 PINC", 0, 4),
-        (0o30, 0o37777, b"0 TIME5 PINC", 0, 2),
-        (0o31, 0o00000, b"0 TIME6 DINC", 0, 1),
-        (0o31, 0o00001, b"0 TIME6 DINC", 0, 1),
-        (0o31, 0o00002, b"0 TIME6 DINC", 1, 0),
-        (0o31, 0o77776, b"0 TIME6 DINC", 0, 1),
-        (0o32, 0o77777, b"0 CDUX PCDU", 0, 0),
-        (0o33, 0o00000, b"0 CDUY MCDU", 0o77777, 0),
-        (0o34, 0o37777, b"0 CDUZ PCDU", 0o40000, 0),
-        (0o35, 0o40000, b"0 OPTY MCDU", 0o37777, 0),
-        (0o36, 0o00005, b"0 OPTX PCDU", 6, 0),
-        (0o37, 0o37777, b"0 PIPAX PINC", 0, 0),
-        (0o40, 0o40000, b"0 PIPAY MINC", 0o77777, 0),
-        (0o41, 0o00000, b"0 PIPAZ MINC", 0o77776, 0),
-        (0o45, 0o40000, b"0 INLINK SHANC", 1, 7),
-        (0o45, 0o40000, b"0 INLINK SHINC", 0, 7),
-        (0o45, 0o20000, b"0 INLINK SHINC", 0o40000, 0),
+    let rows: [(u16, u16, &[u8], u16, u16); 21] = [
+        (0o24, 0o37777, b"4 TIME2 PINC", 0, 0),
+        (0o25, 0o37777, b"4 TIME1 PINC", 0, 0),
+        (0o26, 0o37777, b"4 TIME3 PINC", 0, 3),
+        (0o26, 0o37776, b"4 TIME3 PINC", 0o37777, 0),
+        (0o27, 0o37777, b"4 TIME4 PINC", 0, 4),
+        (0o30, 0o37777, b"4 TIME5 PINC", 0, 2),
+        (0o31, 0o00000, b"4 TIME6 DINC", 0, 1),
+        (0o31, 0o00001, b"4 TIME6 DINC", 0, 1),
+        (0o31, 0o00002, b"4 TIME6 DINC", 1, 0),
+        (0o31, 0o77776, b"4 TIME6 DINC", 0, 1),
+        (0o32, 0o77777, b"4 CDUX PCDU", 0, 0),
+        (0o33, 0o00000, b"4 CDUY MCDU", 0o77777, 0),
+        (0o34, 0o37777, b"4 CDUZ PCDU", 0o40000, 0),
+        (0o35, 0o40000, b"4 OPTY MCDU", 0o37777, 0),
+        (0o36, 0o00005, b"4 OPTX PCDU", 6, 0),
+        (0o37, 0o37777, b"4 PIPAX PINC", 0, 0),
+        (0o40, 0o40000, b"4 PIPAY MINC", 0o77777, 0),
+        (0o41, 0o00000, b"4 PIPAZ MINC", 0o77776, 0),
+        (0o45, 0o40000, b"4 INLINK SHANC", 1, 7),
+        (0o45, 0o40000, b"4 INLINK SHINC", 0, 7),
+        (0o45, 0o20000, b"4 INLINK SHINC", 0o40000, 0),
     ];
     for (number, held, text, word, request) in rows {
         assert_eq!(rt;
             counted(rt.alloc(), number, held, text),
-            Some((word, request, 1)),
+            Some((word, 5, request)),
             "{number:o} {held:o}"
         );
     }
@@ -200,7 +189,7 @@ fn counters(rt: HostRuntime) {
 /// A word on a channel takes no cycle. Only the keyboards' channels ask for an interrupt.
 #[test]
 fn words_on_channels(rt: HostRuntime) {
-    let rows: [(u16, &[u8], u16, u8); 5] = [
+    let rows: [(u16, &[u8], u16, u16); 5] = [
         (0o3, b"0 CHAN 3 77777", 0o77777, 0),
         (0o7, b"0 CHAN 7 77777", 0o160, 0),
         (0o15, b"0 CHAN 15 00021", 0o21, 5),
@@ -210,7 +199,7 @@ fn words_on_channels(rt: HostRuntime) {
     for (channel, text, word, request) in rows {
         assert_eq!(rt;
             received(rt.alloc(), channel, text),
-            Some((word, request, 0)),
+            Some((word, 0, request)),
             "{channel:o}"
         );
     }

@@ -1,23 +1,17 @@
-use super::*;
+//! Images and listings of sources, and the machine after steps of them.
+
+use crate::sources::FIVE_PLUS_FIVE;
 use cpu::{Machine, Processor};
 use feed::Feed;
 use space::numbers::{Bank, Eras, Offset};
 use space::place::Linear;
 use std::alloc::Global;
+use words::Buffer;
 use words::faulty::{FaultyReader, FaultyWriter, Trouble};
-use words::{Buffer, Word};
+use workshop::{WorkshopFault, asm_engine};
 use yayul::assemble;
 use yayul::fault::{Fault, FaultKind};
 use yayul::program::Program;
-
-const FIVE_PLUS_FIVE: &[u8] = b" SETLOC 4000
- CA FIVE
- AD FIVE
- EXTEND
- WRITE 10
- TCF 4000
-FIVE OCT 5
-";
 
 const LISTING: &[u8] = b"    1                 SETLOC 4000
     2 02,4000 34005   CA FIVE

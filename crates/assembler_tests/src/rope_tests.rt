@@ -1,4 +1,6 @@
-use super::*;
+//! Fixed memory, and the images that devices take and give.
+
+use rope::{Rope, RopeFault};
 use space::numbers::{Bank, Offset};
 use std::alloc::Global;
 use words::faulty::{FaultyReader, FaultyWriter, Trouble};

@@ -1,12 +1,12 @@
-use super::*;
-use crate::input::{Counter, Input, Sequence};
-use crate::request::Request;
+//! Feeds: their lines, their faults, and when inputs are due.
+
+use feed::input::{Counter, Input, Sequence};
+use feed::request::Request;
+use feed::{Feed, FeedFault, MOST_BYTES, read};
 use space::numbers::Chan;
 use std::alloc::{AllocError, Global};
 use words::Word;
 use words::faulty::FaultyReader;
-
-const MOST_BYTES: usize = 8_388_608;
 
 const MOST_INPUTS: usize = 65_536;
 

@@ -1,8 +1,8 @@
 //! Sources with their words or their faults: the worked examples, and a line for each question on sources that was settled.
 
-use super::*;
 use space::numbers::{Bank, Offset};
 use std::alloc::{AllocError, Global};
+use yayul::assemble;
 
 /// The line and the number of a source's fault, 0 and 0 where it has none.
 fn fault_of(alloc: Global, source: &[u8]) -> (u32, u8) {

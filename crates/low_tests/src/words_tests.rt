@@ -1,9 +1,12 @@
 //! Worked examples of the arithmetic, and devices that are in trouble at each place.
 
-use super::faulty::{FaultyReader, FaultyWriter, Trouble};
-use super::*;
 use arrayvec::ArrayVec;
 use std::io;
+use words::faulty::{FaultyReader, FaultyWriter, Trouble};
+use words::{
+    Buffer, Carry, CounterStep, Overflow, Product, Quotient, ReadFault, Std, Wide, Word, WordFault,
+    Write, WriteFailed, div, push_all, push_decimal, push_octal, read_text, write_all,
+};
 
 fn word(number: u16) -> Word {
     Word::of_low_bits(number)
@@ -102,7 +105,7 @@ fn modular_difference(rt: HostRuntime) {
 }
 
 #[test]
-#[tactic(auto, using(crate::proofs::Digits::short_decimal))]
+#[tactic(auto, using(words::proofs::Digits::short_decimal))]
 fn texts_without_memory(rt: HostRuntime) {
     let mut line = ArrayVec::<u8, 40>::new();
     push_decimal(&mut line, 7);

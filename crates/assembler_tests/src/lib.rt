@@ -1,0 +1,9 @@
+//! Tests of `rope` and `yayul`.
+#![tactic(auto)]
+
+#[cfg(test)]
+mod listing_tests;
+#[cfg(test)]
+mod rope_tests;
+#[cfg(test)]
+mod source_tests;
