@@ -5,7 +5,7 @@ use space::numbers::{Addr12, Chan};
 
 /// An instruction with its operand: an address of 10 or 12 bits, or a channel. In those that take two places the operand is
 /// one more than the first place's address.
-#[derive(Clone, Copy, PartialEq, Eq, Debug)]
+#[derive(Clone, Copy)]
 pub(crate) enum Instruction {
     /// Interrupts are no longer inhibited.
     Relint,
@@ -86,7 +86,7 @@ pub(crate) enum Instruction {
 }
 
 /// What a word is: an instruction, and the cycles that it takes.
-#[derive(Clone, Copy, PartialEq, Eq, Debug)]
+#[derive(Clone, Copy)]
 pub(crate) struct Code {
     /// The instruction.
     pub(crate) instruction: Instruction,
