@@ -2,6 +2,7 @@
 
 use clap::{Arg, Command, value_parser};
 use std::alloc::{AllocError, Global};
+use workshop::MOST_STEPS;
 
 /// The name of the subcommand that assembles a program.
 pub const ASM: &str = "asm";
@@ -20,9 +21,6 @@ pub const FEED: &str = "FEED";
 
 /// The argument that is the number of steps.
 pub const STEPS: &str = "N";
-
-/// The most steps of a run.
-pub const MOST_STEPS: u64 = 1_099_511_627_774;
 
 const ASM_HELP: &str = "Files:
   SRC   a source in the assembler's language, at most 65536 lines of at most

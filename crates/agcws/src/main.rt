@@ -6,14 +6,14 @@ mod lazy_file;
 
 use clap::ArgMatches;
 use clap::error::ErrorKind;
-use command_line::{ASM, FEED, MOST_STEPS, ROPE, RUN, SOURCE, STEPS, command};
+use command_line::{ASM, FEED, ROPE, RUN, SOURCE, STEPS, command};
 use lazy_file::LazyFile;
 use std::alloc::AllocError;
 use std::io::BufWriter;
 use std::process::ExitCode;
 use std::{env, fs, io};
 use words::{Std, write_all};
-use workshop::{WorkshopFault, asm_engine, report, run_engine};
+use workshop::{WorkshopFault, asm_engine, may_run, report, run_engine};
 
 /// The exit status where all is done.
 const DONE: u8 = 0;
@@ -99,7 +99,7 @@ fn run(rt: &HostRuntime, matches: &ArgMatches<'_>) -> Result<u8, WorkshopFault> 
     ) else {
         return Ok(WRONG_ARGUMENTS);
     };
-    if steps > MOST_STEPS {
+    if !may_run(steps) {
         return Ok(WRONG_ARGUMENTS);
     }
     let mut source = Std::new(fs::open(rt, source).map_err(not_opened)?);

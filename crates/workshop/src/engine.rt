@@ -1,6 +1,7 @@
 //! The engine that runs a program.
 
-ghost use Rattle.std.specs.Prelude.{◌≡◌, ◌+◌, ◌-◌, ◌≤◌, ◌^◌, true, false, length, IfOk, IfErr, IsErr};
+ghost use Rattle.std.specs.Prelude.{◌≡◌, ◌+◌, ◌-◌, ◌≤◌, ◌<◌, ◌^◌, true, false, length, IfOk, IfErr, IsErr};
+ghost use Rattle.std.specs.Bool.{OnTrue, OnFalse};
 ghost use Rattle.words.specs.Devices.{Writes, failures_after};
 ghost use Rattle.words.specs.Readings.{TakesAtMost};
 ghost use Rattle.workshop.specs.ChannelLines.{channel_line, channel_lines};
@@ -27,6 +28,17 @@ pub struct Summary {
     pub cycles: u64,
     /// How many lines were written.
     pub outputs: u64,
+}
+
+/// The most steps of a run.
+pub const MOST_STEPS: u64 = 1_099_511_627_774;
+
+/// Whether a run may have so many steps.
+pub fn may_run(steps: u64) -> bool
+    ensures yes { OnTrue result (steps ≤ 2 ^ 40 - 2) }
+    ensures no { OnFalse result (2 ^ 40 - 2 < steps) }
+{
+    steps <= MOST_STEPS
 }
 
 /// Assembles the source, reads the feed, and runs the program for some steps: the line of each output is written, as

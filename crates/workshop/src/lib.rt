@@ -8,5 +8,5 @@ mod fault;
 mod inputs;
 
 pub use assembly::asm_engine;
-pub use engine::{Summary, run_engine};
+pub use engine::{MOST_STEPS, Summary, may_run, run_engine};
 pub use fault::{WorkshopFault, report};
