@@ -286,8 +286,8 @@ static void write_image(const char *path) {
     if (!image) exit(3);
     for (unsigned entry = 0; entry < 044; entry++)
         for (unsigned offset = 0; offset < 02000; offset++) {
-            unsigned twice = rope[entry < 4 ? entry ^ 2 : entry][offset] * 2;
-            putc(twice >> 8, image), putc(twice & 0377, image);
+            unsigned word = rope[entry < 4 ? entry ^ 2 : entry][offset], spelled = 2 * word | !__builtin_parity(word);
+            putc(spelled >> 8, image), putc(spelled & 0377, image);
         }
     if (fclose(image)) exit(3);
 }

@@ -6,6 +6,7 @@ In the manual a fenced block says by its first word what it is:
   feed     the feed of the next run, else the feed is empty
   listing  what `agcws asm` writes for the last source
   run N    what `agcws run` writes for the last source in N steps
+  image V  the bytes with which the image of version V of the last source begins, in hexadecimal
 and a row of a table of refusals, as `| E14 | cause | `source;lines` | 2 |`, a source (or, from E30 on, a feed) that is refused so.
 
 The last line is 'N passed, M failed'."""
@@ -75,6 +76,9 @@ def check_manual(room):
             write(feed, body)
         elif words[0] == "listing":
             compare(label, agcws("asm", source, rope), 0, body)
+        elif words[0] == "image":
+            status, _, _ = agcws("asm", "--rope", words[1], source, rope)
+            told(label, status == 0 and read(rope).startswith(bytes.fromhex(body.decode())))
         elif words[0] == "run":
             compare(label, agcws("run", source, feed, words[1]), 0, body)
             write(feed, b"")
@@ -131,16 +135,45 @@ def check_devices(room):
     told("an image's size", status == 0 and os.path.getsize(f"{room}/image") == IMAGE_BYTES)
 
 
+def check_upgrade(room):
+    """Images of both versions, and what an upgrade makes of good ones and of wrong ones."""
+    source, one, two, new = f"{EXAMPLES}/five_plus_five.agc", f"{room}/one", f"{room}/two", f"{room}/new"
+    for words in [["--rope", "1", source, one], ["--rope", "2", source, two], [source, new]]:
+        status, _, err = agcws("asm", *words)
+        told(f"agcws asm with {len(words)} words", (status, err) == (0, b""))
+    told("version 2 is the default", read(new) == read(two))
+    os.remove(new)
+    compare("an upgrade", agcws("upgrade", one, new), 0, b"")
+    told("an upgrade makes the image of version 2", read(new) == read(two) != read(one))
+    os.remove(new)
+    image = read(one)
+    for label, text, number in [
+        ("an image of version 2", read(two), 5), ("an empty image", b"", 3), ("an odd byte", b"\0\1", 5),
+        ("an image without its last byte", image[:-1], 3), ("an image and a byte", image + b"\0", 4),
+    ]:
+        write(two, text)
+        compare(label, agcws("upgrade", two, new), 1, b"", f"agcws: E{number}\n".encode())
+        told(f"{label} leaves no file", not os.path.exists(new))
+    compare("an image that is not there", agcws("upgrade", f"{room}/none", new), 3, b"", b"agcws: E6\n")
+    compare("an image that is a folder", agcws("upgrade", room, new), 3, b"", b"agcws: E6\n")
+    compare("an upgrade that cannot be made", agcws("upgrade", one, f"{room}/none/x"), 3, b"", b"agcws: E7\n")
+
+
 def check_command_line():
     """Help, and command lines that are wrong."""
-    for words in [["--help"], ["asm", "--help"], ["run", "--help"]]:
+    for words in [["--help"], ["asm", "--help"], ["run", "--help"], ["upgrade", "--help"]]:
         status, out, err = agcws(*words)
         told(f"agcws {' '.join(words)}", (status, err) == (0, b"") and all(len(it) <= 80 for it in out.decode().split("\n")))
     source, empty = f"{EXAMPLES}/five_plus_five.agc", f"{EXAMPLES}/empty.feed"
-    for words in [[], ["fly"], ["asm", source], ["run", source, empty], ["run", source, empty, "-1"], ["run", source, empty, "1099511627775"]]:
+    for words in [[], ["fly"], ["asm", source], ["run", source, empty], ["run", source, empty, "-1"], ["run", source, empty, "1099511627775"], ["asm", "--rope", "3", source, "x"], ["upgrade", source]]:
         status, out, err = agcws(*words)
         told(f"agcws {' '.join(words[:1])} with {len(words)} words", (status, out) == (2, b"") and err)
     compare("+4 steps", agcws("run", source, empty, "+4"), 0, b"7 CH 010 00012\n")
+
+
+def read(path):
+    with open(path, "rb") as file:
+        return file.read()
 
 
 def write(path, text):
@@ -158,6 +191,7 @@ def main():
         check_manual(room)
         check_long_texts(room)
         check_devices(room)
+        check_upgrade(room)
         check_command_line()
     print(f"{passed} passed, {len(failed)} failed")
     return 1 if failed else 0

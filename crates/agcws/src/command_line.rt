@@ -10,11 +10,31 @@ pub const ASM: &str = "asm";
 /// The name of the subcommand that runs a program.
 pub const RUN: &str = "run";
 
+/// The name of the subcommand that upgrades an image.
+pub const UPGRADE: &str = "upgrade";
+
 /// The argument that names the source.
 pub const SOURCE: &str = "SRC";
 
 /// The argument that names the file of the rope image.
 pub const ROPE: &str = "ROPE";
+
+/// The option that is the version of the rope image.
+pub const VERSION: &str = "VERSION";
+
+/// Version 1 of the rope image, as it is named.
+pub const VERSION_ONE: &str = "1";
+
+/// Version 2 of the rope image, as it is named.
+pub const VERSION_TWO: &str = "2";
+
+static VERSIONS: [&str; 2] = [VERSION_ONE, VERSION_TWO];
+
+/// The argument that names the file of an image of version 1.
+pub const OLD: &str = "OLD";
+
+/// The argument that names the file of its image of version 2.
+pub const NEW: &str = "NEW";
 
 /// The argument that names the feed.
 pub const FEED: &str = "FEED";
@@ -28,7 +48,9 @@ const ASM_HELP: &str = "Files:
         operand and offset follow, and # begins a comment.
   ROPE  the rope image, 73728 bytes: banks 2, 3, 0, 1, 4 to 43 (octal), each
         of 1024 words, each word as two bytes, high byte first, of twice the
-        word. It is made at the first write: a refused source leaves none.
+        word. In version 2 the lowest bit is a parity bit, by which every two
+        bytes have an odd number of one bits; in version 1 it is 0.
+        The file is made at the first write: a refused source leaves none.
 
 Output: the listing, a row for each line of the source with its number, its
 place and its word in octal, and then the symbols.
@@ -39,6 +61,22 @@ Exit status:
   2  the command line is wrong
   3  a file, a device or memory failed
 Status 1 and 3 print one line to standard error, as agcws: E14 LINE 9.";
+
+const UPGRADE_HELP: &str = "Files:
+  OLD  a rope image of version 1, 73728 bytes: banks 2, 3, 0, 1, 4 to 43
+       (octal), each of 1024 words, each word as two bytes, high byte first,
+       of twice the word. An image of version 2 is refused.
+  NEW  the image of the same words in version 2, where the lowest bit of every
+       two bytes is a parity bit: they have an odd number of one bits.
+       The file is made at the first write: a refused image leaves none.
+
+Exit status:
+  0  done
+  1  the old image is refused: it is short (E3) or long (E4), or the lowest
+     bit of two of its bytes is 1 (E5)
+  2  the command line is wrong
+  3  a file, a device or memory failed
+Status 1 and 3 print one line to standard error, as agcws: E5.";
 
 const RUN_HELP: &str = "Files:
   SRC   a source in the assembler's language, at most 65536 lines of at most
@@ -68,15 +106,16 @@ pub fn command<'a>(alloc: Global) -> Result<Command<'a>, AllocError> {
     Command::new(alloc, "agcws")
         .about("Assembles and runs programs for the Apollo Guidance Computer")
         .after_help(
-            "See agcws asm --help and agcws run --help for the files and the exit statuses.",
+            "See agcws asm --help, agcws run --help and agcws upgrade --help for the files\nand the exit statuses.",
         )
         .subcommand_required(true)
         .disable_help_subcommand(true)
         .subcommand(asm_command(alloc)?)?
-        .subcommand(run_command(alloc)?)
+        .subcommand(run_command(alloc)?)?
+        .subcommand(upgrade_command(alloc)?)
 }
 
-/// `agcws asm SRC ROPE`.
+/// `agcws asm [--rope VERSION] SRC ROPE`.
 fn asm_command<'a>(alloc: Global) -> Result<Command<'a>, AllocError> {
     Command::new(alloc, ASM)
         .about("Assembles a source to a rope image and a listing")
@@ -90,6 +129,30 @@ fn asm_command<'a>(alloc: Global) -> Result<Command<'a>, AllocError> {
             Arg::new(alloc, ROPE)
                 .required(true)
                 .help("The rope image, a file that is made or written over"),
+        )?
+        .arg(
+            Arg::new(alloc, VERSION)
+                .long("rope")
+                .value_parser(VERSIONS.as_slice())
+                .default_value(VERSION_TWO)
+                .help("The image's version"),
+        )
+}
+
+/// `agcws upgrade OLD NEW`.
+fn upgrade_command<'a>(alloc: Global) -> Result<Command<'a>, AllocError> {
+    Command::new(alloc, UPGRADE)
+        .about("Writes a rope image of version 1 anew in version 2, with parity")
+        .after_help(UPGRADE_HELP)
+        .arg(
+            Arg::new(alloc, OLD)
+                .required(true)
+                .help("The image of version 1, a file"),
+        )?
+        .arg(
+            Arg::new(alloc, NEW).required(true).help(
+                "The image of version 2, a file that is made or written over",
+            ),
         )
 }
 

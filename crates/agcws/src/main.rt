@@ -6,14 +6,17 @@ mod lazy_file;
 
 use clap::ArgMatches;
 use clap::error::ErrorKind;
-use command_line::{ASM, FEED, ROPE, RUN, SOURCE, STEPS, command};
+use command_line::{
+    ASM, FEED, NEW, OLD, ROPE, RUN, SOURCE, STEPS, UPGRADE, VERSION, VERSION_ONE, VERSION_TWO,
+    command,
+};
 use lazy_file::LazyFile;
 use std::alloc::AllocError;
-use std::io::BufWriter;
+use std::io::{BufReader, BufWriter};
 use std::process::ExitCode;
 use std::{env, fs, io};
 use words::{Std, write_all};
-use workshop::{WorkshopFault, asm_engine, may_run, report, run_engine};
+use workshop::{Version, WorkshopFault, asm_engine, may_run, report, run_engine, upgrade_engine};
 
 /// The exit status where all is done.
 const DONE: u8 = 0;
@@ -48,6 +51,7 @@ fn perform(rt: &HostRuntime) -> Result<u8, WorkshopFault> {
         Ok(matches) => match matches.subcommand() {
             Some((ASM, matches)) => asm(rt, matches),
             Some((RUN, matches)) => run(rt, matches),
+            Some((UPGRADE, matches)) => upgrade(rt, matches),
             _ => Ok(WRONG_ARGUMENTS),
         },
         Err(error) => answer(rt, &error),
@@ -74,16 +78,21 @@ fn refuse_arguments(rt: &HostRuntime) -> Result<u8, WorkshopFault> {
     }
 }
 
-/// `agcws asm SRC ROPE`. The file ROPE is made at the first write, so that a refused source leaves none.
+/// `agcws asm [--rope VERSION] SRC ROPE`. The file ROPE is made at the first write, so that a refused source leaves none.
 fn asm(rt: &HostRuntime, matches: &ArgMatches<'_>) -> Result<u8, WorkshopFault> {
     let (Some(source), Some(rope)) = (matches.get_str(SOURCE), matches.get_str(ROPE)) else {
         return Ok(WRONG_ARGUMENTS);
+    };
+    let version = match matches.get_str(VERSION) {
+        Some(VERSION_ONE) => Version::One,
+        Some(VERSION_TWO) => Version::Two,
+        _ => return Ok(WRONG_ARGUMENTS),
     };
     let mut source = Std::new(fs::open(rt, source).map_err(not_opened)?);
     let mut image = Std::new(LazyFile::new(rt, rope));
     let buffered = BufWriter::new(rt.alloc(), io::writer(rt)).map_err(not_buffered)?;
     let mut listing = Std::new(buffered);
-    let outcome = asm_engine(rt.alloc(), &mut source, &mut image, &mut listing);
+    let outcome = asm_engine(rt.alloc(), &mut source, &mut image, &mut listing, version);
     match listing.flush() {
         Ok(()) => outcome.map(|_| DONE),
         Err(_) => Err(WorkshopFault::WriteFailed),
@@ -113,11 +122,22 @@ fn run(rt: &HostRuntime, matches: &ArgMatches<'_>) -> Result<u8, WorkshopFault> 
     }
 }
 
+/// `agcws upgrade OLD NEW`. The file NEW is made at the first write, so that a refused image leaves none.
+fn upgrade(rt: &HostRuntime, matches: &ArgMatches<'_>) -> Result<u8, WorkshopFault> {
+    let (Some(old), Some(new)) = (matches.get_str(OLD), matches.get_str(NEW)) else {
+        return Ok(WRONG_ARGUMENTS);
+    };
+    let file = fs::open(rt, old).map_err(not_opened)?;
+    let mut image = Std::new(BufReader::new(rt.alloc(), file).map_err(not_opened)?);
+    let mut out = Std::new(LazyFile::new(rt, new));
+    upgrade_engine(rt.alloc(), &mut image, &mut out).map(|_| DONE)
+}
+
 fn no_memory(_: AllocError) -> WorkshopFault {
     WorkshopFault::NoMemory
 }
 
-/// The fault of a file that could not be opened.
+/// The fault of a file that could not be opened, or for which no buffer could be made.
 fn not_opened(error: io::Error) -> WorkshopFault {
     if error.kind() == io::ErrorKind::OutOfMemory {
         WorkshopFault::NoMemory

@@ -3,12 +3,13 @@
 use crate::sources::FIVE_PLUS_FIVE;
 use cpu::{Machine, Processor};
 use feed::Feed;
+use rope::RopeFault;
 use space::numbers::{Bank, Eras, Offset};
 use space::place::Linear;
 use std::alloc::Global;
 use words::Buffer;
 use words::faulty::{FaultyReader, FaultyWriter, Trouble};
-use workshop::{WorkshopFault, asm_engine};
+use workshop::{Version, WorkshopFault, asm_engine, upgrade_engine};
 use yayul::assemble;
 use yayul::fault::{Fault, FaultKind};
 use yayul::program::Program;
@@ -40,24 +41,102 @@ FAR TCF FAR
 /// How many bytes an image has.
 const IMAGE_BYTES: usize = 73_728;
 
+const IMAGE_OF_ONE: [u8; 12] = [
+    0x70, 0x0a, 0xd0, 0x0a, 0x00, 0x0c, 0x04, 0x10, 0x30, 0x00, 0x00, 0x0a,
+];
+
+const IMAGE_OF_TWO: [u8; 14] = [
+    0x70, 0x0a, 0xd0, 0x0a, 0x00, 0x0d, 0x04, 0x11, 0x30, 0x01, 0x00, 0x0b, 0x00, 0x01,
+];
+
+/// The image of five plus five, and its listing.
+fn assembled(
+    alloc: Global,
+    image: &mut Buffer,
+    listing: &mut Buffer,
+    version: Version,
+) -> Result<(), WorkshopFault> {
+    let mut source = FIVE_PLUS_FIVE;
+    asm_engine(alloc, &mut source, image, listing, version)
+}
+
 #[test]
 fn five_plus_five_words_and_image(rt: HostRuntime) {
-    let mut source = FIVE_PLUS_FIVE;
-    let mut image = Buffer::new(rt.alloc());
+    let rows: [(Version, &[u8], usize); 2] = [
+        (Version::One, &IMAGE_OF_ONE, 9),
+        (Version::Two, &IMAGE_OF_TWO, 10 + 36_858),
+    ];
+    for (version, front, others) in rows {
+        let mut image = Buffer::new(rt.alloc());
+        let mut listing = Buffer::new(rt.alloc());
+        assert_eq!(rt;
+            assembled(rt.alloc(), &mut image, &mut listing, version),
+            Ok(())
+        );
+        let bytes = image.as_slice();
+        assert_eq!(rt; bytes.len(), IMAGE_BYTES);
+        assert!(rt; bytes.starts_with(front));
+        assert_eq!(rt; bytes.iter().filter(|byte| **byte > 0).count(), others);
+        assert_eq!(rt; listing.as_slice(), LISTING);
+    }
+}
+
+#[test]
+fn image_is_upgraded(rt: HostRuntime) {
+    let mut old = Buffer::new(rt.alloc());
+    let mut new = Buffer::new(rt.alloc());
     let mut listing = Buffer::new(rt.alloc());
+    assert!(rt; assembled(rt.alloc(), &mut old, &mut listing, Version::One).is_ok());
+    assert!(rt; assembled(rt.alloc(), &mut new, &mut listing, Version::Two).is_ok());
+    let mut upgraded = Buffer::new(rt.alloc());
+    let mut reader = old.as_slice();
     assert_eq!(rt;
-        asm_engine(rt.alloc(), &mut source, &mut image, &mut listing),
+        upgrade_engine(rt.alloc(), &mut reader, &mut upgraded),
         Ok(())
     );
-    let bytes = image.as_slice();
-    assert_eq!(rt; bytes.len(), IMAGE_BYTES);
-    assert!(rt;
-        bytes.starts_with(&[
-            0x70, 0x0a, 0xd0, 0x0a, 0x00, 0x0c, 0x04, 0x10, 0x30, 0x00, 0x00, 0x0a,
-        ])
-    );
-    assert_eq!(rt; bytes.iter().filter(|byte| **byte > 0).count(), 9);
-    assert_eq!(rt; listing.as_slice(), LISTING);
+    assert!(rt; upgraded.as_slice() == new.as_slice());
+    for trouble in [Trouble::Fails, Trouble::TakesNothing] {
+        let mut broken = FaultyWriter::new(rt.alloc(), Some(13), trouble);
+        let mut reader = old.as_slice();
+        assert_eq!(rt;
+            upgrade_engine(rt.alloc(), &mut reader, &mut broken),
+            Err(WorkshopFault::WriteFailed)
+        );
+        assert_eq!(rt; broken.as_slice(), &IMAGE_OF_TWO[..13]);
+    }
+}
+
+#[test]
+fn refused_images_write_nothing(rt: HostRuntime) {
+    let mut new = Buffer::new(rt.alloc());
+    let mut listing = Buffer::new(rt.alloc());
+    assert!(rt; assembled(rt.alloc(), &mut new, &mut listing, Version::Two).is_ok());
+    let zeros = vec![in rt.alloc(); 0u8; IMAGE_BYTES + 1].expect(&rt, "memory");
+    let rows: [(&[u8], WorkshopFault); 5] = [
+        (new.as_slice(), WorkshopFault::Rope(RopeFault::LowBit(5))),
+        (&zeros, WorkshopFault::Rope(RopeFault::Long)),
+        (&zeros[2..], WorkshopFault::Rope(RopeFault::Short)),
+        (&zeros[..3], WorkshopFault::Rope(RopeFault::Short)),
+        (b"", WorkshopFault::Rope(RopeFault::Short)),
+    ];
+    for (bytes, fault) in rows {
+        let mut reader = bytes;
+        let mut upgraded = Buffer::new(rt.alloc());
+        assert_eq!(rt;
+            upgrade_engine(rt.alloc(), &mut reader, &mut upgraded),
+            Err(fault)
+        );
+        assert_eq!(rt; upgraded.as_slice(), b"".as_slice());
+    }
+    for place in 0..6 {
+        let mut broken = FaultyReader::new(&IMAGE_OF_ONE, Some(place));
+        let mut upgraded = Buffer::new(rt.alloc());
+        assert_eq!(rt;
+            upgrade_engine(rt.alloc(), &mut broken, &mut upgraded),
+            Err(WorkshopFault::ReadFailed)
+        );
+        assert_eq!(rt; upgraded.as_slice(), b"".as_slice());
+    }
 }
 
 #[test]
@@ -66,7 +145,13 @@ fn refused_sources_write_nothing(rt: HostRuntime) {
     let mut image = Buffer::new(rt.alloc());
     let mut listing = Buffer::new(rt.alloc());
     assert_eq!(rt;
-        asm_engine(rt.alloc(), &mut source, &mut image, &mut listing),
+        asm_engine(
+            rt.alloc(),
+            &mut source,
+            &mut image,
+            &mut listing,
+            Version::Two
+        ),
         Err(WorkshopFault::Source(Fault {
             line: 2,
             kind: FaultKind::Undefined,
@@ -74,7 +159,13 @@ fn refused_sources_write_nothing(rt: HostRuntime) {
     );
     let mut broken = FaultyReader::new(FIVE_PLUS_FIVE, Some(20));
     assert_eq!(rt;
-        asm_engine(rt.alloc(), &mut broken, &mut image, &mut listing),
+        asm_engine(
+            rt.alloc(),
+            &mut broken,
+            &mut image,
+            &mut listing,
+            Version::Two
+        ),
         Err(WorkshopFault::ReadFailed)
     );
     assert_eq!(rt; image.as_slice(), b"".as_slice());
@@ -89,7 +180,13 @@ fn image_stands_whole_before_the_listing(rt: HostRuntime) {
             let mut image = Buffer::new(rt.alloc());
             let mut listing = FaultyWriter::new(rt.alloc(), Some(place), trouble);
             assert_eq!(rt;
-                asm_engine(rt.alloc(), &mut source, &mut image, &mut listing),
+                asm_engine(
+                    rt.alloc(),
+                    &mut source,
+                    &mut image,
+                    &mut listing,
+                    Version::Two
+                ),
                 Err(WorkshopFault::WriteFailed)
             );
             assert_eq!(rt; image.as_slice().len(), IMAGE_BYTES);
@@ -99,7 +196,13 @@ fn image_stands_whole_before_the_listing(rt: HostRuntime) {
         let mut image = FaultyWriter::new(rt.alloc(), Some(11), trouble);
         let mut listing = Buffer::new(rt.alloc());
         assert_eq!(rt;
-            asm_engine(rt.alloc(), &mut source, &mut image, &mut listing),
+            asm_engine(
+                rt.alloc(),
+                &mut source,
+                &mut image,
+                &mut listing,
+                Version::Two
+            ),
             Err(WorkshopFault::WriteFailed)
         );
         assert_eq!(rt; image.as_slice().len(), 11);

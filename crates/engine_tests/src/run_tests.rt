@@ -4,6 +4,7 @@ ghost use Rattle.std.specs.Prelude.{◌-◌, ◌≤◌, ◌^◌};
 
 use crate::sources::FIVE_PLUS_FIVE;
 use feed::FeedFault;
+use rope::RopeFault;
 use std::alloc::{AllocError, Global};
 use words::Buffer;
 use words::faulty::{FaultyReader, FaultyWriter, Trouble};
@@ -221,7 +222,7 @@ fn always_out_of_memory(rt: HostRuntime) {
 
 #[test]
 fn faults_are_reported(rt: HostRuntime) {
-    let rows: [(WorkshopFault, &[u8], u8); 9] = [
+    let rows: [(WorkshopFault, &[u8], u8); 13] = [
         (WorkshopFault::NoMemory, b"agcws: E2\n", 3),
         (WorkshopFault::ReadFailed, b"agcws: E6\n", 3),
         (WorkshopFault::WriteFailed, b"agcws: E7\n", 3),
@@ -246,6 +247,14 @@ fn faults_are_reported(rt: HostRuntime) {
             1,
         ),
         (WorkshopFault::TooLong, b"agcws: E34\n", 1),
+        (WorkshopFault::Rope(RopeFault::Short), b"agcws: E3\n", 1),
+        (WorkshopFault::Rope(RopeFault::Long), b"agcws: E4\n", 1),
+        (WorkshopFault::Rope(RopeFault::LowBit(5)), b"agcws: E5\n", 1),
+        (
+            WorkshopFault::Rope(RopeFault::BadParity(1)),
+            b"agcws: E5\n",
+            1,
+        ),
         (WorkshopFault::Feed(FeedFault::TooMany), b"agcws: E32\n", 1),
     ];
     for (fault, text, status) in rows {

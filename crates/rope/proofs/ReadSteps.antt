@@ -1,15 +1,18 @@
 -- Steps of reading an image.
-use Rattle.std.proofs.Common.{◌≡◌, ◌≢◌, ℕ, zero, suc, ◌*◌, ◌+◌, ◌-◌, ◌/◌, ◌%◌, ◌<◌, ◌≤◌, true, List, [], ◌∷◌, ◌++◌, length, drop, get_or, is_some, unwrap_or, ◌⊎◌, refl, sym, ◌∙◌, ap, inl, inr, arith, append_assoc, append-nil, length-append, Err}
+use Rattle.std.proofs.Common.{◌≡◌, ◌≢◌, ℕ, zero, suc, ◌*◌, ◌+◌, ◌-◌, ◌/◌, ◌%◌, ◌<◌, ◌≤◌, true, false, List, [], ◌∷◌, ◌++◌, length, drop, get_or, is_some, unwrap_or, ◌⊎◌, refl, sym, ◌∙◌, ap, inl, inr, arith, append_assoc, append-nil, length-append, Err}
 use Rattle.std.proofs.lemmas.Bool.{cases_lt, lt-ltb, le-ltb, cases_eq}
 use Rattle.std.proofs.lemmas.List.{get_or-append-add, get_or_past}
 use Rattle.std.proofs.Math.Seq.{drop-append-add}
 use Rattle.rope.specs.Places.{bank_words, banks, fixed_places, Words, stands, with_word}
 use Rattle.rope.specs.Image.{spelled, bank_of_entry, word_of_position, image_front}
-use Rattle.rope.specs.Reading.{image_length, LowBytesAreEven, IsFull, IsImage, IsShort, IsLong, HasOddLowByte, FailsAfter, EndsWithin, TakesOddLowByte, FailsBeforeLow, TakesWord, ReadsImage}
+use Rattle.rope.specs.Reading.{image_length, spells_word, AllSpellWords, IsFull, IsImage, IsShort, IsLong, HasWrongBytes, FailsAfter, EndsWithin, TakesWrongBytes, FailsWithin, TakesWord, ReadsImage}
+use Rattle.rope.specs.declared.spelling.Version.{Version}
+use Rattle.rope.specs.declared.spelling.Version.TheVariants.{One, Two}
 use Rattle.rope.specs.declared.fault.RopeFault.{RopeFault}
-use Rattle.rope.specs.declared.fault.RopeFault.TheVariants.{NoMemory, Short, Long, LowBit, ReadFailed}
+use Rattle.rope.specs.declared.fault.RopeFault.TheVariants.{NoMemory, Short, Long, LowBit, BadParity, ReadFailed}
 use Rattle.rope.proofs.PlaceLaws.{slot_at-with_word_same, slot_at-with_word_other}
 use Rattle.rope.proofs.ImageLaws.{image_front-none, image_front-more}
+use Rattle.rope.proofs.Spellings.{spelled_spells}
 
 -- the bank of an entry has its entry where that has its bank
 pub bank_of_entry-twice : (e : ℕ) → bank_of_entry (bank_of_entry e) ≡ e
@@ -62,24 +65,24 @@ other_position words p word q differ =
     ap (λ s. unwrap_or s 0) (slot_at-with_word_other words (bank_of_entry (p / bank_words)) (p % bank_words) word (bank_of_entry (q / bank_words)) (q % bank_words) (omega arith) (other_place q p differ))
 
 -- so the positions before have their bytes as before
-front_kept : (words : Words) (p word n : ℕ) → n ≤ p → image_front (with_position words p word) n ≡ image_front words n
-front_kept words p word zero le = image_front-none (with_position words p word) ∙ sym (image_front-none words)
-front_kept words p word (suc n) le =
+front_kept : (version : Version) (words : Words) (p word n : ℕ) → n ≤ p → image_front version (with_position words p word) n ≡ image_front version words n
+front_kept version words p word zero le = image_front-none version (with_position words p word) ∙ sym (image_front-none version words)
+front_kept version words p word (suc n) le =
     let e : suc n ≡ n + 1 = omega arith in
-    rw (e, image_front-more (with_position words p word) n, image_front-more words n, front_kept words p word n (omega arith), other_position words p word n (λ same. omega arith)) refl
+    rw (e, image_front-more version (with_position words p word) n, image_front-more version words n, front_kept version words p word n (omega arith), other_position words p word n (λ same. omega arith)) refl
 
 -- one word more was read
-pub front_more : (old left new : List ℕ) (words : Words) (p word : ℕ) → p < fixed_places → old ≡ image_front words p ++ left → left ≡ spelled word ++ new → old ≡ image_front (with_position words p word) (p + 1) ++ new
-front_more old left new words p word lt front next =
-    rw (image_front-more (with_position words p word) p, front_kept words p word p (omega arith), same_position words p word lt, append_assoc (image_front words p) (spelled word) new)
-    (front ∙ ap (λ t. image_front words p ++ t) next)
+pub front_more : (version : Version) (old left new : List ℕ) (words : Words) (p word : ℕ) → p < fixed_places → old ≡ image_front version words p ++ left → left ≡ spelled version word ++ new → old ≡ image_front version (with_position words p word) (p + 1) ++ new
+front_more version old left new words p word lt front next =
+    rw (image_front-more version (with_position words p word) p, front_kept version words p word p (omega arith), same_position words p word lt, append_assoc (image_front version words p) (spelled version word) new)
+    (front ∙ ap (λ t. image_front version words p ++ t) next)
 
 -- how many bytes positions have
-pub length-image_front : (words : Words) (n : ℕ) → length (image_front words n) ≡ 2 * n
-length-image_front words zero = ap length (image_front-none words)
-length-image_front words (suc n) =
+pub length-image_front : (version : Version) (words : Words) (n : ℕ) → length (image_front version words n) ≡ 2 * n
+length-image_front version words zero = ap length (image_front-none version words)
+length-image_front version words (suc n) =
     let e : suc n ≡ n + 1 = omega arith in
-    rw e (ap length (image_front-more words n) ∙ length-append (image_front words n) (spelled (word_of_position words n)) ∙ omega (arith, length-image_front words n))
+    rw e (ap length (image_front-more version words n) ∙ length-append (image_front version words n) (spelled version (word_of_position words n)) ∙ omega (arith, length-image_front version words n))
 
 -- the words at the positions before stand too
 abbrev pub AllStand : Words → ℕ → Type 0
@@ -104,93 +107,100 @@ all_stand-full words all bank offset in_banks in_bank =
     rw (is_entry, is_offset, bank_of_entry-twice bank) at (all (bank_words * entry + offset) (omega arith))
 
 -- the byte after a front
-byte_after : (old left : List ℕ) (words : Words) (p i at : ℕ) → at ≡ 2 * p + i → old ≡ image_front words p ++ left → get_or old at 0 ≡ get_or left i 0
-byte_after old left words p i at place front =
-    let n : at ≡ length (image_front words p) + i = omega (arith, length-image_front words p) in
-    rw (front, n) (get_or-append-add (image_front words p) left i 0)
+pub byte_after : (version : Version) (old left : List ℕ) (words : Words) (p i at : ℕ) → at ≡ 2 * p + i → old ≡ image_front version words p ++ left → get_or old at 0 ≡ get_or left i 0
+byte_after version old left words p i at place front =
+    let n : at ≡ length (image_front version words p) + i = omega (arith, length-image_front version words p) in
+    rw (front, n) (get_or-append-add (image_front version words p) left i 0)
 
 -- how many bytes there are
-length_after : (old left : List ℕ) (words : Words) (p : ℕ) → old ≡ image_front words p ++ left → length old ≡ 2 * p + length left
-length_after old left words p front = ap length front ∙ length-append (image_front words p) left ∙ omega (arith, length-image_front words p)
+length_after : (version : Version) (old left : List ℕ) (words : Words) (p : ℕ) → old ≡ image_front version words p ++ left → length old ≡ 2 * p + length left
+length_after version old left words p front = ap length front ∙ length-append (image_front version words p) left ∙ omega (arith, length-image_front version words p)
 
 -- what is left after some bytes more
-left_after : (old left : List ℕ) (words : Words) (p i at : ℕ) → at ≡ 2 * p + i → old ≡ image_front words p ++ left → drop at old ≡ drop i left
-left_after old left words p i at place front =
-    let n : at ≡ length (image_front words p) + i = omega (arith, length-image_front words p) in
-    rw (front, n) (drop-append-add (image_front words p) left i)
+left_after : (version : Version) (old left : List ℕ) (words : Words) (p i at : ℕ) → at ≡ 2 * p + i → old ≡ image_front version words p ++ left → drop at old ≡ drop i left
+left_after version old left words p i at place front =
+    let n : at ≡ length (image_front version words p) + i = omega (arith, length-image_front version words p) in
+    rw (front, n) (drop-append-add (image_front version words p) left i)
 
--- the low byte of one word more is even
-pub even_more : (old left new : List ℕ) (words : Words) (p word : ℕ) → old ≡ image_front words p ++ left → left ≡ spelled word ++ new → LowBytesAreEven old (2 * p) → LowBytesAreEven old (2 * (p + 1))
-even_more old left new words p word front next even q below =
+-- the two bytes after a front
+pub spells_after : (version : Version) (old left : List ℕ) (words : Words) (p : ℕ) → old ≡ image_front version words p ++ left
+    → spells_word version (get_or old (2 * p) 0) (get_or old (2 * p + 1) 0) ≡ spells_word version (get_or left 0 0) (get_or left 1 0)
+spells_after version old left words p front =
+    rw (byte_after version old left words p 0 (2 * p) (omega arith) front, byte_after version old left words p 1 (2 * p + 1) refl front) refl
+
+-- those of one word more spell it
+pub spelled_more : (version : Version) (old left new : List ℕ) (words : Words) (p word : ℕ) → old ≡ image_front version words p ++ left → left ≡ spelled version word ++ new → AllSpellWords version old (2 * p) → AllSpellWords version old (2 * (p + 1))
+spelled_more version old left new words p word front next before q below =
     elim (cases_eq q p) [
-      | inl same ↦ rw (byte_after old left words p 1 (2 * q + 1) (omega arith) front, next) (omega arith)
-      | inr differ ↦ even q (omega arith)
+      | inl same ↦ rw same (spells_after version old left words p front ∙ rw next (spelled_spells version word))
+      | inr differ ↦ before q (omega arith)
     ]
 
--- no low byte stands past the end
-even_past : (old : List ℕ) (n m : ℕ) → length old ≤ n + 1 → n % 2 ≡ 0 → LowBytesAreEven old n → LowBytesAreEven old m
-even_past old n m end whole even q below =
-    elim (cases_lt (2 * q + 1) n) [
-      | inl lt ↦ even q lt
-      | inr le ↦ rw (get_or_past old (2 * q + 1) 0 (omega arith)) refl
-    ]
+pub short_here : (version : Version) (old left new : List ℕ) (words : Words) (p : ℕ) → p < fixed_places → old ≡ image_front version words p ++ left → AllSpellWords version old (2 * p) → EndsWithin left new → IsShort version old new
+short_here version old left new words p lt front before ends =
+    let count : length old ≡ 2 * p + length left = length_after version old left words p front in
+    record {
+      short = omega (arith, count, ends.short);
+      spelled = λ q below. before q (omega (arith, count, ends.short));
+      left = ends.left;
+    }
 
-pub short_here : (old left new : List ℕ) (words : Words) (p : ℕ) → p < fixed_places → old ≡ image_front words p ++ left → LowBytesAreEven old (2 * p) → EndsWithin left new → IsShort old new
-short_here old left new words p lt front even ends = record {
-  short = omega (arith, length_after old left words p front, ends.short);
-  even = even_past old (2 * p) image_length (omega (arith, length_after old left words p front, ends.short)) (omega arith) even;
-  left = ends.left;
-}
-
-pub odd_here : (old left new : List ℕ) (words : Words) (p at : ℕ) → p < fixed_places → old ≡ image_front words p ++ left → LowBytesAreEven old (2 * p) → TakesOddLowByte left new p at → HasOddLowByte old new at
-odd_here old left new words p at lt front even takes =
+pub wrong_here : (version : Version) (old left new : List ℕ) (words : Words) (p at : ℕ) → p < fixed_places → old ≡ image_front version words p ++ left → AllSpellWords version old (2 * p) → TakesWrongBytes version left new p at → HasWrongBytes version old new at
+wrong_here version old left new words p at lt front before takes =
     let count : length left ≡ 2 + length new = ap length takes.taken ∙ omega arith in
     record {
       position = p;
       low = takes.place;
       within = omega (arith, takes.place);
-      stands = omega (arith, takes.place, count, length_after old left words p front);
-      odd = rw (byte_after old left words p 1 at takes.place front, takes.taken) takes.odd;
-      even = λ q below. even q (omega (arith, takes.place));
-      left = sym (left_after old left words p 2 (at + 1) (omega (arith, takes.place)) front ∙ ap (drop 2) takes.taken);
+      stands = omega (arith, takes.place, count, length_after version old left words p front);
+      wrong = rw takes.place (spells_after version old left words p front ∙ rw takes.taken takes.wrong);
+      spelled = λ q below. before q (omega (arith, takes.place));
+      left = sym (left_after version old left words p 2 (at + 1) (omega (arith, takes.place)) front ∙ ap (drop 2) takes.taken);
     }
 
-pub fails_here : (old left new : List ℕ) (words : Words) (p : ℕ) → p < fixed_places → old ≡ image_front words p ++ left → LowBytesAreEven old (2 * p) → FailsBeforeLow left new → FailsAfter old new
-fails_here old left new words p lt front even fails = record {
+pub fails_here : (version : Version) (old left new : List ℕ) (words : Words) (p : ℕ) → p < fixed_places → old ≡ image_front version words p ++ left → AllSpellWords version old (2 * p) → FailsWithin left new → FailsAfter version old new
+fails_here version old left new words p lt front before fails = record {
   count = 2 * p + fails.count;
   within = omega (arith, fails.few);
-  stand = omega (arith, fails.stand, length_after old left words p front);
-  even = λ q below. even q (omega (arith, fails.few));
-  left = fails.left ∙ sym (left_after old left words p fails.count (2 * p + fails.count) refl front);
+  stand = omega (arith, fails.stand, length_after version old left words p front);
+  spelled = λ q below. before q (omega (arith, fails.few));
+  left = fails.left ∙ sym (left_after version old left words p fails.count (2 * p + fails.count) refl front);
 }
 
 -- after all positions
-pub image_here : (old left new : List ℕ) (words : Words) → old ≡ image_front words fixed_places ++ left → left ≡ [] → new ≡ [] → IsImage old new words
-image_here old left new words front nothing none = record {
-  whole = front ∙ ap (λ t. image_front words fixed_places ++ t) nothing ∙ append-nil (image_front words fixed_places);
+pub image_here : (version : Version) (old left new : List ℕ) (words : Words) → old ≡ image_front version words fixed_places ++ left → left ≡ [] → new ≡ [] → IsImage version old new words
+image_here version old left new words front nothing none = record {
+  whole = front ∙ ap (λ t. image_front version words fixed_places ++ t) nothing ∙ append-nil (image_front version words fixed_places);
   left = none;
 }
 
-pub long_here : (old left new : List ℕ) (words : Words) (byte : ℕ) → old ≡ image_front words fixed_places ++ left → LowBytesAreEven old image_length → left ≡ byte ∷ new → IsLong old new
-long_here old left new words byte front even next = record {
-  long = omega (arith, length_after old left words fixed_places front, ap length next);
-  even = even;
-  left = sym (left_after old left words fixed_places 1 (image_length + 1) refl front ∙ ap (drop 1) next);
+pub long_here : (version : Version) (old left new : List ℕ) (words : Words) (byte : ℕ) → old ≡ image_front version words fixed_places ++ left → AllSpellWords version old image_length → left ≡ byte ∷ new → IsLong version old new
+long_here version old left new words byte front before next = record {
+  long = omega (arith, length_after version old left words fixed_places front, ap length next);
+  spelled = before;
+  left = sym (left_after version old left words fixed_places 1 (image_length + 1) refl front ∙ ap (drop 1) next);
 }
 
-pub fails_at_end : (old left new : List ℕ) (words : Words) → old ≡ image_front words fixed_places ++ left → LowBytesAreEven old image_length → new ≡ left → FailsAfter old new
-fails_at_end old left new words front even same = record {
+pub fails_at_end : (version : Version) (old left new : List ℕ) (words : Words) → old ≡ image_front version words fixed_places ++ left → AllSpellWords version old image_length → new ≡ left → FailsAfter version old new
+fails_at_end version old left new words front before same = record {
   count = image_length;
   within = omega arith;
-  stand = omega (arith, length_after old left words fixed_places front);
-  even = even;
-  left = same ∙ sym (left_after old left words fixed_places 0 image_length refl front);
+  stand = omega (arith, length_after version old left words fixed_places front);
+  spelled = before;
+  left = same ∙ sym (left_after version old left words fixed_places 0 image_length refl front);
 }
 
+-- the two versions differ
+pub other_version : One ≡ Two → ⊥
+other_version e = cc
+
 -- a word's fault is the first of the image's
-pub fault_here : (old left new : List ℕ) (words : Words) (p : ℕ) (fault : RopeFault) → p < fixed_places → old ≡ image_front words p ++ left → LowBytesAreEven old (2 * p) → TakesWord p left new (Err fault) → ReadsImage old new (Err fault)
-fault_here old left new words p NoMemory lt front even takes = absurd takes
-fault_here old left new words p Short lt front even takes = short_here old left new words p lt front even takes
-fault_here old left new words p Long lt front even takes = absurd takes
-fault_here old left new words p (LowBit at) lt front even takes = odd_here old left new words p at lt front even takes
-fault_here old left new words p ReadFailed lt front even takes = fails_here old left new words p lt front even takes
+pub fault_here : (version : Version) (old left new : List ℕ) (words : Words) (p : ℕ) (fault : RopeFault) → p < fixed_places → old ≡ image_front version words p ++ left → AllSpellWords version old (2 * p) → TakesWord version p left new (Err fault) → ReadsImage version old new (Err fault)
+fault_here version old left new words p NoMemory lt front before takes = absurd takes
+fault_here version old left new words p Short lt front before takes = short_here version old left new words p lt front before takes
+fault_here version old left new words p Long lt front before takes = absurd takes
+fault_here One old left new words p (LowBit at) lt front before takes = (refl, wrong_here One old left new words p at lt front before takes.1)
+fault_here Two old left new words p (LowBit at) lt front before takes = (takes.0, absurd (other_version (sym takes.0)))
+fault_here One old left new words p (BadParity at) lt front before takes = (takes.0, absurd (other_version takes.0))
+fault_here Two old left new words p (BadParity at) lt front before takes = (refl, wrong_here Two old left new words p at lt front before takes.1)
+fault_here version old left new words p ReadFailed lt front before takes = fails_here version old left new words p lt front before takes

@@ -6,6 +6,7 @@ ghost use Rattle.rope.specs.Places.{banks, bank_words, fixed_places};
 ghost use Rattle.rope.specs.Image.{bank_of_entry, word_of_position, spelled, image_part, image};
 
 use crate::memory::{BANK_WORDS, ENTRIES, Rope};
+use crate::spelling::Version;
 use arrayvec::ArrayVec;
 use space::numbers::{Bank, Offset};
 use words::{Write, WriteFailed, push_all, write_all};
@@ -15,15 +16,15 @@ const BANK_BYTES: usize = 2 * BANK_WORDS;
 
 impl Rope {
     /// Writes the image of 73,728 bytes: banks 2, 3, 0, 1, 4 to 043, in each bank the words by rising offsets, each as
-    /// two bytes, high byte first, of twice the word. A place without a word gives 0. A bank is one write.
+    /// two bytes as the version spells it. A place without a word gives those of the word 0. A bank is one write.
     ///
     /// After a failure a beginning of it was written.
-    pub fn write<W: Write>(&self, out: &mut W) -> Result<(), WriteFailed>
-        ensures written { W.told ≡ true → Writes (W.written out.old) (W.written out.new) (image self.now) result }
+    pub fn write<W: Write>(&self, out: &mut W, version: Version) -> Result<(), WriteFailed>
+        ensures written { W.told ≡ true → Writes (W.written out.old) (W.written out.new) (image version self.now) result }
         ensures failures { W.failures out.new ≡ failures_after (W.failures out.old) result }
     {
         for entry in 0..ENTRIES {
-            match self.write_bank(entry, out) {
+            match self.write_bank(entry, out, version) {
                 Ok(()) => {}
                 Err(failed) => return Err(failed),
             }
@@ -32,34 +33,41 @@ impl Rope {
     }
 
     // Writes the bank at an entry of the image.
-    fn write_bank<W: Write>(&self, entry: usize, out: &mut W) -> Result<(), WriteFailed>
+    fn write_bank<W: Write>(
+        &self,
+        entry: usize,
+        out: &mut W,
+        version: Version,
+    ) -> Result<(), WriteFailed>
         requires { entry < banks }
-        ensures written { W.told ≡ true → Writes (W.written out.old) (W.written out.new) (image_part self.now (bank_words * entry) bank_words) result }
+        ensures written { W.told ≡ true → Writes (W.written out.old) (W.written out.new) (image_part version self.now (bank_words * entry) bank_words) result }
         ensures failures { W.failures out.new ≡ failures_after (W.failures out.old) result }
     {
-        write_all(out, self.spelled_bank(entry).as_slice())
+        write_all(out, self.spelled_bank(entry, version).as_slice())
     }
 
     // The bytes of the bank at an entry of the image.
-    fn spelled_bank(&self, entry: usize) -> ArrayVec<u8, BANK_BYTES>
+    fn spelled_bank(&self, entry: usize, version: Version) -> ArrayVec<u8, BANK_BYTES>
         requires { entry < banks }
-        ensures { result.items ≡ image_part self.now (bank_words * entry) bank_words }
+        ensures { result.items ≡ image_part version self.now (bank_words * entry) bank_words }
     {
         let mut bytes = ArrayVec::new();
         for offset in 0..BANK_WORDS {
-            push_all(&mut bytes, &self.spelled_at(BANK_WORDS * entry + offset));
+            push_all(
+                &mut bytes,
+                &self.spelled_at(BANK_WORDS * entry + offset, version),
+            );
         }
         bytes
     }
 
     // The two bytes at a position of the image.
     #[tactic(auto, unfolding(crate::specs::Image::word_of_position))]
-    fn spelled_at(&self, position: usize) -> [u8; 2]
+    fn spelled_at(&self, position: usize, version: Version) -> [u8; 2]
         requires { position < fixed_places }
-        ensures { result ≡ spelled (word_of_position self.now position) }
+        ensures { result ≡ spelled version (word_of_position self.now position) }
     {
-        let word = self.word(bank_at(position), offset_at(position));
-        (word.to_u16() * 2).to_be_bytes()
+        version.spelled(self.word(bank_at(position), offset_at(position)))
     }
 }
 

@@ -6,6 +6,8 @@ mod image;
 pub mod laws;
 mod memory;
 mod reading;
+mod spelling;
 
 pub use fault::RopeFault;
 pub use memory::Rope;
+pub use spelling::Version;

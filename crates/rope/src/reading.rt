@@ -3,23 +3,24 @@
 ghost use Rattle.std.specs.Prelude.{◌≡◌, ◌<◌, true, IfOk, IfErr, if◌then◌else◌};
 ghost use Rattle.words.specs.Devices.{one_more, failures_after};
 ghost use Rattle.rope.specs.Places.{fixed_places};
-ghost use Rattle.rope.specs.Reading.{ReadsImage, IsFull, TakesByte, TakesWord, has_read_failed};
+ghost use Rattle.rope.specs.Reading.{ReadsImage, IsFull, TakesByte, TakesPair, TakesWord, has_read_failed};
 ghost use Rattle.rope.specs.declared.fault.RopeFault.TheVariants.{ReadFailed};
 
 use crate::fault::RopeFault;
 use crate::image::{bank_at, offset_at};
 use crate::memory::{PLACES, Rope};
+use crate::spelling::Version;
 use std::alloc::Global;
 use words::{Read, Word};
 
 impl Rope {
-    /// Reads an image to its end, and answers the rope of which it is the image, with a word at every place.
+    /// Reads an image of a version to its end, and answers the rope of which it is the image, with a word at every place.
     ///
     /// `NoMemory` is told before any byte is read. Else the first fault is told that is met in the order of the bytes:
-    /// `Short` where they end before 73,728, `Long` where one more stands, `LowBit` where the low byte of a word is odd,
-    /// `ReadFailed` where a read failed.
-    pub fn read<R: Read>(alloc: Global, reader: &mut R) -> Result<Rope, RopeFault>
-        ensures bytes { R.told ≡ true → ReadsImage (R.left reader.old) (R.left reader.new) result }
+    /// `Short` where they end before 73,728, `Long` where one more stands, `LowBit` of version 1 or `BadParity` of version 2
+    /// where two bytes spell no word, `ReadFailed` where a read failed.
+    pub fn read<R: Read>(alloc: Global, reader: &mut R, version: Version) -> Result<Rope, RopeFault>
+        ensures bytes { R.told ≡ true → ReadsImage version (R.left reader.old) (R.left reader.new) result }
         ensures full { IfOk result (λ rope. IsFull rope) }
         ensures failures { R.failures reader.new ≡ (if has_read_failed result then one_more (R.failures reader.old) else R.failures reader.old) }
     {
@@ -28,7 +29,7 @@ impl Rope {
             Err(fault) => return Err(fault),
         };
         for position in 0..PLACES {
-            match read_word(reader, position) {
+            match read_word(reader, position, version) {
                 Ok(word) => rope.set(bank_at(position), offset_at(position), word),
                 Err(fault) => return Err(fault),
             }
@@ -42,25 +43,38 @@ impl Rope {
 }
 
 // The word at a position of an image, from its two bytes.
-fn read_word<R: Read>(reader: &mut R, position: usize) -> Result<Word, RopeFault>
+fn read_word<R: Read>(reader: &mut R, position: usize, version: Version) -> Result<Word, RopeFault>
     requires { position < fixed_places }
-    ensures word { R.told ≡ true → TakesWord position (R.left reader.old) (R.left reader.new) result }
+    ensures word { R.told ≡ true → TakesWord version position (R.left reader.old) (R.left reader.new) result }
     ensures failures { R.failures reader.new ≡ (if has_read_failed result then one_more (R.failures reader.old) else R.failures reader.old) }
 {
-    let high = match next_byte(reader) {
-        Ok(Some(byte)) => byte,
-        Ok(None) => return Err(RopeFault::Short),
-        Err(fault) => return Err(fault),
-    };
-    let low = match next_byte(reader) {
-        Ok(Some(byte)) => byte,
-        Ok(None) => return Err(RopeFault::Short),
-        Err(fault) => return Err(fault),
-    };
-    if low % 2 == 1 {
-        return Err(RopeFault::LowBit(2 * position as u32 + 1));
+    match next_pair(reader) {
+        Ok(Some(pair)) => match version.word_of(pair[0], pair[1]) {
+            Some(word) => Ok(word),
+            None => Err(version.fault_at(2 * position as u32 + 1)),
+        },
+        Ok(None) => Err(RopeFault::Short),
+        Err(fault) => Err(fault),
     }
-    Ok(Word::of_low_bits(u16::from_be_bytes([high, low]) / 2))
+}
+
+// The next two bytes, where two are left.
+fn next_pair<R: Read>(reader: &mut R) -> Result<Option<[u8; 2]>, RopeFault>
+    ensures pair { R.told ≡ true → TakesPair (R.left reader.old) (R.left reader.new) result }
+    ensures fault { IfErr result (λ e. e ≡ ReadFailed) }
+    ensures failures { R.failures reader.new ≡ failures_after (R.failures reader.old) result }
+{
+    let mut pair = [0; 2];
+    match reader.read(&mut pair) {
+        Ok(0) => Ok(None),
+        Ok(1) => match next_byte(reader) {
+            Ok(Some(low)) => Ok(Some([pair[0], low])),
+            Ok(None) => Ok(None),
+            Err(fault) => Err(fault),
+        },
+        Ok(_) => Ok(Some(pair)),
+        Err(_) => Err(RopeFault::ReadFailed),
+    }
 }
 
 // The next byte, where one is left.

@@ -4,7 +4,7 @@ use Rattle.yayul.specs.Program.{Program}
 use Rattle.workshop.specs.Inputs.{assembled, with_feed, prepared}
 use Rattle.workshop.specs.Refusals.{Refuses}
 use Rattle.workshop.specs.declared.fault.WorkshopFault.{WorkshopFault}
-use Rattle.workshop.specs.declared.fault.WorkshopFault.TheVariants.{NoMemory, ReadFailed, WriteFailed, Source, Feed, TooLong}
+use Rattle.workshop.specs.declared.fault.WorkshopFault.TheVariants.{NoMemory, ReadFailed, WriteFailed, Source, Feed, Rope, TooLong}
 use Rattle.workshop.specs.declared.inputs.Loaded.{Loaded}
 
 prepared_after : (source feed : List ℕ) (p : Program) → assembled source ≡ Ok p → with_feed feed (Ok p) ≡ prepared source feed
@@ -30,4 +30,5 @@ refuses_source source feed ReadFailed h = h
 refuses_source source feed WriteFailed h = h
 refuses_source source feed (Source fault) h = refused_before source feed (Source fault) h
 refuses_source source feed (Feed fault) h = refused_before source feed (Feed fault) h
+refuses_source source feed (Rope fault) h = absurd h
 refuses_source source feed TooLong h = refused_before source feed TooLong h

@@ -2,7 +2,7 @@
 use Rattle.std.specs.Prelude.{◌≡◌, ℕ, ◌+◌, ◌⊎◌, Bool, true, false, if◌then◌else◌, Result, Ok, Err}
 use Rattle.words.specs.Devices.{one_more}
 use Rattle.workshop.specs.declared.fault.WorkshopFault.{WorkshopFault}
-use Rattle.workshop.specs.declared.fault.WorkshopFault.TheVariants.{NoMemory, ReadFailed, WriteFailed, Source, Feed, TooLong}
+use Rattle.workshop.specs.declared.fault.WorkshopFault.TheVariants.{NoMemory, ReadFailed, WriteFailed, Source, Feed, Rope, TooLong}
 use Rattle.feed.specs.Feed.{most_bytes}
 
 -- the fault that a failed read gives
@@ -12,6 +12,7 @@ is_read_failed ReadFailed = true
 is_read_failed WriteFailed = false
 is_read_failed (Source fault) = false
 is_read_failed (Feed fault) = false
+is_read_failed (Rope fault) = false
 is_read_failed TooLong = false
 
 abbrev pub has_read_failed : {T : Type 0} → Result T WorkshopFault → Bool
@@ -25,6 +26,7 @@ is_write_failed ReadFailed = false
 is_write_failed WriteFailed = true
 is_write_failed (Source fault) = false
 is_write_failed (Feed fault) = false
+is_write_failed (Rope fault) = false
 is_write_failed TooLong = false
 
 abbrev pub has_write_failed : {T : Type 0} → Result T WorkshopFault → Bool
@@ -49,6 +51,7 @@ most_read_before ReadFailed = most_bytes
 most_read_before WriteFailed = most_bytes
 most_read_before (Source fault) = most_bytes
 most_read_before (Feed fault) = most_bytes
+most_read_before (Rope fault) = most_bytes
 most_read_before TooLong = most_bytes + 1
 
 abbrev pub most_read : {T : Type 0} → Result T WorkshopFault → ℕ

@@ -1,10 +1,11 @@
 -- The faults of an engine, and how they are told.
-use Rattle.std.specs.Prelude.{ℕ, ◌==◌, nat_lt, if◌then◌else◌, List, [], ◌++◌, codes, decimal, Option, None, Some}
+use Rattle.std.specs.Prelude.{ℕ, Bool, ◌==◌, ◌||◌, if◌then◌else◌, List, [], ◌++◌, codes, decimal, Option, None, Some}
 use Rattle.yayul.specs.Faults as source
 use Rattle.yayul.specs.declared.fault.Fault.{Fault}
 use Rattle.feed.specs.Faults as feed
+use Rattle.rope.specs.Faults as rope
 use Rattle.workshop.specs.declared.fault.WorkshopFault.{WorkshopFault}
-use Rattle.workshop.specs.declared.fault.WorkshopFault.TheVariants.{NoMemory, ReadFailed, WriteFailed, Source, Feed, TooLong}
+use Rattle.workshop.specs.declared.fault.WorkshopFault.TheVariants.{NoMemory, ReadFailed, WriteFailed, Source, Feed, Rope, TooLong}
 
 -- the number that a fault is told by
 abbrev pub number_of : WorkshopFault → ℕ
@@ -13,6 +14,7 @@ number_of ReadFailed = 6
 number_of WriteFailed = 7
 number_of (Source fault) = source.number_of fault.kind
 number_of (Feed fault) = feed.number_of fault
+number_of (Rope fault) = rope.number_of fault
 number_of TooLong = 34
 
 -- the line of a fault of the source: 0 counts as none
@@ -26,6 +28,7 @@ line_of ReadFailed = None
 line_of WriteFailed = None
 line_of (Source fault) = source_line_of fault
 line_of (Feed fault) = feed.line_of fault
+line_of (Rope fault) = None
 line_of TooLong = None
 
 -- how a line is told
@@ -45,6 +48,10 @@ input_refused = 1
 abbrev pub device_failed : ℕ
 device_failed = 3
 
--- the exit status of a program that a fault ends: of the faults with numbers below 10 a device or memory is the cause
+-- the numbers of the faults whose cause is a device or memory
+abbrev pub is_of_device : ℕ → Bool
+is_of_device number = number == 2 || number == 6 || number == 7
+
+-- the exit status of a program that a fault ends
 abbrev pub status_of : WorkshopFault → ℕ
-status_of fault = if nat_lt (number_of fault) 10 then device_failed else input_refused
+status_of fault = if is_of_device (number_of fault) then device_failed else input_refused

@@ -6,3 +6,4 @@ pub mod Inputs
 pub mod Refusals
 pub mod Runs
 pub mod Steps
+pub mod Upgrades

@@ -1,7 +1,7 @@
 -- Which faults the parts of an engine may tell.
 use Rattle.std.specs.Prelude.{◌≡◌, ℕ, ◌<◌, List, length, Result, Err, ⊤}
 use Rattle.workshop.specs.declared.fault.WorkshopFault.{WorkshopFault}
-use Rattle.workshop.specs.declared.fault.WorkshopFault.TheVariants.{NoMemory, ReadFailed, WriteFailed, Source, Feed, TooLong}
+use Rattle.workshop.specs.declared.fault.WorkshopFault.TheVariants.{NoMemory, ReadFailed, WriteFailed, Source, Feed, Rope, TooLong}
 use Rattle.feed.specs.Feed.{most_bytes}
 
 -- the fault of a source and a feed, where that is what is told of them; that memory ran out or a read failed says nothing of them
@@ -11,6 +11,7 @@ Refuses inputs ReadFailed = ⊤
 Refuses inputs WriteFailed = ⊥
 Refuses inputs (Source fault) = inputs ≡ Err (Source fault)
 Refuses inputs (Feed fault) = inputs ≡ Err (Feed fault)
+Refuses inputs (Rope fault) = ⊥
 Refuses inputs TooLong = inputs ≡ Err TooLong
 
 -- the fault of a text that was to be read
@@ -20,4 +21,5 @@ RefusesText text ReadFailed = ⊤
 RefusesText text WriteFailed = ⊥
 RefusesText text (Source fault) = ⊥
 RefusesText text (Feed fault) = ⊥
+RefusesText text (Rope fault) = ⊥
 RefusesText text TooLong = most_bytes < length text

@@ -5,7 +5,7 @@ use Rattle.cpu.specs.State.{Scenario}
 use Rattle.cpu.specs.Run.{run, outs}
 use Rattle.workshop.specs.declared.engine.Summary.{Summary}
 use Rattle.workshop.specs.declared.fault.WorkshopFault.{WorkshopFault}
-use Rattle.workshop.specs.declared.fault.WorkshopFault.TheVariants.{NoMemory, ReadFailed, WriteFailed, Source, Feed, TooLong}
+use Rattle.workshop.specs.declared.fault.WorkshopFault.TheVariants.{NoMemory, ReadFailed, WriteFailed, Source, Feed, Rope, TooLong}
 use Rattle.workshop.specs.ChannelLines.{channel_lines}
 use Rattle.workshop.specs.Inputs.{prepared, scenario_of}
 
@@ -40,4 +40,5 @@ Answers t old new (Err ReadFailed) = new ≡ old
 Answers t old new (Err WriteFailed) = IsOkAnd (prepared t.source t.feed) (λ l. BreaksOff (scenario_of l) t.steps old new)
 Answers t old new (Err (Source fault)) = (prepared t.source t.feed ≡ Err (Source fault)) × (new ≡ old)
 Answers t old new (Err (Feed fault)) = (prepared t.source t.feed ≡ Err (Feed fault)) × (new ≡ old)
+Answers t old new (Err (Rope fault)) = ⊥
 Answers t old new (Err TooLong) = (prepared t.source t.feed ≡ Err TooLong) × (new ≡ old)

@@ -6,7 +6,7 @@ use Rattle.cpu.specs.State.{Scenario, State}
 use Rattle.cpu.specs.Next.{next}
 use Rattle.workshop.specs.declared.engine.Summary.{Summary}
 use Rattle.workshop.specs.declared.fault.WorkshopFault.{WorkshopFault}
-use Rattle.workshop.specs.declared.fault.WorkshopFault.TheVariants.{NoMemory, ReadFailed, WriteFailed, Source, Feed, TooLong}
+use Rattle.workshop.specs.declared.fault.WorkshopFault.TheVariants.{NoMemory, ReadFailed, WriteFailed, Source, Feed, Rope, TooLong}
 use Rattle.workshop.specs.Runs.{Finishes, BreaksOff}
 
 -- a run ends by its steps or by a failed write
@@ -17,6 +17,7 @@ Runs scenario steps old new (Err ReadFailed) = ⊥
 Runs scenario steps old new (Err WriteFailed) = BreaksOff scenario steps old new
 Runs scenario steps old new (Err (Source fault)) = ⊥
 Runs scenario steps old new (Err (Feed fault)) = ⊥
+Runs scenario steps old new (Err (Rope fault)) = ⊥
 Runs scenario steps old new (Err TooLong) = ⊥
 
 -- the outputs of the step that follows a state

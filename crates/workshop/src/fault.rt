@@ -7,6 +7,7 @@ ghost use Rattle.workshop.specs.Faults.{number_of, line_of, line_text, fault_tex
 
 use arrayvec::ArrayVec;
 use feed::FeedFault;
+use rope::RopeFault;
 use thiserror::Error;
 use words::{Write, push_all, push_decimal, write_all};
 use yayul::fault::{Fault, FaultKind};
@@ -29,6 +30,9 @@ pub enum WorkshopFault {
     /// The feed has a fault.
     #[error("{0}")]
     Feed(FeedFault),
+    /// The rope image has a fault.
+    #[error("{0}")]
+    Rope(RopeFault),
     /// The source or the feed has more than 8,388,608 bytes.
     #[error("E34")]
     TooLong,
@@ -45,6 +49,7 @@ impl WorkshopFault {
             WorkshopFault::WriteFailed => 7,
             WorkshopFault::Source(fault) => fault.kind.number(),
             WorkshopFault::Feed(fault) => fault.number(),
+            WorkshopFault::Rope(fault) => fault.number(),
             WorkshopFault::TooLong => 34,
         }
     }
@@ -73,7 +78,8 @@ impl WorkshopFault {
                 },
             ) => 3,
             WorkshopFault::Feed(FeedFault::NoMemory | FeedFault::ReadFailed) => 3,
-            WorkshopFault::Source(_) | WorkshopFault::Feed(_) => 1,
+            WorkshopFault::Rope(RopeFault::NoMemory | RopeFault::ReadFailed) => 3,
+            WorkshopFault::Source(_) | WorkshopFault::Feed(_) | WorkshopFault::Rope(_) => 1,
             WorkshopFault::TooLong => 1,
         }
     }

@@ -6,7 +6,10 @@ mod channel_line;
 mod engine;
 mod fault;
 mod inputs;
+mod upgrade;
 
 pub use assembly::asm_engine;
 pub use engine::{MOST_STEPS, Summary, may_run, run_engine};
 pub use fault::{WorkshopFault, report};
+pub use rope::Version;
+pub use upgrade::upgrade_engine;

@@ -6,7 +6,7 @@ use Rattle.rope.proofs.memory.Rope.spelled_bank.Goals as goal
 
 pub loop-offset-init : goal.loop-offset-init
 loop-offset-init c = record {
-  items = rw (image_part-none c.args.self.now (bank_words * c.args.entry)) (search rules);
+  items = rw (image_part-none c.args.version c.args.self.now (bank_words * c.args.entry)) (search rules);
   len = search rules;
 }
 
@@ -17,7 +17,7 @@ loop-offset-preserved c =
     record {
       items =
           c.push_all.ensures.items ∙ ap (λ (bytes : List ℕ). bytes ++ c.spelled_at.result) c.loop-offset.invariant.items
-          ∙ ap (λ (bytes : List ℕ). image_part c.args.self.now first c.loop-offset.offset ++ bytes) c.spelled_at.ensures
-          ∙ sym (image_part-more c.args.self.now first c.loop-offset.offset);
+          ∙ ap (λ (bytes : List ℕ). image_part c.args.version c.args.self.now first c.loop-offset.offset ++ bytes) c.spelled_at.ensures
+          ∙ sym (image_part-more c.args.version c.args.self.now first c.loop-offset.offset);
       len = omega (arith, c.push_all.ensures.len, c.loop-offset.invariant.len, two);
     }

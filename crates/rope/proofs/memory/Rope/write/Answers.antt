@@ -6,18 +6,18 @@ use Rattle.rope.proofs.memory.Rope.write.Goals as goal
 
 pub loop-entry-init : goal.loop-entry-init
 loop-entry-init g c = record {
-  written = λ told. rw (image_front-none c.args.self.now) (append-nothing _ _ refl);
+  written = λ told. rw (image_front-none c.args.version c.args.self.now) (append-nothing _ _ refl);
   failures = refl;
 }
 
 pub loop-entry-preserved : goal.loop-entry-preserved
 loop-entry-preserved g c = record {
   written = λ told.
-      rw (image_front-part c.args.self.now (bank_words * c.loop-entry.entry) bank_words (bank_words * (c.loop-entry.entry + 1)) (omega arith))
+      rw (image_front-part c.args.version c.args.self.now (bank_words * c.loop-entry.entry) bank_words (bank_words * (c.loop-entry.entry + 1)) (omega arith))
       (append-then _ _ _ _ _ (c.loop-entry.invariant.written told) (c.in-Ok.ensures.written told));
   failures = c.in-Ok.ensures.failures ∙ c.loop-entry.invariant.failures;
 }
 
 pub returns-in-Err-clause-written : goal.returns-in-Err-clause-written
 returns-in-Err-clause-written g c = λ told.
-    begins_image _ _ _ c.args.self.now (bank_words * c.loop-entry.entry) bank_words (omega arith) (c.loop-entry.invariant.written told) (c.in-Err.ensures.written told)
+    begins_image c.args.version _ _ _ c.args.self.now (bank_words * c.loop-entry.entry) bank_words (omega arith) (c.loop-entry.invariant.written told) (c.in-Err.ensures.written told)
