@@ -7,7 +7,7 @@ use Rattle.feed.specs.Feed.{most_bytes, statements, inputs_of, first_fault, unle
 use Rattle.feed.specs.Reading.{ReadsWhole, ReadsTooMany, ReadsFeed, Tells}
 use Rattle.feed.specs.declared.fault.FeedFault.{FeedFault}
 use Rattle.feed.specs.declared.fault.FeedFault.TheVariants.{NoMemory, ReadFailed, BadLine, OutOfOrder, TooMany, WrongCounter, TooLong}
-use Rattle.feed.specs.declared.input.TimedInput.{TimedInput}
+use Rattle.feed.specs.declared.entry.Entry.{Entry}
 
 -- the inputs of a text that is not too long
 inputs-within : (text : List ℕ) → length text ≤ most_bytes → inputs text ≡ inputs_by (statements text)
@@ -25,7 +25,7 @@ reads_too_many old new taken =
     record { answer = inputs-long old (omega (arith, longer, taken.count)); taken = taken }
 
 -- lines without a fault give their inputs
-pub reads_inputs : (old new text : List ℕ) (list : List TimedInput) → old ≡ text → new ≡ [] → length text ≤ most_bytes → first_fault [] (statements text) ≡ None
+pub reads_inputs : (old new text : List ℕ) (list : List Entry) → old ≡ text → new ≡ [] → length text ≤ most_bytes → first_fault [] (statements text) ≡ None
     → list ≡ inputs_of (statements text) → ReadsWhole old new (Ok list)
 reads_inputs old new text list whole end within faultless given = record {
   answer = ap inputs whole ∙ inputs-within text within ∙ ap (λ f. unless_fault f (inputs_of (statements text))) faultless ∙ ap (λ l. Ok l) (sym given);

@@ -1,9 +1,7 @@
--- The inputs that reach the computer, and when.
-use Rattle.std.specs.Prelude.{ℕ, List, Option, Some, None, nat_le, slice_get, if◌then◌else◌}
+-- The places that counters count in.
+use Rattle.std.specs.Prelude.{ℕ}
 use Rattle.feed.specs.declared.input.Counter.{Counter}
 use Rattle.feed.specs.declared.input.Counter.TheVariants.{Time1, Time2, Time3, Time4, Time5, Time6, CduX, CduY, CduZ, OptY, OptX, PipaX, PipaY, PipaZ, Inlink}
-use Rattle.feed.specs.declared.input.Input.{Input}
-use Rattle.feed.specs.declared.input.TimedInput.{TimedInput}
 
 -- the erasable place of a counter
 abbrev pub counter_place : Counter → ℕ
@@ -22,12 +20,3 @@ counter_place PipaX = 0o37
 counter_place PipaY = 0o40
 counter_place PipaZ = 0o41
 counter_place Inlink = 0o45
-
--- an input, where it stands and its cycle has come
-abbrev pub when_come : ℕ → Option TimedInput → Option Input
-when_come cycles None = None
-when_come cycles (Some timed) = if nat_le timed.cycle cycles then Some timed.input else None
-
--- input k of a list, counted from 0, where it stands and its cycle has come
-unfoldable pub due : List TimedInput → ℕ → ℕ → Option Input
-due inputs k cycles = when_come cycles (slice_get inputs k)

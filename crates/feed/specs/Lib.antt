@@ -3,5 +3,11 @@ pub mod Faults
 pub mod Names
 pub mod Statements
 pub mod Views
+pub mod Merged
+pub mod Order
+pub mod Fits
+pub mod Added
 pub mod Feed
 pub mod Reading
+pub mod Heads
+pub mod Kept

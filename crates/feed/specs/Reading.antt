@@ -1,14 +1,15 @@
 -- What reading a feed takes from a reader, and what it answers.
-use Rattle.std.specs.Prelude.{◌≡◌, ℕ, ◌+◌, Bool, true, false, List, [], ◌∷◌, ◌++◌, Option, None, Some, Result, Ok, Err, ⊤}
+use Rattle.std.specs.Prelude.{◌≡◌, ℕ, ◌+◌, Bool, true, false, List, [], ◌++◌, Option, None, Some, Result, Ok, Err, ⊤}
 use Rattle.words.specs.Readings.{TakesAtMost, Takes}
-use Rattle.feed.specs.Feed.{inputs, inputs_of, fault_after, most_bytes}
+use Rattle.feed.specs.Feed.{inputs, plain_in, fault_after, most_bytes}
+use Rattle.feed.specs.declared.entry.Entry.{Entry}
+use Rattle.feed.specs.declared.entry.Plain.{Plain}
 use Rattle.feed.specs.declared.fault.FeedFault.{FeedFault}
 use Rattle.feed.specs.declared.fault.FeedFault.TheVariants.{NoMemory, ReadFailed, BadLine, OutOfOrder, TooMany, WrongCounter, TooLong}
-use Rattle.feed.specs.declared.input.TimedInput.{TimedInput}
 use Rattle.feed.specs.declared.statement.Statement.{Statement}
 
 -- the bytes that were left give the answer, and all were read
-pub record ReadsWhole (old new : List ℕ) (told : Result (List TimedInput) FeedFault) : Type 0 where
+pub record ReadsWhole (old new : List ℕ) (told : Result (List Entry) FeedFault) : Type 0 where
   pub answer : inputs old ≡ told
   pub left : new ≡ []
 
@@ -18,7 +19,7 @@ pub record ReadsTooMany (old new : List ℕ) : Type 0 where
   pub taken : Takes (most_bytes + 1) old new
 
 -- what reading a feed answers of the bytes that were left, and which it leaves
-abbrev pub ReadsFeed : List ℕ → List ℕ → Result (List TimedInput) FeedFault → Type 0
+abbrev pub ReadsFeed : List ℕ → List ℕ → Result (List Entry) FeedFault → Type 0
 ReadsFeed old new (Ok list) = ReadsWhole old new (Ok list)
 ReadsFeed old new (Err NoMemory) = TakesAtMost (most_bytes + 1) old new
 ReadsFeed old new (Err ReadFailed) = TakesAtMost most_bytes old new
@@ -50,6 +51,6 @@ Tells found (WrongCounter line) = found ≡ Some (WrongCounter line)
 Tells found TooLong = ⊥
 
 -- a line was taken: its input stands after those of the lines before it, or its fault is told
-abbrev pub TakesLine : List TimedInput → ℕ → Statement → List TimedInput → Result (Unit {0}) FeedFault → Type 0
-TakesLine before line said after (Ok x) = (fault_after before line said ≡ None) × (after ≡ before ++ inputs_of (said ∷ []))
+abbrev pub TakesLine : List Plain → ℕ → Statement → List Plain → Result (Unit {0}) FeedFault → Type 0
+TakesLine before line said after (Ok x) = (fault_after before line said ≡ None) × (after ≡ before ++ plain_in line said)
 TakesLine before line said after (Err fault) = Tells (fault_after before line said) fault

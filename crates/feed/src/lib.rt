@@ -1,14 +1,19 @@
 //! Feeds: the inputs that reach the computer, each at its cycle.
 #![tactic(auto)]
 
+mod cut;
+mod entry;
 mod fault;
 pub mod input;
 mod list;
+mod merge;
 mod names;
 mod reading;
 pub mod request;
+mod source;
 mod statement;
 
 pub use fault::FeedFault;
-pub use list::Feed;
+pub use list::{AddFault, Feed};
+pub use merge::MOST_SERIES;
 pub use reading::{MOST_BYTES, read};

@@ -1,25 +1,57 @@
-//! The inputs of a feed.
+//! The inputs of a run.
 
-ghost use Rattle.std.specs.Prelude.{◌≡◌, ◌<◌, ◌^◌, [], IsSome, length};
-ghost use Rattle.feed.specs.Inputs.{due};
+ghost use Rattle.std.specs.Prelude.{◌≡◌, ◌≤◌, ◌<◌, ◌+◌, ◌^◌, ℕ, List, [], Some, None, Err, OnOk, OnErr, IfSome, length, slice_get, slice_index};
+ghost use Rattle.feed.specs.Added.{AddsLast, TakenBelow};
+ghost use Rattle.feed.specs.Feed.{most_inputs};
+ghost use Rattle.feed.specs.Fits.{Fits, number_from, counts_after, AreInputs};
+ghost use Rattle.feed.specs.Kept.{AreGathered, IsPlaceOf, due_from};
+ghost use Rattle.feed.specs.Merged.{merged, due, when_come};
+ghost use Rattle.feed.specs.Order.{IsInOrder};
 
-use crate::input::{Input, TimedInput};
+use crate::entry::{Entry, Plain};
+use crate::input::Input;
+use crate::merge::{MOST_SERIES, next_of};
+use crate::source::Source;
+use arrayvec::ArrayVec;
 use std::alloc::Global;
 use std::marker::Model;
 
-/// The inputs of a run, seen as their list.
+/// The most plain inputs.
+pub(crate) const MOST_INPUTS: usize = 65_536;
+
+/// The inputs of a run, seen as their list in order. They are never listed: the next one is found by how many a machine
+/// took, in all and from each series.
 #[derive(Drop)]
 pub struct Feed {
-    inputs: Vec<TimedInput>,
+    plain: Vec<Plain>,
+    sources: ArrayVec<Source, MOST_SERIES>,
+    // Entry `known`, counted from 0, is due at no cycle below `due_at`.
+    known: usize,
+    due_at: u64,
+    // A line after all others.
+    line: u64,
+}
+
+/// Why an input is not added.
+#[derive(Clone, Copy, PartialEq, Eq, Debug, Drop)]
+pub enum AddFault {
+    /// A growth of memory was refused.
+    NoMemory,
+    /// As many plain inputs stand as may.
+    TooMany,
 }
 
 impl Model for Feed {
     ghost use Rattle.std.specs.Prelude.{List};
-    ghost use Rattle.feed.specs.declared.input.TimedInput.{TimedInput};
+    ghost use Rattle.feed.specs.declared.entry.Entry.{Entry};
+    ghost use Rattle.feed.specs.Kept.{IsFeed};
+    ghost use Rattle.feed.specs.Merged.{merged};
 
-    ghost Value = { List TimedInput };
+    ghost Value = { List Entry };
 
-    ghost view = { λ f. f.inputs.items };
+    ghost view = { λ f. merged f.plain.items f.sources.items };
+
+    ghost invariant = { λ f. IsFeed f.plain.items f.sources.items f.known f.due_at f.line };
 }
 
 impl Feed {
@@ -27,28 +59,113 @@ impl Feed {
     pub fn empty(alloc: Global) -> Feed
         ensures { result ≡ [] }
     {
+        Feed::new(Vec::new(alloc), ArrayVec::new(), 1)
+    }
+
+    // The feed of these sources, and a line after all of theirs.
+    pub(crate) fn new(plain: Vec<Plain>, sources: ArrayVec<Source, MOST_SERIES>, line: u32) -> Feed
+        requires { AreGathered plain.items sources.items line }
+        ensures { result ≡ merged plain.items sources.items }
+    {
         Feed {
-            inputs: Vec::new(alloc),
+            plain,
+            sources,
+            known: 0,
+            due_at: 0,
+            line: u64::from(line),
         }
     }
 
-    // The feed of these inputs.
-    pub(crate) fn new(inputs: Vec<TimedInput>) -> Feed
-        ensures { result ≡ inputs.items }
+    /// The next input for a machine that took `taken`, by its counts so many from each series, where its cycle is at most
+    /// `cycles`; and the number of its series, where it is from one.
+    pub fn due(
+        &mut self,
+        taken: usize,
+        counts: &[u32; MOST_SERIES],
+        cycles: u64,
+    ) -> Option<(Input, Option<usize>)>
+        ensures same { self.new ≡ self.old }
+        ensures value { Fits self.old taken counts.now → result ≡ due self.old taken cycles }
+        ensures fits { Fits self.old taken counts.now → IfSome result (λ given. Fits self.old (taken + 1) (counts_after counts.now given.1)) }
+        ensures room { Fits self.old taken counts.now → IfSome result (λ given. taken < 2 ^ 63) }
+        ensures small { Fits self.old taken counts.now → (j : ℕ) → slice_index counts.now j < 10 ^ 9 }
+        ensures series { IfSome result (λ given. IfSome given.1 (λ j. j < 16)) }
+        ensures inputs { AreInputs self.old }
     {
-        Feed { inputs }
+        if taken == self.known && cycles < self.due_at {
+            return None;
+        }
+        when_come(cycles, self.next(taken, counts))
     }
 
-    /// Input `k`, counted from 0, where it stands and its cycle is at most `cycles`.
-    #[tactic(auto, unfolding(crate::specs::Inputs::due))]
-    pub fn due(&self, k: usize, cycles: u64) -> Option<Input>
-        ensures value { result ≡ due self.now k cycles }
-        ensures stands { IsSome result → k < length self.now }
-        ensures range { IsSome result → k < 2 ^ 63 }
+    /// Adds a plain input at a cycle, on a line after all others; `TooMany` where the most plain inputs stand.
+    pub fn add(&mut self, cycle: u64, input: Input) -> Result<(), AddFault>
+        ensures added { OnOk result (AddsLast self.old cycle input self.new) }
+        ensures fits { OnOk result ((taken : ℕ) → (counts : List ℕ) → TakenBelow self.old taken cycle → Fits self.old taken counts → Fits self.new taken counts) }
+        ensures unchanged { OnErr result (self.new ≡ self.old) }
+        ensures room { OnOk result (number_from None self.old < most_inputs) }
+        ensures full { result ≡ Err AddFault.TooMany → most_inputs ≤ number_from None self.old }
+        ensures inputs { OnOk result (AreInputs self.old) }
     {
-        match self.inputs.get(k) {
-            Some(timed) if timed.cycle <= cycles => Some(timed.input),
-            _ => None,
+        if self.plain.as_slice().len() >= MOST_INPUTS {
+            return Err(AddFault::TooMany);
+        }
+        let place = place_of(&self.plain, cycle);
+        let line = self.line;
+        match self.plain.insert(place, Plain { cycle, line, input }) {
+            Ok(()) => {
+                self.line = line + 1;
+                self.due_at = 0;
+                Ok(())
+            }
+            Err(_) => Err(AddFault::NoMemory),
         }
     }
+
+    // The next entry for a machine, whose cycle is kept where the counts are seen to fit.
+    fn next(&mut self, taken: usize, counts: &[u32; MOST_SERIES]) -> Option<Entry>
+        ensures same { self.new ≡ self.old }
+        ensures entry { Fits self.old taken counts.now → slice_get self.old taken ≡ result }
+        ensures series { IfSome result (λ e. IfSome e.series (λ j. j < 16)) }
+    {
+        let (next, known) = next_of(&self.plain, &mut self.sources, taken, counts);
+        if known {
+            self.known = taken;
+            self.due_at = due_from(&next);
+        }
+        next
+    }
+}
+
+// What an entry gives, where it stands and its cycle has come.
+fn when_come(cycles: u64, entry: Option<Entry>) -> Option<(Input, Option<usize>)>
+    ensures { result ≡ when_come cycles entry }
+{
+    match entry {
+        Some(entry) if entry.cycle <= cycles => Some((entry.input, entry.series)),
+        Some(_) => None,
+        None => None,
+    }
+}
+
+// The cycle from which on an entry is due, or the greatest, where none stands.
+fn due_from(entry: &Option<Entry>) -> u64
+    ensures { result ≡ due_from entry.now }
+{
+    match *entry {
+        Some(entry) => entry.cycle,
+        None => u64::MAX,
+    }
+}
+
+// The place after all plain inputs that are due no later than a cycle.
+fn place_of(plain: &[Plain], cycle: u64) -> usize
+    ensures { IsPlaceOf plain.now cycle result }
+{
+    for (place, other) in plain.iter().enumerate() {
+        if other.cycle > cycle {
+            return place;
+        }
+    }
+    plain.len()
 }

@@ -1,25 +1,29 @@
 //! Feeds from their bytes.
 
-ghost use Rattle.std.specs.Prelude.{◌≡◌, ◌≤◌, [], None, true, if◌then◌else◌, IfOk, IfErr, length};
+ghost use Rattle.std.specs.Prelude.{◌≡◌, ◌≤◌, ◌<◌, ◌+◌, [], None, true, if◌then◌else◌, IfOk, IfErr, OnOk, length};
 ghost use Rattle.words.specs.Devices.{one_more};
-ghost use Rattle.feed.specs.Feed.{most_bytes, most_inputs, AreInOrder, statements, inputs_of, is_late, first_fault};
+ghost use Rattle.feed.specs.Feed.{most_bytes, most_inputs, plain_from, statements, is_late, first_fault};
+ghost use Rattle.feed.specs.Fits.{number_from};
+ghost use Rattle.feed.specs.Kept.{AreGathered};
+ghost use Rattle.feed.specs.Order.{IsInOrder};
 ghost use Rattle.feed.specs.Statements.{statement_of};
 ghost use Rattle.feed.specs.Reading.{ReadsFeed, has_read_failed, Tells, TakesLine};
 ghost use Rattle.feed.specs.declared.statement.Statement.TheVariants.{Gives};
 
+use crate::entry::Plain;
 use crate::fault::FeedFault;
 use crate::input::TimedInput;
-use crate::list::Feed;
+use crate::list::{Feed, MOST_INPUTS};
+use crate::merge::MOST_SERIES;
+use crate::source::Source;
 use crate::statement::{Statement, statement_of};
 use agc_text::next_line;
+use arrayvec::ArrayVec;
 use std::alloc::Global;
 use words::{Read, ReadFault, read_text};
 
 /// The most bytes of a feed, and of any text that is read whole.
 pub const MOST_BYTES: usize = 8_388_608;
-
-/// The most inputs of a feed.
-const MOST_INPUTS: usize = 65_536;
 
 /// Reads a feed to its end, and answers its inputs.
 ///
@@ -29,8 +33,6 @@ const MOST_INPUTS: usize = 65_536;
 /// `OutOfOrder` and `TooMany`. `NoMemory` where a growth was refused.
 pub fn read<R: Read>(alloc: Global, reader: &mut R) -> Result<Feed, FeedFault>
     ensures bytes { R.told ≡ true → ReadsFeed (R.left reader.old) (R.left reader.new) result }
-    ensures order { IfOk result (λ feed. AreInOrder feed) }
-    ensures few { IfOk result (λ feed. length feed ≤ most_inputs) }
     ensures failures { R.failures reader.new ≡ (if has_read_failed result then one_more (R.failures reader.old) else R.failures reader.old) }
 {
     let text = match read_text(alloc, reader, MOST_BYTES) {
@@ -40,68 +42,103 @@ pub fn read<R: Read>(alloc: Global, reader: &mut R) -> Result<Feed, FeedFault>
         Err(ReadFault::TooLong) => return Err(FeedFault::TooLong),
     };
     match inputs_in(alloc, &text) {
-        Ok(inputs) => Ok(Feed::new(inputs)),
+        Ok(gathered) => Ok(Feed::new(gathered.plain, gathered.sources, gathered.line)),
         Err(fault) => Err(fault),
     }
 }
 
-// The inputs of a text's lines, up to the first fault.
-fn inputs_in(alloc: Global, text: &[u8]) -> Result<Vec<TimedInput>, FeedFault>
+// What the lines of a text give, up to the first fault.
+fn inputs_in(alloc: Global, text: &[u8]) -> Result<Gathered, FeedFault>
     requires { length text.now ≤ most_bytes }
     ensures faultless { IfOk result (λ _. first_fault [] (statements text.now) ≡ None) }
-    ensures inputs { IfOk result (λ inputs. inputs.items ≡ inputs_of (statements text.now)) }
+    ensures plain { IfOk result (λ g. g.plain.items ≡ plain_from 1 (statements text.now)) }
+    ensures sources { IfOk result (λ g. g.sources.items ≡ []) }
+    ensures gathered { IfOk result (λ g. AreGathered g.plain.items g.sources.items g.line) }
     ensures fault { IfErr result (Tells (first_fault [] (statements text.now))) }
-    ensures order { IfOk result (λ inputs. AreInOrder inputs.items) }
-    ensures few { IfOk result (λ inputs. length inputs.items ≤ most_inputs) }
 {
-    let mut inputs = Vec::new(alloc);
+    let mut gathered = Gathered::new(alloc);
     let mut rest = text;
-    let mut line = 1;
     while let Some((first, following)) = next_line(rest) {
-        match take_line(&mut inputs, line, first) {
+        match gathered.take_line(first) {
             Ok(()) => rest = following,
             Err(fault) => return Err(fault),
         }
-        line += 1;
     }
-    Ok(inputs)
+    Ok(gathered)
 }
 
-// Adds the input of the line with this number, if it gives one.
-fn take_line(inputs: &mut Vec<TimedInput>, line: u32, text: &[u8]) -> Result<(), FeedFault>
-    ensures line { TakesLine inputs.old.items line (statement_of text.now) inputs.new.items result }
-    ensures order { AreInOrder inputs.old.items → IfOk result (λ _. AreInOrder inputs.new.items) }
-    ensures few { length inputs.old.items ≤ most_inputs → IfOk result (λ _. length inputs.new.items ≤ most_inputs) }
-{
-    match statement_of(text) {
-        Statement::Nothing => Ok(()),
-        Statement::Malformed => Err(FeedFault::BadLine(line)),
-        Statement::WrongCounter => Err(FeedFault::WrongCounter(line)),
-        Statement::Gives(timed) => take_input(inputs, line, timed),
-    }
+/// What some lines give, and the number of the line after them.
+#[derive(Drop)]
+struct Gathered {
+    plain: Vec<Plain>,
+    sources: ArrayVec<Source, MOST_SERIES>,
+    line: u32,
 }
 
-// Adds the input of the line with this number.
-#[tactic(auto, using(crate::proofs::LineSteps::one_more_in_order))]
-fn take_input(inputs: &mut Vec<TimedInput>, line: u32, timed: TimedInput) -> Result<(), FeedFault>
-    ensures line { TakesLine inputs.old.items line (Gives timed) inputs.new.items result }
-    ensures order { AreInOrder inputs.old.items → IfOk result (λ _. AreInOrder inputs.new.items) }
-    ensures few { length inputs.old.items ≤ most_inputs → IfOk result (λ _. length inputs.new.items ≤ most_inputs) }
-{
-    if is_late(inputs, timed.cycle) {
-        return Err(FeedFault::OutOfOrder(line));
+impl Gathered {
+    // What no lines give.
+    fn new(alloc: Global) -> Gathered
+        ensures plain { result.plain.items ≡ [] }
+        ensures sources { result.sources.items ≡ [] }
+        ensures line { result.line ≡ 1 }
+    {
+        Gathered {
+            plain: Vec::new(alloc),
+            sources: ArrayVec::new(),
+            line: 1,
+        }
     }
-    if inputs.len() >= MOST_INPUTS {
-        return Err(FeedFault::TooMany);
+
+    // Adds what the next line gives.
+    fn take_line(&mut self, text: &[u8]) -> Result<(), FeedFault>
+        requires gathered { AreGathered self.old.plain.items self.old.sources.items self.old.line }
+        requires room { self.old.line ≤ most_bytes }
+        ensures line { TakesLine self.old.plain.items self.old.line (statement_of text.now) self.new.plain.items result }
+        ensures sources { OnOk result (self.new.sources.items ≡ self.old.sources.items) }
+        ensures gathered { OnOk result (AreGathered self.new.plain.items self.new.sources.items self.new.line) }
+        ensures next { OnOk result (self.new.line ≡ self.old.line + 1) }
+    {
+        match statement_of(text) {
+            Statement::Nothing => {}
+            Statement::Malformed => return Err(FeedFault::BadLine(self.line)),
+            Statement::WrongCounter => return Err(FeedFault::WrongCounter(self.line)),
+            Statement::Gives(timed) => match self.take_input(timed) {
+                Ok(()) => {}
+                Err(fault) => return Err(fault),
+            },
+        }
+        self.line += 1;
+        Ok(())
     }
-    match inputs.push(timed) {
-        Ok(()) => Ok(()),
-        Err(_) => Err(FeedFault::NoMemory),
+
+    // Adds the input of the next line.
+    fn take_input(&mut self, timed: TimedInput) -> Result<(), FeedFault>
+        requires { AreGathered self.old.plain.items self.old.sources.items self.old.line }
+        ensures line { TakesLine self.old.plain.items self.old.line (Gives timed) self.new.plain.items result }
+        ensures sources { self.new.sources.items ≡ self.old.sources.items }
+        ensures gathered { OnOk result (AreGathered self.new.plain.items self.new.sources.items (self.old.line + 1)) }
+        ensures same_line { self.new.line ≡ self.old.line }
+    {
+        if is_late(&self.plain, timed.cycle) {
+            return Err(FeedFault::OutOfOrder(self.line));
+        }
+        if self.plain.as_slice().len() >= MOST_INPUTS {
+            return Err(FeedFault::TooMany);
+        }
+        let input = Plain {
+            cycle: timed.cycle,
+            line: u64::from(self.line),
+            input: timed.input,
+        };
+        match self.plain.push(input) {
+            Ok(()) => Ok(()),
+            Err(_) => Err(FeedFault::NoMemory),
+        }
     }
 }
 
 // Whether a cycle is below that of the last input.
-fn is_late(before: &[TimedInput], cycle: u64) -> bool
+fn is_late(before: &[Plain], cycle: u64) -> bool
     ensures { result ≡ is_late before.now cycle }
 {
     match before.last() {

@@ -23,7 +23,9 @@ fn told(alloc: Global, text: &[u8]) -> Option<FeedFault> {
 fn first_input(alloc: Global, text: &[u8]) -> Option<Input> {
     let mut reader = text;
     match read(alloc, &mut reader) {
-        Ok(feed) => feed.due(0, u64::MAX),
+        Ok(mut feed) => feed
+            .due(0, &[0; MOST_SERIES], u64::MAX)
+            .map(|given| given.0),
         Err(_) => None,
     }
 }
@@ -152,20 +154,17 @@ fn lines_have_at_most_120_bytes(rt: HostRuntime) {
 #[test]
 fn inputs_are_due_at_their_cycles(rt: HostRuntime) -> Result<(), FeedFault> {
     let mut reader: &[u8] = b"4 TIME1 PINC\n4 PIPAX MINC\n7 RUPT 1\n";
-    let feed = read(rt.alloc(), &mut reader)?;
-    assert!(rt; feed.due(0, 3).is_none());
-    assert_eq!(rt;
-        feed.due(0, 4),
-        Some(Input::Count(Counter::Time1, Sequence::Pinc))
-    );
-    assert_eq!(rt;
-        feed.due(1, 6),
-        Some(Input::Count(Counter::PipaX, Sequence::Minc))
-    );
-    assert!(rt; feed.due(2, 6).is_none());
-    assert!(rt; feed.due(2, 7).is_some());
-    assert!(rt; feed.due(3, u64::MAX).is_none());
-    assert!(rt; Feed::empty(rt.alloc()).due(0, u64::MAX).is_none());
+    let mut feed = read(rt.alloc(), &mut reader)?;
+    let none = [0; MOST_SERIES];
+    let first = Input::Count(Counter::Time1, Sequence::Pinc);
+    let second = Input::Count(Counter::PipaX, Sequence::Minc);
+    assert!(rt; feed.due(0, &none, 3).is_none());
+    assert_eq!(rt; feed.due(0, &none, 4), Some((first, None)));
+    assert_eq!(rt; feed.due(1, &none, 6), Some((second, None)));
+    assert!(rt; feed.due(2, &none, 6).is_none());
+    assert!(rt; feed.due(2, &none, 7).is_some());
+    assert!(rt; feed.due(3, &none, u64::MAX).is_none());
+    assert!(rt; Feed::empty(rt.alloc()).due(0, &none, u64::MAX).is_none());
     assert_eq!(rt; Counter::Inlink.place().number(), 0o45);
     Ok(())
 }

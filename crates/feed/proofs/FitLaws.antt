@@ -1,0 +1,152 @@
+-- What fits a list still fits after a step and after an addition.
+use Rattle.std.proofs.Common.{ℕ, zero, suc, ◌+◌, ◌*◌, ◌^◌, ◌<◌, ◌≤◌, ◌≡◌, true, List, [], ◌∷◌, Option, Some, None, cond, ltb, length, refl, ap, ◌∙◌, sym, arith, inl, inr, subst, take, get_or, leb}
+use Rattle.std.specs.Prelude.{slice_get, slice_index, IfSome, set, sum}
+use Rattle.std.proofs.lemmas.Bool.Decides.{nat_tests, eqb_tells}
+use Rattle.std.proofs.lemmas.List.{get_or-set_same, get_or-set_other}
+use Rattle.std.proofs.lemmas.List.Filters.{length-filter_more}
+use Rattle.std.proofs.lemmas.Option.{slice_get_within, get_or_from_slice_get}
+use Rattle.feed.specs.declared.entry.Entry.{Entry}
+use Rattle.feed.specs.declared.input.Input.{Input}
+use Rattle.feed.specs.Merged.{is_before, inserted, when_come}
+use Rattle.feed.specs.Added.{AddsLast, TakenBelow, plain_on}
+use Rattle.feed.specs.Fits.{is_from, number_from, Fits, counts_after, AreInputs}
+use Rattle.feed.specs.Order.{IsAmong}
+use Rattle.feed.proofs.Sorting.{either_way}
+use Rattle.feed.proofs.Merging.{total-counts}
+use Rattle.std.proofs.lemmas.List.{length-take-le}
+use Rattle.std.proofs.lemmas.List.Sums.{sum_by-cons}
+
+-- nothing was taken yet
+pub fits-start : (list : List Entry) (counts : List ℕ) → ((j : ℕ) → slice_index counts j ≡ 0) → Fits list 0 counts
+fits-start list counts h = record { stand = omega arith; tell = h }
+
+-- one for an entry of a source
+abbrev one_from : Option ℕ → Entry → ℕ
+one_from s e = cond (is_from s e) 1 0
+
+one-more : (list : List Entry) (taken : ℕ) (e : Entry) (s : Option ℕ) → slice_get list taken ≡ Some e → number_from s (take (taken + 1) list) ≡ number_from s (take taken list) + one_from s e
+one-more list taken e s h =
+    let within = slice_get_within list taken e h in
+    let at = get_or_from_slice_get list taken e e h in
+    length-filter_more (is_from s) list taken e within ∙ ap (λ x. number_from s (take taken list) + one_from s x) at
+
+tell-more : (list : List Entry) (taken : ℕ) (counts : List ℕ) (e : Entry) (o : Option ℕ) → e.series ≡ o → slice_get list taken ≡ Some e → Fits list taken counts → IfSome o (λ j. j < length counts)
+    → (j : ℕ) → slice_index (counts_after counts o) j ≡ number_from (Some j) (take (taken + 1) list)
+tell-more list taken counts e None is h f w j =
+    let more = one-more list taken e (Some j) h in
+    let same : one_from (Some j) e ≡ 0 = rw is refl in
+    omega (arith, f.tell j, more, same)
+tell-more list taken counts e (Some k) is h f w j =
+    let more = one-more list taken e (Some j) h in
+    elim (eqb_tells j k) [
+      | inl at ↦
+          let one : one_from (Some j) e ≡ 1 = rw (is, at.0) refl in
+          let here : get_or (set counts k (get_or counts k 0 + 1)) j 0 ≡ get_or counts k 0 + 1 = ap (λ n. get_or (set counts k (get_or counts k 0 + 1)) n 0) at.1 ∙ get_or-set_same counts k _ 0 w in
+          let was : get_or counts k 0 ≡ number_from (Some j) (take taken list) = f.tell k ∙ ap (λ n. number_from (Some n) (take taken list)) (sym at.1) in
+          omega (arith, more, one, here, was)
+      | inr other ↦
+          let same : one_from (Some j) e ≡ 0 = rw (is, other.0) refl in
+          let there : get_or (set counts k (get_or counts k 0 + 1)) j 0 ≡ get_or counts j 0 = get_or-set_other counts k j _ 0 other.1 in
+          omega (arith, f.tell j, more, same, there)
+    ]
+
+-- the next entry is taken
+pub fits-more : (list : List Entry) (taken : ℕ) (counts : List ℕ) (e : Entry) → slice_get list taken ≡ Some e → Fits list taken counts → IfSome e.series (λ j. j < length counts) → Fits list (taken + 1) (counts_after counts e.series)
+fits-more list taken counts e h f w = record {
+  stand = let within = slice_get_within list taken e h in omega arith;
+  tell = tell-more list taken counts e e.series refl h f w;
+}
+
+is_below : (a b : ℕ) → a < b → ltb a b ≡ true
+is_below a b h = grind (arith, nat_tests)
+
+before-later : (x e : Entry) → x.cycle < e.cycle → is_before x e ≡ true
+unfolding is_before
+before-later x e h = rw (is_below x.cycle e.cycle h) refl
+
+-- an entry after some leaves these where they are
+pub take-inserted : (k : ℕ) (e : Entry) (list : List Entry) → k ≤ length list → ((x : Entry) → IsAmong x (take k list) → x.cycle < e.cycle) → take k (inserted e list) ≡ take k list
+unfolding inserted
+take-inserted zero e list h later = refl
+take-inserted (suc k) e [] h later = absurd (omega arith)
+take-inserted (suc k) e (x ∷ list) h later =
+    rw (before-later x e (later x (inl refl))) (ap (λ l. x ∷ l) (take-inserted k e list (omega arith) (λ y m. later y (inr m))))
+
+pub length-inserted : (e : Entry) (list : List Entry) → length (inserted e list) ≡ suc (length list)
+unfolding inserted
+length-inserted e [] = refl
+length-inserted e (x ∷ list) = elim (either_way (is_before x e)) [
+  | inl is ↦ rw is (ap suc (length-inserted e list))
+  | inr isnt ↦ rw isnt refl
+]
+
+-- an entry above the cycles of all that were taken
+pub fits-added : (list : List Entry) (taken : ℕ) (counts : List ℕ) (e : Entry) → ((x : Entry) → IsAmong x (take taken list) → x.cycle < e.cycle) → Fits list taken counts → Fits (inserted e list) taken counts
+fits-added list taken counts e later f = record {
+  stand = let l = length-inserted e list in let s = f.stand in omega arith;
+  tell = λ j. f.tell j ∙ ap (number_from (Some j)) (sym (take-inserted taken e list f.stand later));
+}
+
+-- what is given by the next entry is counted
+pub fits-given : (list : List Entry) (taken cycles : ℕ) (counts : List ℕ) (o : Option Entry) → length counts ≡ 16 → slice_get list taken ≡ o → Fits list taken counts → IfSome o (λ e. IfSome e.series (λ j. j < 16))
+    → IfSome (when_come cycles o) (λ given. Fits list (taken + 1) (counts_after counts given.1))
+fits-given list taken cycles counts None long is f w = tt
+fits-given list taken cycles counts (Some e) long is f w = elim (either_way (leb e.cycle cycles)) [
+  | inl le ↦ rw le (fits-more list taken counts e is f (within-counts e.series w))
+  | inr later ↦ rw later tt
+]
+  where
+    within-counts : (o : Option ℕ) → IfSome o (λ j. j < 16) → IfSome o (λ j. j < length counts)
+    within-counts None b = tt
+    within-counts (Some j) b = omega arith
+
+pub fits-none : (list : List Entry) (taken : ℕ) (counts : List ℕ) → IfSome None (λ (given : Input × Option ℕ). Fits list (taken + 1) (counts_after counts given.1))
+fits-none list taken counts = tt
+
+-- an input that was added above the cycles of all that were taken keeps the fit
+pub fits-adds : (old new : List Entry) (cycle taken : ℕ) (input : Input) (counts : List ℕ) → AddsLast old cycle input new → TakenBelow old taken cycle → Fits old taken counts → Fits new taken counts
+fits-adds old new cycle taken input counts a below f =
+    subst (λ (l : List Entry). Fits l taken counts) (sym a.new_is) (fits-added old taken counts (plain_on a.line cycle input) below f)
+
+fewer-taken : (s : Option ℕ) (k : ℕ) (list : List Entry) → number_from s (take k list) ≤ number_from s list
+fewer-taken s zero list = omega arith
+fewer-taken s (suc k) [] = omega arith
+fewer-taken s (suc k) (e ∷ list) = elim (either_way (is_from s e)) [
+  | inl is ↦ rw is (let f = fewer-taken s k list in omega (arith, f))
+  | inr isnt ↦ rw isnt (fewer-taken s k list)
+]
+
+-- the counts of a machine that fits a feed are small
+pub counts-small : (list : List Entry) (taken : ℕ) (counts : List ℕ) → AreInputs list → Fits list taken counts → (j : ℕ) → slice_index counts j < 10 ^ 9
+counts-small list taken counts a f j = omega (arith, f.tell j, fewer-taken (Some j) taken list, a.serially j)
+
+sum-small : (counts : List ℕ) (most : ℕ) → ((j : ℕ) → get_or counts j 0 < most) → sum counts ≤ length counts * most
+sum-small [] most h = omega arith
+sum-small (c ∷ counts) most h =
+    let here : c < most = h 0 in
+    let rest = sum-small counts most (λ j. h (suc j)) in
+    let product : (length counts + 1) * most ≡ length counts * most + most = grind arith in
+    omega (arith, here, rest, product, sum_by-cons (λ n. n) c counts)
+
+-- and so is the number of what it took
+pub taken-small : (list : List Entry) (taken : ℕ) (counts : List ℕ) → length counts ≡ 16 → AreInputs list → Fits list taken counts → taken < 2 ^ 63
+taken-small list taken counts long a f =
+    let t = total-counts counts (take taken list) f.tell in
+    let s = sum-small counts (10 ^ 9) (counts-small list taken counts a f) in
+    let p = fewer-taken None taken list in
+    let few = a.plainly in
+    let all = length-take-le taken list f.stand in
+    let most : length counts * 10 ^ 9 ≡ 16000000000 = ap (λ n. n * 10 ^ 9) long in
+    omega (arith, t, s, p, few, all, most)
+
+pub given-room : {T : Type 0} (list : List Entry) (taken : ℕ) (counts : List ℕ) (o : Option T) → length counts ≡ 16 → AreInputs list → Fits list taken counts → IfSome o (λ given. taken < 2 ^ 63)
+given-room list taken counts None long a f = tt
+given-room list taken counts (Some given) long a f = taken-small list taken counts long a f
+
+-- what is given is of the series of its entry
+pub given-series : (cycles : ℕ) (o : Option Entry) → IfSome o (λ e. IfSome e.series (λ j. j < 16)) → IfSome (when_come cycles o) (λ given. IfSome given.1 (λ j. j < 16))
+given-series cycles None w = tt
+given-series cycles (Some e) w = elim (either_way (leb e.cycle cycles)) [
+  | inl le ↦ rw le w
+  | inr later ↦ rw later tt
+]

@@ -1,0 +1,10 @@
+use Rattle.std.proofs.Common.{◌∙◌, length, refl}
+use Rattle.feed.proofs.KeptLaws.{written_back, feed-next}
+use Rattle.feed.proofs.list.Feed.next.Goals as goal
+
+pub invariant_of-self : goal.invariant_of-self
+invariant_of-self c =
+    let same = c.next_of-next.ensures.same ∙ c.deref_mut.ensures.value in
+    let back = written_back c.self.inside.sources.items c.next_of-next.new.sources (length c.self.inside.sources.items) same refl in
+    feed-next c.self.inside.plain.items c.deref.result.now c.self.inside.sources.items c.deref_mut.result.now _ c.self.inside.known c.self.inside.due_at c.self.inside.line c.args.taken c.due_from-self-inside.result c.args.counts.now c.next_of-next.result.0
+    c.self.invariant c.deref.ensures.value c.deref_mut.ensures.value back (c.next_of-next.ensures.fits c.if-known.true) c.next_of-next.ensures.entry c.due_from-self-inside.ensures

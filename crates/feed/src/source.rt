@@ -1,0 +1,130 @@
+//! A series, with the cycles that were told last.
+
+ghost use Rattle.std.specs.Prelude.{◌≡◌, ◌-◌, true, slice_get};
+ghost use Rattle.feed.specs.Merged.{cycle_of, entries_of};
+ghost use Rattle.feed.specs.Heads.{IsRule, number_before};
+
+use crate::cut::is_cut;
+use crate::entry::{Entry, Series};
+use crate::input::Input;
+use crate::request::Request;
+use std::marker::Model;
+
+/// A series, with the cycles of one of its entries and of the one before that. An entry that follows costs one division.
+#[derive(Drop)]
+pub struct Source {
+    rule: Series,
+    number: u32,
+    cycle: u64,
+    before: u64,
+}
+
+impl Model for Source {
+    ghost use Rattle.feed.specs.declared.entry.Series.{Series};
+    ghost use Rattle.feed.specs.Heads.{IsKept};
+
+    ghost Value = { Series };
+
+    ghost view = { λ s. s.rule };
+
+    ghost invariant = { λ s. IsKept s.rule s.number s.cycle s.before };
+}
+
+impl Source {
+    /// The source of a series.
+    pub fn new(rule: Series) -> Source
+        requires { IsRule rule }
+        ensures { result ≡ rule }
+    {
+        let first = cycle_of(&rule, 0);
+        Source {
+            rule,
+            number: 0,
+            cycle: first,
+            before: first,
+        }
+    }
+
+    // The cycles of entry `number` and of the one before it.
+    fn look(&mut self, number: u32) -> (u64, u64)
+        ensures same { self.new ≡ self.old }
+        ensures cycle { result.0 ≡ cycle_of self.old number }
+        ensures last { result.1 ≡ cycle_of self.old (number - 1) }
+    {
+        if number != self.number {
+            self.before = if number > 0 && number - 1 == self.number {
+                self.cycle
+            } else {
+                cycle_of(&self.rule, number.saturating_sub(1))
+            };
+            self.cycle = cycle_of(&self.rule, number);
+            self.number = number;
+        }
+        (self.cycle, self.before)
+    }
+
+    // Entry `number`, where it stands.
+    pub(crate) fn head(&mut self, index: usize, number: u32) -> Option<Entry>
+        ensures same { self.new ≡ self.old }
+        ensures head { result ≡ slice_get (entries_of index self.old) number }
+    {
+        let (cycle, _) = self.look(number);
+        series_entry(index, &self.rule, number, cycle)
+    }
+
+    // Whether the first `number` entries are those before an entry, or all where it doesn't stand.
+    pub(crate) fn are_before(&mut self, index: usize, number: u32, next: &Option<Entry>) -> bool
+        ensures same { self.new ≡ self.old }
+        ensures before { result ≡ true → number_before next.now (entries_of index self.old) ≡ number }
+    {
+        let (cycle, before) = self.look(number);
+        let first = series_entry(index, &self.rule, number, cycle);
+        let last = if number == 0 {
+            None
+        } else {
+            series_entry(index, &self.rule, number - 1, before)
+        };
+        is_cut(number as usize, last, first, next)
+    }
+}
+
+// What stands in a place without a source.
+impl Default for Source {
+    fn default() -> Source {
+        Source::new(Series {
+            line: 0,
+            first: 0,
+            num: 0,
+            den: 1,
+            count: 0,
+            input: Input::Request(Request::new(1)),
+        })
+    }
+}
+
+// The cycle of entry `number` of a series.
+fn cycle_of(rule: &Series, number: u32) -> u64
+    requires { IsRule rule.now }
+    ensures { result ≡ cycle_of rule.now number }
+{
+    rule.first + number as u64 * rule.num / rule.den
+}
+
+// Entry `number` of series `index`, where it stands.
+fn series_entry(index: usize, rule: &Series, number: u32, cycle: u64) -> Option<Entry>
+    requires { cycle ≡ cycle_of rule.now number }
+    ensures { result ≡ slice_get (entries_of index rule.now) number }
+{
+    let number = number as u64;
+    if number < rule.count {
+        Some(Entry {
+            cycle,
+            line: rule.line,
+            number,
+            input: rule.input,
+            series: Some(index),
+        })
+    } else {
+        None
+    }
+}
