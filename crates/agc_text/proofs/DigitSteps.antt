@@ -38,3 +38,7 @@ pub fits_more : (value base digit i : ℕ) → value < 10 ^ i → i < 15 → bas
 fits_more value base digit i small few high below =
     let next : value * base + digit < 10 ^ (i + 1) = in_range_more value base digit i small high below in
     omega (arith, next, room (i + 1) (omega arith))
+
+-- a number of few digits is below that of more
+pub below_most : (value i most : ℕ) → value < 10 ^ i → i ≤ most → value < 10 ^ most
+below_most value i most small few = let step : 10 ^ i ≤ 10 ^ most = pow-le-pow_right {n = 10} (omega arith) few in omega (arith, small, step)

@@ -1,3 +1,4 @@
 pub mod DigitSteps
 pub mod LineLaws
 pub mod Runs
+pub mod Splits

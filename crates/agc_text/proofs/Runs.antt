@@ -16,11 +16,11 @@ unfolding runs runs_after
 runs_is text = let e : length text - 0 ≡ length text = omega arith in rw e refl
 
 -- one place at which no run begins
-within_no : (text : List ℕ) (a n m : ℕ) → m ≡ suc n → is_run_start text a ≡ false → runs_within text a m ≡ runs_within text (a + 1) n
+pub within_no : (text : List ℕ) (a n m : ℕ) → m ≡ suc n → is_run_start text a ≡ false → runs_within text a m ≡ runs_within text (a + 1) n
 within_no text a n m e here = rw (e, here) refl
 
 -- one place at which a run begins
-within_yes : (text : List ℕ) (a n m : ℕ) → m ≡ suc n → is_run_start text a ≡ true → runs_within text a m ≡ run_at text a ∷ runs_within text (a + 1) n
+pub within_yes : (text : List ℕ) (a n m : ℕ) → m ≡ suc n → is_run_start text a ≡ true → runs_within text a m ≡ run_at text a ∷ runs_within text (a + 1) n
 within_yes text a n m e here = rw (e, here) refl
 
 -- d places at which no run begins

@@ -8,6 +8,10 @@ pub record Piece : Type 0 where
   pub start : ℕ
   pub text : List ℕ
 
+-- the bytes of some pieces
+abbrev pub texts : List Piece → List (List ℕ)
+texts pieces = map (λ piece. piece.text) pieces
+
 -- a space or a tab
 abbrev pub is_blank : ℕ → Bool
 is_blank byte = byte == space || byte == tab

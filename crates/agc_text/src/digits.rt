@@ -1,6 +1,6 @@
 //! The numbers that digits give.
 
-ghost use Rattle.std.specs.Prelude.{◌≡◌, ◌≤◌, ◌*◌, ◌+◌, ℕ, true, length, SomeIff};
+ghost use Rattle.std.specs.Prelude.{◌≡◌, ◌<◌, ◌≤◌, ◌*◌, ◌+◌, ◌^◌, ℕ, true, length, IfSome, SomeIff};
 ghost use Rattle.std.specs.Option.{option_map};
 ghost use Rattle.agc_text.specs.Digits.{number_of, is_digit, digit_value, digits_value, sized};
 
@@ -45,7 +45,8 @@ pub fn octal(field: &[u8], most: usize) -> Option<u64>
 /// The number that 1 to `most` decimal digits give, where the field is that.
 pub fn decimal(field: &[u8], most: usize) -> Option<u64>
     requires { most ≤ 15 }
-    ensures { result ≡ number_of 10 most field.now }
+    ensures value { result ≡ number_of 10 most field.now }
+    ensures below { IfSome result (λ number. number < 10 ^ most) }
 {
     few_digits_value(field, 10, most)
 }
@@ -68,7 +69,8 @@ fn few_digits_value(field: &[u8], base: u64, most: usize) -> Option<u64>
     requires few { most ≤ 15 }
     requires low { 2 ≤ base }
     requires high { base ≤ 10 }
-    ensures { result ≡ number_of base most field.now }
+    ensures value { result ≡ number_of base most field.now }
+    ensures below { IfSome result (λ number. number < 10 ^ most) }
 {
     if field.is_empty() || field.len() > most {
         return None;

@@ -1,10 +1,10 @@
 //! The fields of a line.
 
-ghost use Rattle.std.specs.Prelude.{◌≡◌, ◌==◌, ◌<◌, ◌≤◌, ◌^◌, nat_le, nat_lt, length, find, slice_get, drop, IfSome};
+ghost use Rattle.std.specs.Prelude.{◌≡◌, ◌==◌, ◌<◌, ◌≤◌, ◌^◌, ◌∷◌, [], not, nat_le, nat_lt, length, find, slice_get, drop, IfSome, MatchOption, slice_index, false};
 ghost use Rattle.std.specs.List.{position_or_len};
 ghost use Rattle.std.specs.Option.{option_map};
 ghost use Rattle.agc_text.specs.Bytes.{comment_sign};
-ghost use Rattle.agc_text.specs.Fields.{is_blank, before_comment, is_run_start, run_at, runs, runs_after, fields, label_of, others_of};
+ghost use Rattle.agc_text.specs.Fields.{is_blank, before_comment, is_run_start, run_at, runs, runs_after, texts, fields, label_of, others_of};
 ghost use Rattle.agc_text.specs.Views.{piece, end_of, runs_from, IsSliceOf, AreSlicesOf};
 
 /// A field of a line: bytes that are no blanks, as many as stand together.
@@ -100,11 +100,46 @@ fn following<'a>(text: &'a [u8], field: Option<Field<'a>>) -> Option<Field<'a>>
     }
 }
 
-// What stands before the first `#`.
-fn before_comment(line: &[u8]) -> &[u8]
+/// What stands before the first `#` of a line.
+pub fn before_comment(line: &[u8]) -> &[u8]
     ensures { result.now ≡ before_comment line.now }
 {
     &line[..comment_start(line)]
+}
+
+/// The first field of a text that has no comment, and what follows it; none where the text has no field.
+pub fn split_field(text: &[u8]) -> Option<(&[u8], &[u8])>
+    ensures { MatchOption result
+        (texts (runs text.now) ≡ [])
+        (λ r. texts (runs text.now) ≡ r.0.now ∷ texts (runs r.1.now)) }
+{
+    let rest = without_blanks(text);
+    if rest.is_empty() {
+        return None;
+    }
+    let end = run_length(rest);
+    Some((&rest[..end], &rest[end..]))
+}
+
+// What follows the blanks at the front.
+fn without_blanks(text: &[u8]) -> &[u8]
+    ensures runs { texts (runs text.now) ≡ texts (runs result.now) }
+    ensures first { 0 < length result.now → is_blank (slice_index result.now 0) ≡ false }
+{
+    &text[blank_length(text)..]
+}
+
+// How many blanks stand before the first other byte.
+fn blank_length(text: &[u8]) -> usize
+    ensures value { result ≡ position_or_len (λ byte. not (is_blank byte)) text.now }
+    ensures within { result ≤ length text.now }
+{
+    for (i, byte) in text.iter().enumerate() {
+        if !is_blank_byte(*byte) {
+            return i;
+        }
+    }
+    text.len()
 }
 
 // How many bytes stand before the first `#`.
@@ -152,7 +187,8 @@ fn run_from(text: &[u8], start: usize) -> Field<'_>
 
 // How many bytes stand before the first blank.
 fn run_length(text: &[u8]) -> usize
-    ensures { result ≡ position_or_len is_blank text.now }
+    ensures value { result ≡ position_or_len is_blank text.now }
+    ensures within { result ≤ length text.now }
 {
     for (i, byte) in text.iter().enumerate() {
         if is_blank_byte(*byte) {

@@ -9,6 +9,6 @@ mod lines;
 mod text;
 
 pub use digits::{Number, decimal, decimal_value, octal, octal_value};
-pub use fields::{Field, Line, next_field};
+pub use fields::{Field, Line, before_comment, next_field, split_field};
 pub use lines::next_line;
 pub use text::{LINE_LENGTH, is_text};

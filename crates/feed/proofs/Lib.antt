@@ -1,4 +1,3 @@
-mod FieldSteps
 mod LineSteps
 mod Whole
 mod Rows

@@ -4,9 +4,10 @@ use Rattle.std.proofs.lemmas.Bool.{lt-ltb, le-ltb}
 use Rattle.std.proofs.lemmas.List.{append-nil, length-append}
 use Rattle.words.specs.Readings.{Takes}
 use Rattle.feed.specs.Feed.{most_bytes, statements, inputs_of, first_fault, unless_fault, inputs_by, inputs}
-use Rattle.feed.specs.Reading.{ReadsWhole, ReadsTooMany, ReadsFeed, Tells}
+use Rattle.feed.specs.Gathering.{Tells}
+use Rattle.feed.specs.Reading.{ReadsWhole, ReadsTooMany, ReadsFeed}
 use Rattle.feed.specs.declared.fault.FeedFault.{FeedFault}
-use Rattle.feed.specs.declared.fault.FeedFault.TheVariants.{NoMemory, ReadFailed, BadLine, OutOfOrder, TooMany, WrongCounter, TooLong}
+use Rattle.feed.specs.declared.fault.FeedFault.TheVariants.{NoMemory, ReadFailed, BadLine, OutOfOrder, TooMany, WrongCounter, TooLong, TooManySeries}
 use Rattle.feed.specs.declared.entry.Entry.{Entry}
 
 -- the inputs of a text that is not too long
@@ -51,3 +52,4 @@ reads_fault old new text (OutOfOrder line) whole end within told = refused old n
 reads_fault old new text TooMany whole end within told = refused old new text TooMany whole end within told
 reads_fault old new text (WrongCounter line) whole end within told = refused old new text (WrongCounter line) whole end within told
 reads_fault old new text TooLong whole end within told = elim told [ ]
+reads_fault old new text (TooManySeries line) whole end within told = refused old new text (TooManySeries line) whole end within told

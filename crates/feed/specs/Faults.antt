@@ -1,7 +1,7 @@
 -- The faults of a feed.
 use Rattle.std.specs.Prelude.{ℕ, Option, None, Some}
 use Rattle.feed.specs.declared.fault.FeedFault.{FeedFault}
-use Rattle.feed.specs.declared.fault.FeedFault.TheVariants.{NoMemory, ReadFailed, BadLine, OutOfOrder, TooMany, WrongCounter, TooLong}
+use Rattle.feed.specs.declared.fault.FeedFault.TheVariants.{NoMemory, ReadFailed, BadLine, OutOfOrder, TooMany, WrongCounter, TooLong, TooManySeries}
 
 -- the number that a fault is told by
 abbrev pub number_of : FeedFault → ℕ
@@ -12,6 +12,7 @@ number_of (OutOfOrder line) = 31
 number_of TooMany = 32
 number_of (WrongCounter line) = 33
 number_of TooLong = 34
+number_of (TooManySeries line) = 35
 
 -- the line that it is told with
 abbrev pub line_of : FeedFault → Option ℕ
@@ -22,3 +23,4 @@ line_of (OutOfOrder line) = Some line
 line_of TooMany = None
 line_of (WrongCounter line) = Some line
 line_of TooLong = None
+line_of (TooManySeries line) = Some line

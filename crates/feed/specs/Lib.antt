@@ -2,7 +2,6 @@ pub mod Inputs
 pub mod Faults
 pub mod Names
 pub mod Statements
-pub mod Views
 pub mod Merged
 pub mod Order
 pub mod Fits
@@ -11,3 +10,4 @@ pub mod Feed
 pub mod Reading
 pub mod Heads
 pub mod Kept
+pub mod Gathering

@@ -4,11 +4,16 @@ use Rattle.std.specs.List.{range_with_len}
 use Rattle.feed.specs.declared.input.Input.{Input}
 use Rattle.feed.specs.declared.entry.Entry.{Entry}
 use Rattle.feed.specs.declared.entry.Plain.{Plain}
+use Rattle.feed.specs.declared.entry.Rule.{Rule}
 use Rattle.feed.specs.declared.entry.Series.{Series}
 
 -- a plain input as an entry
 abbrev pub plain_entry : Plain → Entry
 plain_entry p = record { cycle = p.cycle; line = p.line; number = 0; input = p.input; series = None }
+
+-- a series by a rule, on a line
+abbrev pub series_on : ℕ → Rule → Series
+series_on line rule = record { line = line; first = rule.first; num = rule.num; den = rule.den; count = rule.count; input = rule.input }
 
 -- the cycle of entry i of a series
 abbrev pub cycle_of : Series → ℕ → ℕ

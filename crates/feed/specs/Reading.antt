@@ -1,12 +1,10 @@
 -- What reading a feed takes from a reader, and what it answers.
-use Rattle.std.specs.Prelude.{◌≡◌, ℕ, ◌+◌, Bool, true, false, List, [], ◌++◌, Option, None, Some, Result, Ok, Err, ⊤}
+use Rattle.std.specs.Prelude.{◌≡◌, ℕ, ◌+◌, Bool, true, false, List, [], Result, Ok, Err}
 use Rattle.words.specs.Readings.{TakesAtMost, Takes}
-use Rattle.feed.specs.Feed.{inputs, plain_in, fault_after, most_bytes}
+use Rattle.feed.specs.Feed.{inputs, most_bytes}
 use Rattle.feed.specs.declared.entry.Entry.{Entry}
-use Rattle.feed.specs.declared.entry.Plain.{Plain}
 use Rattle.feed.specs.declared.fault.FeedFault.{FeedFault}
-use Rattle.feed.specs.declared.fault.FeedFault.TheVariants.{NoMemory, ReadFailed, BadLine, OutOfOrder, TooMany, WrongCounter, TooLong}
-use Rattle.feed.specs.declared.statement.Statement.{Statement}
+use Rattle.feed.specs.declared.fault.FeedFault.TheVariants.{NoMemory, ReadFailed, BadLine, OutOfOrder, TooMany, WrongCounter, TooLong, TooManySeries}
 
 -- the bytes that were left give the answer, and all were read
 pub record ReadsWhole (old new : List ℕ) (told : Result (List Entry) FeedFault) : Type 0 where
@@ -28,6 +26,7 @@ ReadsFeed old new (Err (OutOfOrder line)) = ReadsWhole old new (Err (OutOfOrder 
 ReadsFeed old new (Err TooMany) = ReadsWhole old new (Err TooMany)
 ReadsFeed old new (Err (WrongCounter line)) = ReadsWhole old new (Err (WrongCounter line))
 ReadsFeed old new (Err TooLong) = ReadsTooMany old new
+ReadsFeed old new (Err (TooManySeries line)) = ReadsWhole old new (Err (TooManySeries line))
 
 -- whether a read failed
 abbrev pub has_read_failed : {T : Type 0} → Result T FeedFault → Bool
@@ -39,18 +38,4 @@ has_read_failed (Err (OutOfOrder line)) = false
 has_read_failed (Err TooMany) = false
 has_read_failed (Err (WrongCounter line)) = false
 has_read_failed (Err TooLong) = false
-
--- what is told of lines with this first fault: it, or that memory ran out
-abbrev pub Tells : Option FeedFault → FeedFault → Type 0
-Tells found NoMemory = ⊤
-Tells found ReadFailed = ⊥
-Tells found (BadLine line) = found ≡ Some (BadLine line)
-Tells found (OutOfOrder line) = found ≡ Some (OutOfOrder line)
-Tells found TooMany = found ≡ Some TooMany
-Tells found (WrongCounter line) = found ≡ Some (WrongCounter line)
-Tells found TooLong = ⊥
-
--- a line was taken: its input stands after those of the lines before it, or its fault is told
-abbrev pub TakesLine : List Plain → ℕ → Statement → List Plain → Result (Unit {0}) FeedFault → Type 0
-TakesLine before line said after (Ok x) = (fault_after before line said ≡ None) × (after ≡ before ++ plain_in line said)
-TakesLine before line said after (Err fault) = Tells (fault_after before line said) fault
+has_read_failed (Err (TooManySeries line)) = false

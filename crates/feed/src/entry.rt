@@ -1,5 +1,8 @@
 //! The inputs of a run, and what they are from.
 
+ghost use Rattle.std.specs.Prelude.{◌≡◌};
+ghost use Rattle.feed.specs.Merged.{series_on};
+
 use crate::input::Input;
 
 /// An input, where it stands and what it is from.
@@ -25,7 +28,33 @@ pub struct Plain {
     pub input: Input,
 }
 
-/// A series: entry i, from 0 to `count` - 1, stands at `first + (i * num) / den`.
+/// A rule of a series: entry i, from 0 to `count` - 1, stands at `first + (i * num) / den`.
+#[derive(Clone, Copy, PartialEq, Eq, Debug)]
+pub struct Rule {
+    pub first: u64,
+    pub num: u64,
+    pub den: u64,
+    pub count: u64,
+    pub input: Input,
+}
+
+impl Rule {
+    // The series on a line.
+    pub(crate) fn on_line(self, line: u64) -> Series
+        ensures { result ≡ series_on line self }
+    {
+        Series {
+            line,
+            first: self.first,
+            num: self.num,
+            den: self.den,
+            count: self.count,
+            input: self.input,
+        }
+    }
+}
+
+/// A series: its rule, and the line on which that stands.
 #[derive(Clone, Copy, PartialEq, Eq, Debug)]
 pub struct Series {
     pub line: u64,

@@ -29,6 +29,20 @@ pub enum FeedFault {
     /// More than 8,388,608 bytes.
     #[error("E34")]
     TooLong,
+    /// More series than a feed may have.
+    #[error("E35 LINE {0}")]
+    TooManySeries(u32),
+}
+
+/// What is wrong with a line, whatever stands before it.
+#[derive(Clone, Copy, PartialEq, Eq, Debug, Drop, Error)]
+pub enum LineFault {
+    /// The line has no form of a line, is too long, or holds a byte that no line may hold.
+    #[error("E30")]
+    BadLine,
+    /// A counter does not take its sequence.
+    #[error("E33")]
+    WrongCounter,
 }
 
 impl FeedFault {
@@ -44,6 +58,7 @@ impl FeedFault {
             FeedFault::TooMany => 32,
             FeedFault::WrongCounter(_) => 33,
             FeedFault::TooLong => 34,
+            FeedFault::TooManySeries(_) => 35,
         }
     }
 
@@ -55,6 +70,7 @@ impl FeedFault {
             FeedFault::BadLine(line) => Some(line),
             FeedFault::OutOfOrder(line) => Some(line),
             FeedFault::WrongCounter(line) => Some(line),
+            FeedFault::TooManySeries(line) => Some(line),
             FeedFault::NoMemory | FeedFault::ReadFailed => None,
             FeedFault::TooMany | FeedFault::TooLong => None,
         }

@@ -96,12 +96,3 @@ pub enum Input {
     /// An interrupt that is asked for.
     Request(Request),
 }
-
-/// An input, and the cycle from which on it is due.
-#[derive(Clone, Copy, PartialEq, Eq, Debug)]
-pub struct TimedInput {
-    /// The cycle, counted from the start.
-    pub cycle: u64,
-    /// The input.
-    pub input: Input,
-}

@@ -10,10 +10,13 @@ mod merge;
 mod names;
 mod reading;
 pub mod request;
+#[cfg(test)]
+mod series_tests;
 mod source;
 mod statement;
 
-pub use fault::FeedFault;
+pub use fault::{FeedFault, LineFault};
 pub use list::{AddFault, Feed};
 pub use merge::MOST_SERIES;
 pub use reading::{MOST_BYTES, read};
+pub use statement::parse_line;

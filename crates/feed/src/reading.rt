@@ -1,18 +1,17 @@
 //! Feeds from their bytes.
 
-ghost use Rattle.std.specs.Prelude.{◌≡◌, ◌≤◌, ◌<◌, ◌+◌, [], None, true, if◌then◌else◌, IfOk, IfErr, OnOk, length};
+ghost use Rattle.std.specs.Prelude.{◌≡◌, ◌≤◌, ◌<◌, ◌+◌, ℕ, [], None, true, if◌then◌else◌, IfOk, IfErr, OnOk, length};
 ghost use Rattle.words.specs.Devices.{one_more};
-ghost use Rattle.feed.specs.Feed.{most_bytes, most_inputs, plain_from, statements, is_late, first_fault};
-ghost use Rattle.feed.specs.Fits.{number_from};
+ghost use Rattle.feed.specs.Feed.{most_bytes, plain_from, series_from, statements, is_late, first_fault};
+ghost use Rattle.feed.specs.Gathering.{IsRuled, Tells, TakesLine};
 ghost use Rattle.feed.specs.Kept.{AreGathered};
-ghost use Rattle.feed.specs.Order.{IsInOrder};
+ghost use Rattle.feed.specs.Reading.{ReadsFeed, has_read_failed};
 ghost use Rattle.feed.specs.Statements.{statement_of};
-ghost use Rattle.feed.specs.Reading.{ReadsFeed, has_read_failed, Tells, TakesLine};
-ghost use Rattle.feed.specs.declared.statement.Statement.TheVariants.{Gives};
+ghost use Rattle.feed.specs.declared.statement.Statement.TheVariants.{Gives, Repeats};
 
-use crate::entry::Plain;
-use crate::fault::FeedFault;
-use crate::input::TimedInput;
+use crate::entry::{Plain, Rule};
+use crate::fault::{FeedFault, LineFault};
+use crate::input::Input;
 use crate::list::{Feed, MOST_INPUTS};
 use crate::merge::MOST_SERIES;
 use crate::source::Source;
@@ -27,10 +26,15 @@ pub const MOST_BYTES: usize = 8_388_608;
 
 /// Reads a feed to its end, and answers its inputs.
 ///
-/// A line has one of the forms `cycle CHAN channel word`, `cycle RUPT k` and `cycle counter sequence`, or no field at
-/// all. The bytes are read to the end first: `ReadFailed` where a read failed, `TooLong` once one byte more was read
-/// than a feed may have. Then the first line with a fault is told, by the first of `BadLine`, `WrongCounter`,
-/// `OutOfOrder` and `TooMany`. `NoMemory` where a growth was refused.
+/// A line has one of the forms `cycle CHAN channel word`, `cycle RUPT k` and `cycle counter sequence`; or `EVERY first
+/// num den count` and then such a line without its cycle, which stands for `count` inputs, number i of them, counted
+/// from 0, at cycle `first + (i * num) / den`; or it has no field at all. The inputs are in order by their cycles, then
+/// by their lines.
+///
+/// The bytes are read to the end first: `ReadFailed` where a read failed, `TooLong` once one byte more was read than a
+/// feed may have. Then the first line with a fault is told, by the first of `BadLine`, `WrongCounter`, `OutOfOrder`,
+/// `TooManySeries` and `TooMany`: EVERY lines may stand anywhere, and `OutOfOrder` and `TooMany` are told of the others
+/// alone. `NoMemory` where a growth was refused.
 pub fn read<R: Read>(alloc: Global, reader: &mut R) -> Result<Feed, FeedFault>
     ensures bytes { R.told ≡ true → ReadsFeed (R.left reader.old) (R.left reader.new) result }
     ensures failures { R.failures reader.new ≡ (if has_read_failed result then one_more (R.failures reader.old) else R.failures reader.old) }
@@ -52,7 +56,7 @@ fn inputs_in(alloc: Global, text: &[u8]) -> Result<Gathered, FeedFault>
     requires { length text.now ≤ most_bytes }
     ensures faultless { IfOk result (λ _. first_fault [] (statements text.now) ≡ None) }
     ensures plain { IfOk result (λ g. g.plain.items ≡ plain_from 1 (statements text.now)) }
-    ensures sources { IfOk result (λ g. g.sources.items ≡ []) }
+    ensures series { IfOk result (λ g. g.sources.items ≡ series_from 1 (statements text.now)) }
     ensures gathered { IfOk result (λ g. AreGathered g.plain.items g.sources.items g.line) }
     ensures fault { IfErr result (Tells (first_fault [] (statements text.now))) }
 {
@@ -63,6 +67,7 @@ fn inputs_in(alloc: Global, text: &[u8]) -> Result<Gathered, FeedFault>
             Ok(()) => rest = following,
             Err(fault) => return Err(fault),
         }
+        gathered.line += 1;
     }
     Ok(gathered)
 }
@@ -79,7 +84,7 @@ impl Gathered {
     // What no lines give.
     fn new(alloc: Global) -> Gathered
         ensures plain { result.plain.items ≡ [] }
-        ensures sources { result.sources.items ≡ [] }
+        ensures series { result.sources.items ≡ [] }
         ensures line { result.line ≡ 1 }
     {
         Gathered {
@@ -89,51 +94,56 @@ impl Gathered {
         }
     }
 
-    // Adds what the next line gives.
+    // Adds what the next line gives, and leaves the number of the line.
     fn take_line(&mut self, text: &[u8]) -> Result<(), FeedFault>
-        requires gathered { AreGathered self.old.plain.items self.old.sources.items self.old.line }
-        requires room { self.old.line ≤ most_bytes }
-        ensures line { TakesLine self.old.plain.items self.old.line (statement_of text.now) self.new.plain.items result }
-        ensures sources { OnOk result (self.new.sources.items ≡ self.old.sources.items) }
-        ensures gathered { OnOk result (AreGathered self.new.plain.items self.new.sources.items self.new.line) }
-        ensures next { OnOk result (self.new.line ≡ self.old.line + 1) }
-    {
-        match statement_of(text) {
-            Statement::Nothing => {}
-            Statement::Malformed => return Err(FeedFault::BadLine(self.line)),
-            Statement::WrongCounter => return Err(FeedFault::WrongCounter(self.line)),
-            Statement::Gives(timed) => match self.take_input(timed) {
-                Ok(()) => {}
-                Err(fault) => return Err(fault),
-            },
-        }
-        self.line += 1;
-        Ok(())
-    }
-
-    // Adds the input of the next line.
-    fn take_input(&mut self, timed: TimedInput) -> Result<(), FeedFault>
         requires { AreGathered self.old.plain.items self.old.sources.items self.old.line }
-        ensures line { TakesLine self.old.plain.items self.old.line (Gives timed) self.new.plain.items result }
-        ensures sources { self.new.sources.items ≡ self.old.sources.items }
+        ensures line { TakesLine self.old (statement_of text.now) self.new result }
         ensures gathered { OnOk result (AreGathered self.new.plain.items self.new.sources.items (self.old.line + 1)) }
         ensures same_line { self.new.line ≡ self.old.line }
     {
-        if is_late(&self.plain, timed.cycle) {
+        match statement_of(text) {
+            Statement::Nothing => Ok(()),
+            Statement::Faulty(LineFault::BadLine) => Err(FeedFault::BadLine(self.line)),
+            Statement::Faulty(LineFault::WrongCounter) => Err(FeedFault::WrongCounter(self.line)),
+            Statement::Gives(cycle, input) => self.take_input(cycle, input),
+            Statement::Repeats(rule) => self.take_rule(rule),
+        }
+    }
+
+    // Adds the plain input of the next line.
+    fn take_input(&mut self, cycle: u64, input: Input) -> Result<(), FeedFault>
+        requires { AreGathered self.old.plain.items self.old.sources.items self.old.line }
+        ensures line { TakesLine self.old (Gives cycle input) self.new result }
+        ensures gathered { OnOk result (AreGathered self.new.plain.items self.new.sources.items (self.old.line + 1)) }
+        ensures same_line { self.new.line ≡ self.old.line }
+    {
+        if is_late(&self.plain, cycle) {
             return Err(FeedFault::OutOfOrder(self.line));
         }
         if self.plain.as_slice().len() >= MOST_INPUTS {
             return Err(FeedFault::TooMany);
         }
-        let input = Plain {
-            cycle: timed.cycle,
-            line: u64::from(self.line),
-            input: timed.input,
-        };
-        match self.plain.push(input) {
+        let line = u64::from(self.line);
+        match self.plain.push(Plain { cycle, line, input }) {
             Ok(()) => Ok(()),
             Err(_) => Err(FeedFault::NoMemory),
         }
+    }
+
+    // Adds the series of the next line.
+    fn take_rule(&mut self, rule: Rule) -> Result<(), FeedFault>
+        requires gathered { AreGathered self.old.plain.items self.old.sources.items self.old.line }
+        requires rule { IsRuled rule }
+        ensures line { TakesLine self.old (Repeats rule) self.new result }
+        ensures gathered { OnOk result (AreGathered self.new.plain.items self.new.sources.items (self.old.line + 1)) }
+        ensures same_line { self.new.line ≡ self.old.line }
+    {
+        if self.sources.is_full() {
+            return Err(FeedFault::TooManySeries(self.line));
+        }
+        let line = u64::from(self.line);
+        self.sources.push(Source::new(rule.on_line(line)));
+        Ok(())
     }
 }
 

@@ -1,22 +1,25 @@
 //! What a line of a feed says, whatever stands before it.
 
-ghost use Rattle.std.specs.Prelude.{◌≡◌, ◌<◌, nat_lt, length, drop, slice_get, IfSome, SomeIff, true};
+ghost use Rattle.std.specs.Prelude.{◌≡◌, ◌∷◌, ◌<◌, ◌^◌, ℕ, IfOk, IfSome};
 ghost use Rattle.std.specs.List.{list_all};
-ghost use Rattle.std.specs.Option.{option_map};
-ghost use Rattle.agc_text.specs.Fields.{before_comment, fields, runs_after};
-ghost use Rattle.agc_text.specs.Views.{piece, runs_from, end_of, IsSliceOf};
-ghost use Rattle.feed.specs.Statements.{is_allowed, is_input_channel, channel_in, word_in, request_in, pulse_at, timed_at, short_statement, long_statement, statement_of};
-ghost use Rattle.feed.specs.Views.{statement_by};
+ghost use Rattle.agc_text.specs.Fields.{runs, texts};
+ghost use Rattle.feed.specs.Gathering.{IsRuled, HasRule};
+ghost use Rattle.feed.specs.Statements.{is_allowed, is_input_channel, channel_in, word_in, request_in, factor_in, formed, pulse_of, short_input, long_input, input_in, at_cycle, timed_in, rule_in, statement_in, gives, repeats, statement_of, parsed};
 
-use crate::input::{Counter, Input, Sequence, TimedInput};
+use crate::entry::Rule;
+use crate::fault::LineFault;
+use crate::input::{Counter, Input, Sequence};
 use crate::names::{counter_of, sequence_of, takes};
 use crate::request::{REQUESTS, Request};
-use agc_text::{Field, LINE_LENGTH, decimal, is_text, next_field, octal};
+use agc_text::{LINE_LENGTH, before_comment, decimal, is_text, octal, split_field};
 use space::numbers::Chan;
 use words::Word;
 
 /// The most digits of a cycle.
 const CYCLE_DIGITS: usize = 15;
+
+/// The most digits of the other numbers of a rule.
+const FACTOR_DIGITS: usize = 9;
 
 /// The most digits of a channel and of a word.
 const OCTAL_DIGITS: usize = 5;
@@ -29,22 +32,53 @@ const REQUEST_DIGITS: usize = 2;
 pub enum Statement {
     /// No field stands.
     Nothing,
-    /// The line has no form of a line, is too long, or holds a byte that no line may hold.
-    Malformed,
-    /// A counter, and a sequence that it does not take.
-    WrongCounter,
+    /// The line has a fault.
+    Faulty(LineFault),
     /// An input at its cycle.
-    Gives(TimedInput),
+    Gives(u64, Input),
+    /// A series of inputs.
+    Repeats(Rule),
+}
+
+/// The cycle and the input that a line tells: `cycle CHAN channel word`, `cycle RUPT k` or `cycle counter sequence`.
+///
+/// `BadLine` for any other line, one without a field included; `WrongCounter` where the counter does not take the
+/// sequence. Nothing here takes memory.
+pub fn parse_line(line: &[u8]) -> Result<(u64, Input), LineFault>
+    ensures { result ≡ parsed line.now }
+{
+    if !is_allowed(line) {
+        return Err(LineFault::BadLine);
+    }
+    match split_field(before_comment(line)) {
+        Some((cycle, input)) => timed_in(cycle, input),
+        None => Err(LineFault::BadLine),
+    }
 }
 
 /// What a line says.
 pub(crate) fn statement_of(line: &[u8]) -> Statement
-    ensures { result ≡ statement_of line.now }
+    ensures value { result ≡ statement_of line.now }
+    ensures rule { HasRule result }
 {
-    if is_allowed(line) {
-        statement_by(&LineFields::of(line))
+    if !is_allowed(line) {
+        return Statement::Faulty(LineFault::BadLine);
+    }
+    match split_field(before_comment(line)) {
+        Some((first, rest)) => statement_in(first, rest),
+        None => Statement::Nothing,
+    }
+}
+
+// What a first field and the fields after it say.
+fn statement_in(first: &[u8], rest: &[u8]) -> Statement
+    ensures value { result ≡ statement_in (first.now ∷ texts (runs rest.now)) }
+    ensures rule { HasRule result }
+{
+    if first == "EVERY".as_bytes() {
+        repeats(rule_in(rest))
     } else {
-        Statement::Malformed
+        gives(timed_in(first, rest))
     }
 }
 
@@ -55,140 +89,157 @@ fn is_allowed(line: &[u8]) -> bool
     line.len() <= LINE_LENGTH && is_text(line)
 }
 
-/// The first fields of a line.
-#[derive(Clone, Copy, Drop)]
-struct LineFields<'a> {
-    cycle: Option<Field<'a>>,
-    name: Option<Field<'a>>,
-    first: Option<Field<'a>>,
-    second: Option<Field<'a>>,
-    // Whether a fifth stands.
-    more: bool,
-}
-
-impl<'a> LineFields<'a> {
-    fn of(line: &'a [u8]) -> LineFields<'a>
-        ensures cycle { option_map piece result.cycle ≡ slice_get (fields line.now) 0 }
-        ensures name { option_map piece result.name ≡ slice_get (fields line.now) 1 }
-        ensures first { option_map piece result.first ≡ slice_get (fields line.now) 2 }
-        ensures second { option_map piece result.second ≡ slice_get (fields line.now) 3 }
-        ensures more { result.more ≡ nat_lt 4 (length (fields line.now)) }
-    {
-        let cycle = first_field(line);
-        let name = following(line, cycle);
-        let first = following(line, name);
-        let second = following(line, first);
-        let more = following(line, second).is_some();
-        LineFields {
-            cycle,
-            name,
-            first,
-            second,
-            more,
-        }
+fn gives(timed: Result<(u64, Input), LineFault>) -> Statement
+    ensures value { result ≡ gives timed }
+    ensures rule { HasRule result }
+{
+    match timed {
+        Ok((cycle, input)) => Statement::Gives(cycle, input),
+        Err(fault) => Statement::Faulty(fault),
     }
 }
 
-// The first field of a line.
-fn first_field(line: &[u8]) -> Option<Field<'_>>
-    ensures first { runs_from (before_comment line.now) result ≡ fields line.now }
-    ensures slice { IfSome result (IsSliceOf line.now) }
+fn repeats(rule: Result<Rule, LineFault>) -> Statement
+    ensures value { result ≡ repeats rule }
+    ensures rule { IfOk rule IsRuled → HasRule result }
 {
-    field_from(line, 0)
+    match rule {
+        Ok(rule) => Statement::Repeats(rule),
+        Err(fault) => Statement::Faulty(fault),
+    }
 }
 
-// The field after a field.
-fn following<'a>(line: &'a [u8], field: Option<Field<'a>>) -> Option<Field<'a>>
-    requires { IfSome field (IsSliceOf line.now) }
-    ensures next { runs_from (before_comment line.now) result ≡ drop 1 (runs_from (before_comment line.now) field.entry) }
-    ensures slice { IfSome result (IsSliceOf line.now) }
+// The rule that stands after EVERY.
+fn rule_in(text: &[u8]) -> Result<Rule, LineFault>
+    ensures value { result ≡ rule_in (texts (runs text.now)) }
+    ensures small { IfOk result IsRuled }
 {
-    match field {
-        Some(field) => field_from(line, field.start + field.text.len()),
+    let Some((first, rest)) = split_field(text) else {
+        return Err(LineFault::BadLine);
+    };
+    let Some((num, rest)) = split_field(rest) else {
+        return Err(LineFault::BadLine);
+    };
+    let Some((den, rest)) = split_field(rest) else {
+        return Err(LineFault::BadLine);
+    };
+    let Some((count, input)) = split_field(rest) else {
+        return Err(LineFault::BadLine);
+    };
+    let Some(first) = decimal(first, CYCLE_DIGITS) else {
+        return Err(LineFault::BadLine);
+    };
+    let (Some(num), Some(den), Some(count)) = (factor_in(num), factor_in(den), factor_in(count))
+    else {
+        return Err(LineFault::BadLine);
+    };
+    match input_in(input) {
+        Ok(input) => Ok(Rule {
+            first,
+            num,
+            den,
+            count,
+            input,
+        }),
+        Err(fault) => Err(fault),
+    }
+}
+
+// A number that makes the cycles of a series.
+fn factor_in(field: &[u8]) -> Option<u64>
+    ensures value { result ≡ factor_in field.now }
+    ensures below { IfSome result (λ n. n < 10 ^ 9) }
+    ensures some { IfSome result (λ n. 0 < n) }
+{
+    match decimal(field, FACTOR_DIGITS) {
+        Some(number) if number >= 1 => Some(number),
+        Some(_) => None,
         None => None,
     }
 }
 
-// The first field that begins at byte `from` or later.
-fn field_from(line: &[u8], from: usize) -> Option<Field<'_>>
-    ensures first { runs_from (before_comment line.now) result ≡ runs_after (before_comment line.now) from }
-    ensures slice { IfSome result (IsSliceOf line.now) }
+// The input that stands after a cycle, and that.
+fn timed_in(cycle: &[u8], input: &[u8]) -> Result<(u64, Input), LineFault>
+    ensures { result ≡ timed_in (cycle.now ∷ texts (runs input.now)) }
 {
-    next_field(line, from)
+    at_cycle(decimal(cycle, CYCLE_DIGITS), input_in(input))
 }
 
-// What the fields of a line say.
-fn statement_by(fields: &LineFields<'_>) -> Statement
-    ensures { result ≡ statement_by fields.now }
+fn at_cycle(cycle: Option<u64>, input: Result<Input, LineFault>) -> Result<(u64, Input), LineFault>
+    ensures { result ≡ at_cycle cycle input }
 {
-    let Some(cycle) = fields.cycle else {
-        return Statement::Nothing;
+    match (cycle, input) {
+        (Some(cycle), Ok(input)) => Ok((cycle, input)),
+        (Some(_), Err(fault)) => Err(fault),
+        (None, _) => Err(LineFault::BadLine),
+    }
+}
+
+// The input that the fields of a text tell.
+fn input_in(text: &[u8]) -> Result<Input, LineFault>
+    ensures { result ≡ input_in (texts (runs text.now)) }
+{
+    let Some((name, rest)) = split_field(text) else {
+        return Err(LineFault::BadLine);
     };
-    let Some(name) = fields.name else {
-        return Statement::Malformed;
+    let Some((first, rest)) = split_field(rest) else {
+        return Err(LineFault::BadLine);
     };
-    let Some(first) = fields.first else {
-        return Statement::Malformed;
+    let Some((second, rest)) = split_field(rest) else {
+        return short_input(name, first);
     };
-    match fields.second {
-        None => short_statement(cycle.text, name.text, first.text),
-        Some(second) if !fields.more => {
-            long_statement(cycle.text, name.text, first.text, second.text)
-        }
-        Some(_) => Statement::Malformed,
+    match split_field(rest) {
+        Some(_) => Err(LineFault::BadLine),
+        None => long_input(name, first, second),
     }
 }
 
 // An interrupt that is asked for, or a pulse of a counter.
-fn short_statement(cycle: &[u8], name: &[u8], argument: &[u8]) -> Statement
-    ensures { result ≡ short_statement cycle.now name.now argument.now }
+fn short_input(name: &[u8], argument: &[u8]) -> Result<Input, LineFault>
+    ensures { result ≡ short_input name.now argument.now }
 {
-    let cycle = decimal(cycle, CYCLE_DIGITS);
     if name == "RUPT".as_bytes() {
-        timed_at(cycle, request_in(argument))
+        formed(request_in(argument))
     } else {
-        pulse_at(cycle, counter_of(name), sequence_of(argument))
+        pulse_of(counter_of(name), sequence_of(argument))
     }
 }
 
 // A word on a channel.
-fn long_statement(cycle: &[u8], name: &[u8], channel: &[u8], word: &[u8]) -> Statement
-    ensures { result ≡ long_statement cycle.now name.now channel.now word.now }
+fn long_input(name: &[u8], channel: &[u8], word: &[u8]) -> Result<Input, LineFault>
+    ensures { result ≡ long_input name.now channel.now word.now }
 {
     if name != "CHAN".as_bytes() {
-        return Statement::Malformed;
+        return Err(LineFault::BadLine);
     }
-    let cycle = decimal(cycle, CYCLE_DIGITS);
     match (channel_in(channel), word_in(word)) {
-        (Some(channel), Some(word)) => timed_at(cycle, Some(Input::Word(channel, word))),
-        (Some(_), None) => Statement::Malformed,
-        (None, _) => Statement::Malformed,
+        (Some(channel), Some(word)) => Ok(Input::Word(channel, word)),
+        (Some(_), None) => Err(LineFault::BadLine),
+        (None, _) => Err(LineFault::BadLine),
     }
 }
 
-// An input at a cycle, where both have their form.
-fn timed_at(cycle: Option<u64>, input: Option<Input>) -> Statement
-    ensures { result ≡ timed_at cycle input }
+// An input, where it has its form.
+fn formed(input: Option<Input>) -> Result<Input, LineFault>
+    ensures { result ≡ formed input }
 {
-    match (cycle, input) {
-        (Some(cycle), Some(input)) => Statement::Gives(TimedInput { cycle, input }),
-        (Some(_), None) => Statement::Malformed,
-        (None, _) => Statement::Malformed,
+    match input {
+        Some(input) => Ok(input),
+        None => Err(LineFault::BadLine),
     }
 }
 
-// A pulse of a counter at a cycle, where each has its form and the counter takes the sequence.
-fn pulse_at(cycle: Option<u64>, counter: Option<Counter>, sequence: Option<Sequence>) -> Statement
-    ensures { result ≡ pulse_at cycle counter sequence }
+// A pulse of a counter, where both have their names and the counter takes the sequence.
+fn pulse_of(counter: Option<Counter>, sequence: Option<Sequence>) -> Result<Input, LineFault>
+    ensures { result ≡ pulse_of counter sequence }
 {
     match (counter, sequence) {
         (Some(counter), Some(sequence)) if takes(counter, sequence) => {
-            timed_at(cycle, Some(Input::Count(counter, sequence)))
+            Ok(Input::Count(counter, sequence))
         }
-        (Some(_), Some(_)) if cycle.is_some() => Statement::WrongCounter,
-        (Some(_), Some(_)) => Statement::Malformed,
-        (Some(_), None) => Statement::Malformed,
-        (None, _) => Statement::Malformed,
+        (Some(_), Some(_)) => Err(LineFault::WrongCounter),
+        (Some(_), None) => Err(LineFault::BadLine),
+        (None, _) => Err(LineFault::BadLine),
     }
 }
 

@@ -1,7 +1,7 @@
 use Rattle.std.proofs.Common.{◌<◌, ◌+◌, ◌*◌, ◌^◌, arith, refl}
 use Rattle.std.proofs.lemmas.List.Folds.{list_all_more}
 use Rattle.agc_text.specs.Digits.{is_digit}
-use Rattle.agc_text.proofs.DigitSteps.{in_range_more, fits_more, value_more, digit_below}
+use Rattle.agc_text.proofs.DigitSteps.{in_range_more, fits_more, value_more, digit_below, below_most}
 use Rattle.agc_text.proofs.digits.few_digits_value.Goals as goal
 
 below : (c : goal.In_ok-digit) → c.in_ok-digit.digit < c.args.base
@@ -22,3 +22,6 @@ loop-byte-preserved c = record {
   all_digits = rw (list_all_more (is_digit c.args.base) c.args.field.now c.loop-byte.byte-index 0 (omega arith), c.loop-byte.invariant.all_digits, c.in_ok-digit.ensures.0) refl;
   value = rw c.in_ok-digit.ensures.1 (value_more c.args.base c.args.field.now c.loop-byte.byte-index c.loop-byte.value (omega arith) c.loop-byte.invariant.value);
 }
+
+pub returns-clause-below : goal.returns-clause-below
+returns-clause-below c = below_most c.loop-byte.value c.loop-byte.byte-index c.args.most c.loop-byte.invariant.in_range (omega arith)

@@ -1,34 +1,31 @@
-use Rattle.std.proofs.Common.{refl, sym, ◌∙◌, ap, arith, map}
+use Rattle.std.proofs.Common.{ap, arith, map}
 use Rattle.feed.specs.Feed.{statements}
 use Rattle.feed.specs.Statements.{statement_of}
-use Rattle.feed.proofs.LineSteps.{first_fault-whole, none_gathered, passed_over, given_after, given-all}
+use Rattle.feed.proofs.LineSteps.{left-all, left-next, left-none, none_gathered}
 use Rattle.feed.proofs.reading.inputs_in.Goals as goal
 
 pub loop-first-init : goal.loop-first-init
 loop-first-init c =
-    rw (c.new-gathered.ensures.plain, c.new-gathered.ensures.sources, c.new-gathered.ensures.line)
-    (record {
-      same_fault = first_fault-whole (statements c.args.text.now);
-      same_plain = refl;
-      no_series = refl;
-      gathered = none_gathered 1;
-      lines = omega (arith, c.requires);
-    })
+    rw (c.new-gathered.ensures.plain, c.new-gathered.ensures.series, c.new-gathered.ensures.line)
+    (record { left = left-all (statements c.args.text.now); gathered = none_gathered 1; lines = omega (arith, c.requires) })
 
 pub loop-first-preserved : goal.loop-first-preserved
 loop-first-preserved c =
-    let i = c.loop-first.invariant in
-    let given = c.loop-first.gathered in
-    let split = ap (map statement_of) c.in-Some.ensures.lines in
-    let next = c.in-Ok.ensures.next in
+    let old = c.loop-first.gathered in
+    let good = c.in-Ok.ensures.line in
+    let same = c.in-Ok.ensures.same_line in
     record {
-      same_fault = rw next (passed_over _ given.plain.items _ given.line _ _ _ i.same_fault split c.in-Ok.ensures.line.0 c.in-Ok.ensures.line.1);
-      same_plain = rw next (given_after _ given.plain.items _ given.line _ _ _ i.same_plain split c.in-Ok.ensures.line.1);
-      no_series = c.in-Ok.ensures.sources ∙ i.no_series;
-      gathered = c.in-Ok.ensures.gathered;
-      lines = omega (arith, i.lines, next, c.in-Some.ensures.shorter);
+      left = left-next _ old.plain.items _ old.sources.items _ old.line _ _ _ _ c.loop-first.invariant.left (ap (map statement_of) c.in-Some.ensures.lines) good.faultless good.plain good.series (omega (arith, same));
+      gathered = rw same c.in-Ok.ensures.gathered;
+      lines = let l = c.loop-first.invariant.lines in omega (arith, l, same, c.in-Some.ensures.shorter);
     }
 
 pub returns-clause-plain : goal.returns-clause-plain
 returns-clause-plain c =
-    sym (c.loop-first.invariant.same_plain ∙ given-all c.loop-first.gathered.plain.items c.loop-first.gathered.line _ (ap (map statement_of) c.in_default.ensures.lines))
+    let given = c.loop-first.gathered in
+    (left-none _ given.plain.items given.sources.items given.line _ c.loop-first.invariant.left (ap (map statement_of) c.in_default.ensures.lines)).1
+
+pub returns-clause-series : goal.returns-clause-series
+returns-clause-series c =
+    let given = c.loop-first.gathered in
+    (left-none _ given.plain.items given.sources.items given.line _ c.loop-first.invariant.left (ap (map statement_of) c.in_default.ensures.lines)).2

@@ -13,7 +13,7 @@ returns-in-Ok-inputs_in-clause-bytes g c = λ told.
     let within : length c.deref.result.now ≤ most_bytes = rw c.deref.ensures.value c.in-Ok.ensures.within in
     reads_inputs _ _ c.deref.result.now c.new.result (c.in-Ok.ensures.whole told ∙ sym c.deref.ensures.value) (c.in-Ok.ensures.end told) within
     c.in-Ok-inputs_in.ensures.faultless
-    (c.new.ensures ∙ ap (λ (l : List Plain). merged l c.in-Ok-inputs_in.gathered.sources.items) c.in-Ok-inputs_in.ensures.plain ∙ ap (merged _) c.in-Ok-inputs_in.ensures.sources)
+    (c.new.ensures ∙ ap (λ (l : List Plain). merged l c.in-Ok-inputs_in.gathered.sources.items) c.in-Ok-inputs_in.ensures.plain ∙ ap (merged _) c.in-Ok-inputs_in.ensures.series)
 
 pub returns-clause-bytes : goal.returns-clause-bytes
 returns-clause-bytes g c = λ told.
