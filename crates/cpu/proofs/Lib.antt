@@ -1,4 +1,6 @@
 pub mod RunLaws
+pub mod TakenLaws
+pub mod LateInputs
 mod Rows
 mod ChangeLaws
 mod BitLaws

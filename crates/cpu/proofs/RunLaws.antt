@@ -1,5 +1,5 @@
 -- The reference run, step by step.
-use Rattle.std.proofs.Common.{◌≡◌, ◌≤◌, ◌<◌, ◌+◌, ◌*◌, ◌^◌, ◌++◌, ℕ, zero, suc, List, [], ◌∷◌, Bool, true, false, cond, Option, Some, None, refl, arith, add-one, ◌∙◌, find, ◌&&◌}
+use Rattle.std.proofs.Common.{◌≡◌, ◌≤◌, ◌<◌, ◌+◌, ◌*◌, ◌^◌, ◌++◌, ℕ, zero, suc, List, [], ◌∷◌, Bool, true, false, cond, Option, Some, None, refl, arith, add-one, ◌∙◌, find, ◌&&◌, inl, inr, ◌⊎◌}
 use Rattle.std.specs.Prelude.{nat_le, unwrap_or}
 use Rattle.std.specs.Option.{option_to_list}
 use Rattle.std.specs.List.{list_all}
@@ -10,7 +10,8 @@ use Rattle.rope.specs.Places.{Words}
 use Rattle.feed.specs.declared.input.Counter.{Counter}
 use Rattle.feed.specs.declared.input.Input.{Input}
 use Rattle.feed.specs.declared.input.Input.TheVariants.{Count, Word, Request}
-use Rattle.feed.specs.Inputs.{due}
+use Rattle.feed.specs.Merged.{due}
+use Rattle.feed.specs.Fits as from
 use Rattle.cpu.specs.State.{State, Scenario, start}
 use Rattle.cpu.specs.Effects.{Change, change, changes, after, dxch}
 use Rattle.cpu.specs.Effects.Change.{AtPlace, OnChannel, Inhibits, Serves, WaitsWithSum, WaitsWithWord}
@@ -129,16 +130,20 @@ few-input (Count counter sequence) = omega arith
 few-input (Word n w) = omega arith
 few-input (Request k) = omega arith
 
-cycles-take : (s : State) (input : Input) → (take s input).cycles ≤ s.cycles + 6
+-- a state in which an input is counted, and its cycles have passed
+abbrev pub counted_in : State → Input × Option ℕ → State
+counted_in s given = record s { taken = s.taken + 1; counts = from.counts_after s.counts given.1; cycles = s.cycles + input_cycles given.0 }
+
+cycles-take : (s : State) (given : Input × Option ℕ) → (take s given).cycles ≤ s.cycles + 6
 unfolding take
-cycles-take s input =
-    let e = cycles-effect (record s { taken = s.taken + 1; cycles = s.cycles + input_cycles input }) input in
-    let few = few-input input in
+cycles-take s given =
+    let e = cycles-effect (counted_in s given) given.0 in
+    let few = few-input given.0 in
     omega (arith, e, few)
 
-cycles-next_by : (rope : Words) (s : State) (i : Option Input) (o : Option ℕ) → (next_by rope s i o).0.cycles ≤ s.cycles + 6
+cycles-next_by : (rope : Words) (s : State) (i : Option (Input × Option ℕ)) (o : Option ℕ) → (next_by rope s i o).0.cycles ≤ s.cycles + 6
 unfolding entered
-cycles-next_by rope s (Some input) o = cycles-take s input
+cycles-next_by rope s (Some given) o = cycles-take s given
 cycles-next_by rope s None (Some k) = omega arith
 cycles-next_by rope s None None = cycles-execute rope s
 
@@ -156,3 +161,36 @@ cycles-run scenario (suc n) = omega (arith, cycles-next scenario (run scenario n
 -- so 2^40 steps stay below the cycles up to which a step is promised
 pub cycles-below : (scenario : Scenario) (n : ℕ) → n ≤ 2 ^ 40 → (run scenario n).cycles < most_cycles
 cycles-below scenario n few = omega (arith, cycles-run scenario n)
+
+-- a step never takes cycles back
+rise-execute : (rope : Words) (s : State) → s.cycles ≤ (execute rope s).0.cycles
+unfolding execute executed fetched
+rise-execute rope s = omega arith
+
+pub rise-take : (s : State) (given : Input × Option ℕ) → s.cycles ≤ (take s given).cycles
+unfolding take
+rise-take s given =
+    let e = cycles-effect (counted_in s given) given.0 in
+    omega (arith, e)
+
+pub rise-next_by : (rope : Words) (s : State) (i : Option (Input × Option ℕ)) (o : Option ℕ) → s.cycles ≤ (next_by rope s i o).0.cycles
+unfolding entered
+rise-next_by rope s (Some given) o = rise-take s given
+rise-next_by rope s None (Some k) = omega arith
+rise-next_by rope s None None = rise-execute rope s
+
+pub rise-next : (scenario : Scenario) (s : State) → s.cycles ≤ (next scenario s).0.cycles
+unfolding next
+rise-next scenario s = rise-next_by scenario.rope s (due scenario.inputs s.taken s.cycles) (entry s)
+
+-- the cycles of earlier states are no more than those of later ones
+pub rise-run : (scenario : Scenario) (t n : ℕ) → t ≤ n → (run scenario t).cycles ≤ (run scenario n).cycles
+unfolding run
+rise-run scenario t zero h = let same : t ≡ 0 = omega arith in rw same (omega arith)
+rise-run scenario t (suc n) h = elim (earlier_or_same t n h) [
+  | inl less ↦ omega (arith, rise-run scenario t n less, rise-next scenario (run scenario n))
+  | inr same ↦ rw same (omega arith)
+]
+  where
+    earlier_or_same : (t n : ℕ) → t ≤ suc n → (t ≤ n) ⊎ (t ≡ suc n)
+    earlier_or_same t n h = grind arith

@@ -14,6 +14,7 @@ use Rattle.feed.specs.declared.input.Sequence.TheVariants.{Pinc, Minc, Dinc, Pcd
 use Rattle.feed.specs.declared.input.Input.{Input}
 use Rattle.feed.specs.declared.input.Input.TheVariants.{Count, Word, Request}
 use Rattle.feed.specs.Inputs.{counter_place}
+use Rattle.feed.specs.Fits as from
 use Rattle.cpu.specs.State.{State}
 use Rattle.cpu.specs.Effects.{change}
 use Rattle.cpu.specs.Effects.Change.{AtPlace, OnChannel}
@@ -155,6 +156,9 @@ input_cycles (Count counter sequence) = 1
 input_cycles (Word n w) = 0
 input_cycles (Request k) = 0
 
--- an input is taken: it is counted, its cycles pass, and it does what it does
-unfoldable pub take : State → Input → State
-take s input = input_effect (record s { taken = s.taken + 1; cycles = s.cycles + input_cycles input }) input
+-- an input is taken, with the series that it is from: it is counted, and for its series, its cycles pass, and it does what it does
+unfoldable pub take : State → Input × Option ℕ → State
+take s given =
+    input_effect
+    (record s { taken = s.taken + 1; counts = from.counts_after s.counts given.1; cycles = s.cycles + input_cycles given.0 })
+    given.0

@@ -13,7 +13,7 @@ use Rattle.cpu.specs.declared.output.Output.{Output}
 use Rattle.cpu.specs.Codes.{code_of}
 use Rattle.rope.specs.Places.{Words}
 use Rattle.feed.specs.declared.input.Input.{Input}
-use Rattle.feed.specs.Inputs.{due}
+use Rattle.feed.specs.Merged.{due}
 use Rattle.cpu.specs.State.{State, Scenario, first_address, interrupted_address, interrupted_word}
 use Rattle.cpu.specs.Inputs.{take}
 use Rattle.cpu.specs.Effects.{accumulator_of, next_address, operand, has_overflow, is_at_zero, is_at_zero_or_minus, after}
@@ -215,7 +215,7 @@ entered rope s k =
     }
 
 -- a step: an input that is due is taken, else an interrupt is entered, else an instruction is executed
-abbrev pub next_by : Words → State → Option Input → Option ℕ → State × Option Output
+abbrev pub next_by : Words → State → Option (Input × Option ℕ) → Option ℕ → State × Option Output
 next_by rope s (Some input) k = (take s input, None)
 next_by rope s None (Some k) = (entered rope s k, None)
 next_by rope s None None = execute rope s

@@ -1,5 +1,5 @@
 -- How a machine holds its state.
-use Rattle.std.specs.Prelude.{ℕ, ◌-◌, Bool, false, List, Option, refl, filter, slice_index_or}
+use Rattle.std.specs.Prelude.{ℕ, ◌-◌, ◌<◌, ◌^◌, slice_index, Bool, false, List, Option, refl, filter, slice_index_or}
 use Rattle.std.specs.List.{range_with_len}
 use Rattle.std.specs.Ordering.{nat_cmp}
 use Rattle.std.specs.FinMap as map
@@ -7,26 +7,31 @@ use Rattle.std.specs.FinSet as set
 use Rattle.std.specs.Coded.{Coded, code_by, coded×, coded_ℕ, coded_bool, coded_option, coded_list}
 use Rattle.space.specs.Cells.{Cells}
 use Rattle.rope.specs.Places.{Words}
-use Rattle.feed.specs.declared.input.TimedInput.{TimedInput}
-use Rattle.feed.specs.contracts.input.TimedInput as timed_input
+use Rattle.feed.specs.declared.entry.Entry.{Entry}
+use Rattle.feed.specs.contracts.entry.Entry as entry
 use Rattle.cpu.specs.State.{State, Processing}
 
 -- the code by which states are told apart
 abbrev pub state_code : Coded State
 state_code =
-    code_by (Cells × (Bool × (Bool × (Bool × (Option ℕ × (Option ℕ × (set.FinSet nat_cmp × (ℕ × ℕ))))))))
-    (coded× (map.code coded_ℕ coded_ℕ) (coded× coded_bool (coded× coded_bool (coded× coded_bool (coded× (coded_option coded_ℕ) (coded× (coded_option coded_ℕ) (coded× (set.code coded_ℕ) (coded× coded_ℕ coded_ℕ))))))))
-    (λ s. (s.cells, (s.extra, (s.inhibit, (s.inside, (s.waiting_sum, (s.waiting_word, (s.requests, (s.taken, s.cycles)))))))))
-    (λ p. record { cells = p.0; extra = p.1.0; inhibit = p.1.1.0; inside = p.1.1.1.0; waiting_sum = p.1.1.1.1.0; waiting_word = p.1.1.1.1.1.0; requests = p.1.1.1.1.1.1.0; taken = p.1.1.1.1.1.1.1.0; cycles = p.1.1.1.1.1.1.1.1 })
+    code_by (Cells × (Bool × (Bool × (Bool × (Option ℕ × (Option ℕ × (set.FinSet nat_cmp × (ℕ × (List ℕ × ℕ)))))))))
+    (coded× (map.code coded_ℕ coded_ℕ) (coded× coded_bool (coded× coded_bool (coded× coded_bool (coded× (coded_option coded_ℕ) (coded× (coded_option coded_ℕ) (coded× (set.code coded_ℕ) (coded× coded_ℕ (coded× (coded_list coded_ℕ) coded_ℕ)))))))))
+    (λ s. (s.cells, (s.extra, (s.inhibit, (s.inside, (s.waiting_sum, (s.waiting_word, (s.requests, (s.taken, (s.counts, s.cycles))))))))))
+    (λ p. record { cells = p.0; extra = p.1.0; inhibit = p.1.1.0; inside = p.1.1.1.0; waiting_sum = p.1.1.1.1.0; waiting_word = p.1.1.1.1.1.0; requests = p.1.1.1.1.1.1.0; taken = p.1.1.1.1.1.1.1.0; counts = p.1.1.1.1.1.1.1.1.0; cycles = p.1.1.1.1.1.1.1.1.1 })
     (λ _. refl)
 
 -- the code by which processors are told apart
 abbrev pub processing_code : Coded Processing
 processing_code =
-    code_by (Words × (List TimedInput × ℕ)) (coded× (map.code coded_ℕ coded_ℕ) (coded× (coded_list timed_input.the_row.coded) coded_ℕ))
+    code_by (Words × (List Entry × ℕ)) (coded× (map.code coded_ℕ coded_ℕ) (coded× (coded_list entry.the_row.coded) coded_ℕ))
     (λ p. (p.scenario.rope, (p.scenario.inputs, p.meter)))
     (λ p. record { scenario = record { rope = p.0; inputs = p.1.0 }; meter = p.1.1 })
     (λ _. refl)
+
+-- A state in which a machine can count one input more.
+pub record HasRoom (s : State) : Type 0 where
+  pub taken : s.taken < 2 ^ 63
+  pub counts : (j : ℕ) → slice_index s.counts j < 10 ^ 9
 
 -- how many interrupts there are
 abbrev pub request_count : ℕ

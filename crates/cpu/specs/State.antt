@@ -1,15 +1,17 @@
 -- The state of the computer, and what it runs.
-use Rattle.std.specs.Prelude.{ℕ, Bool, true, false, List, Option, None}
+use Rattle.std.specs.Prelude.{ℕ, Bool, true, false, List, replicate, Option, None}
 use Rattle.std.specs.Ordering.{nat_cmp}
 use Rattle.std.specs.FinSet as set
 use Rattle.rope.specs.Places.{Words}
-use Rattle.feed.specs.declared.input.TimedInput.{TimedInput}
+use Rattle.feed.specs.declared.entry.Entry.{Entry}
+use Rattle.feed.specs.Fits.{Fits}
 use Rattle.space.specs.Cells.{Cells, zero_cells, put, program_counter}
 
--- what runs: the words of fixed memory, and the inputs, each with the cycle from which on it is due
+-- what runs: the words of fixed memory, and the inputs in their order, each with the cycle from which on it is due and the
+-- series that it is from
 pub record Scenario : Type 0 where
   pub rope : Words
-  pub inputs : List TimedInput
+  pub inputs : List Entry
 
 -- a processor: what it runs, and how many steps it has made
 pub record Processing : Type 0 where
@@ -17,7 +19,8 @@ pub record Processing : Type 0 where
   pub meter : ℕ
 
 -- a state: the cells, whether extracode is in force, whether interrupts are inhibited and whether one is being served,
--- the sum and the word that wait for the next instruction, the interrupts asked for, the inputs taken, and the cycles
+-- the sum and the word that wait for the next instruction, the interrupts asked for, the inputs taken and how many of them
+-- are from each series, and the cycles
 pub record State : Type 0 where
   pub cells : Cells
   pub extra : Bool
@@ -27,7 +30,17 @@ pub record State : Type 0 where
   pub waiting_word : Option ℕ
   pub requests : set.FinSet nat_cmp
   pub taken : ℕ
+  pub counts : List ℕ
   pub cycles : ℕ
+
+-- A state fits what runs: so many inputs as it took stand, and its counts tell for each series how many of them are the
+-- series' own.
+abbrev pub FitsRun : Scenario → State → Type 0
+FitsRun scenario s = Fits scenario.inputs s.taken s.counts
+
+-- how many series have a count
+abbrev pub most_series : ℕ
+most_series = 16
 
 -- the first address of bank 2, where a run starts
 abbrev pub first_address : ℕ
@@ -52,5 +65,6 @@ start =
       waiting_word = None;
       requests = set.empty;
       taken = 0;
+      counts = replicate most_series 0;
       cycles = 0;
     }

@@ -2,6 +2,7 @@
 
 ghost use Rattle.std.specs.Prelude.{◌≡◌, ◌<◌, ◌≤◌, ◌^◌, Some, None, true, false, if◌then◌else◌};
 ghost use Rattle.cpu.specs.Inputs.{step_of, is_overflow, is_shifted_out, asked_after, carries_into, stepped, carried, asked, counted, asked_on, received, take};
+ghost use Rattle.cpu.specs.Representation.{HasRoom};
 ghost use Rattle.cpu.specs.Next.{most_cycles};
 
 use crate::machine::Machine;
@@ -34,14 +35,13 @@ const FIRST_KEYBOARD_CHANNEL: u16 = 0o15;
 const SECOND_KEYBOARD_CHANNEL: u16 = 0o16;
 
 impl Machine {
-    /// Takes an input.
+    /// Takes an input that is from a series or plain.
     #[tactic(auto, unfolding(crate::specs::Inputs::take))]
-    pub(crate) fn take(&mut self, input: Input)
-        requires cycles { self.old.cycles ≤ most_cycles }
-        requires taken { self.old.taken < 2 ^ 63 }
-        ensures { self.new ≡ take self.old input }
+    pub(crate) fn take(&mut self, input: Input, series: Option<usize>)
+        requires { self.old.cycles ≤ most_cycles }
+        ensures { HasRoom self.old → self.new ≡ take self.old (input, series) }
     {
-        self.count_input();
+        self.count_input(series);
         match input {
             Input::Count(counter, sequence) => {
                 self.add_cycles(COUNTER_CYCLES);

@@ -15,6 +15,8 @@ mod output;
 mod processor;
 
 pub use disassembly::disassemble;
+pub use feed::AddFault;
+pub use feed::input::Input;
 pub use machine::Machine;
 pub use output::Output;
 pub use processor::Processor;

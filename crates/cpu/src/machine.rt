@@ -3,14 +3,17 @@
 ghost use Rattle.std.specs.Prelude.{◌≡◌, ◌+◌, ◌<◌, ◌%◌, ◌^◌, Some, None, true, false};
 ghost use Rattle.space.specs.Cells.{get, get_channel};
 ghost use Rattle.space.specs.Places.{IsErasable};
-ghost use Rattle.cpu.specs.State.{start};
+ghost use Rattle.cpu.specs.State.{Scenario, start, FitsRun};
+ghost use Rattle.cpu.specs.Representation.{HasRoom};
 ghost use Rattle.cpu.specs.Effects.{change, changes, next_address, place_in, erasable_in, value_at, edits};
 ghost use Rattle.cpu.specs.Effects.Change.{AtPlace, OnChannel, Inhibits, Serves, WaitsWithSum, WaitsWithWord};
 ghost use Rattle.cpu.specs.Next.{least_request};
 ghost use Rattle.std.specs.FinSet.{insert, remove};
 ghost use Rattle.words.specs.Numbers.{correct};
+ghost use Rattle.feed.specs.Fits.{counts_after};
 
 use crate::address::{Addr10, address};
+use feed::MOST_SERIES;
 use feed::request::Request;
 use rope::Rope;
 use space::numbers::{Addr12, Chan, Eras};
@@ -37,6 +40,7 @@ pub struct Machine {
     waiting_word: Option<Word>,
     requests: [bool; REQUESTS],
     taken: usize,
+    counts: [u32; MOST_SERIES],
     cycles: u64,
 }
 
@@ -48,14 +52,15 @@ impl Model for Machine {
 
     ghost coded = { state_code };
 
-    ghost view = { λ m. record { cells = m.store; extra = m.extra; inhibit = m.inhibit; inside = m.inside; waiting_sum = m.waiting_sum; waiting_word = m.waiting_word; requests = requests_of m.requests; taken = m.taken; cycles = m.cycles } };
+    ghost view = { λ m. record { cells = m.store; extra = m.extra; inhibit = m.inhibit; inside = m.inside; waiting_sum = m.waiting_sum; waiting_word = m.waiting_word; requests = requests_of m.requests; taken = m.taken; counts = m.counts; cycles = m.cycles } };
 }
 
 impl Machine {
     /// The machine in which a run starts: each word is 0, and interrupts are inhibited.
     #[tactic(auto, unfolding(crate::specs::State::start, crate::specs::Representation::requests_of))]
     pub fn start() -> Machine
-        ensures { result ≡ start }
+        ensures start { result ≡ start }
+        ensures fits { (scenario : Scenario) → FitsRun scenario result }
     {
         let mut store = Store::zero();
         store.write(Eras::Z, Wide::of_u16(FIRST_ADDRESS));
@@ -68,6 +73,7 @@ impl Machine {
             waiting_word: None,
             requests: [false; REQUESTS],
             taken: 0,
+            counts: [0; MOST_SERIES],
             cycles: 0,
         }
     }
@@ -84,6 +90,7 @@ impl Machine {
         other.waiting_word = self.waiting_word;
         other.requests.copy_from_slice(&self.requests);
         other.taken = self.taken;
+        other.counts.copy_from_slice(&self.counts);
         other.cycles = self.cycles;
     }
 
@@ -246,12 +253,24 @@ impl Machine {
         self.taken
     }
 
-    /// One input more was taken.
-    pub(crate) fn count_input(&mut self)
-        requires { self.old.taken < 2 ^ 63 }
-        ensures { self.new ≡ record self.old { taken = self.old.taken + 1 } }
+    /// How many of the inputs taken are from each series.
+    pub(crate) fn counts(&self) -> &[u32; MOST_SERIES]
+        ensures { result.now ≡ self.now.counts }
     {
-        self.taken += 1;
+        &self.counts
+    }
+
+    /// One input more was taken, from this series or plain.
+    pub(crate) fn count_input(&mut self, series: Option<usize>)
+        ensures cycles { self.new.cycles ≡ self.old.cycles }
+        ensures counted { HasRoom self.old → self.new ≡ record self.old { taken = self.old.taken + 1; counts = counts_after self.old.counts series } }
+    {
+        self.taken = self.taken.saturating_add(1);
+        if let Some(series) = series
+            && series < MOST_SERIES
+        {
+            self.counts[series] = self.counts[series].saturating_add(1);
+        }
     }
 
     /// Adds to the cycles.

@@ -1,11 +1,16 @@
 //! The processor: fixed memory, the inputs, and the count of steps.
 
-ghost use Rattle.std.specs.Prelude.{◌≡◌, ◌+◌, ◌-◌, ◌<◌, ◌≤◌, ◌^◌, min, Some, None};
+ghost use Rattle.std.specs.Prelude.{◌≡◌, ◌+◌, ◌-◌, ◌<◌, ◌≤◌, ◌^◌, min, ℕ, Some, None, Err, OnOk, OnErr};
+ghost use Rattle.feed.specs.Added.{TakenBelow};
+ghost use Rattle.cpu.specs.State.{State, FitsRun};
+ghost use Rattle.cpu.specs.Additions.{AddsInput, AreAlikeUpTo, plain_inputs, most_plain_inputs};
+ghost use Rattle.cpu.specs.Run.{run};
 ghost use Rattle.cpu.specs.Next.{next, instruction_word, most_cycles};
 
 use crate::machine::Machine;
 use crate::output::Output;
-use feed::Feed;
+use feed::input::Input;
+use feed::{AddFault, Feed};
 use rope::Rope;
 use std::marker::Model;
 use words::Word;
@@ -33,9 +38,10 @@ impl Model for Processor {
 }
 
 impl Processor {
-    /// A processor that has made no step.
+    /// A processor that has made no step. Every state of its run fits what it runs.
     pub fn new(rope: Rope, feed: Feed) -> Processor
-        ensures { result ≡ record { scenario = record { rope = rope; inputs = feed }; meter = 0 } }
+        ensures fits { (n : ℕ) → FitsRun result.scenario (run result.scenario n) }
+        ensures value { result ≡ record { scenario = record { rope = rope; inputs = feed }; meter = 0 } }
     {
         Processor {
             rope,
@@ -46,19 +52,24 @@ impl Processor {
 
     /// Makes one step, and answers what it puts out: takes the next input where it is due, else enters an interrupt, else
     /// executes an instruction. The meter counts the step, but stays at its greatest value. A machine with more than 2^62
-    /// cycles stays as it is: no run of fewer than 2^59 steps from the start leads there.
+    /// cycles stays as it is: no run of fewer than 2^59 steps from the start leads there. Of a machine that does not fit what
+    /// runs, as one from another processor, no state is told.
     #[tactic(auto, unfolding(crate::specs::Next::next))]
     pub fn step(&mut self, machine: &mut Machine) -> Option<Output>
         ensures meter { self.new ≡ record self.old { meter = min (self.old.meter + 1) (2 ^ 128 - 1) } }
         ensures growing { self.old.meter < 2 ^ 128 → self.old.meter ≤ self.new.meter }
-        ensures step { machine.old.cycles ≤ most_cycles → (machine.new, result) ≡ next self.old.scenario machine.old }
+        ensures step { machine.old.cycles ≤ most_cycles → FitsRun self.old.scenario machine.old →
+            (machine.new, result) ≡ next self.old.scenario machine.old }
+        ensures fits { machine.old.cycles ≤ most_cycles → FitsRun self.old.scenario machine.old → FitsRun self.old.scenario machine.new }
     {
         self.meter = self.meter.saturating_add(1);
-        if machine.cycles() > MOST_CYCLES {
+        let cycles = machine.cycles();
+        if cycles > MOST_CYCLES {
             return None;
         }
-        if let Some(input) = self.feed.due(machine.taken(), machine.cycles()) {
-            machine.take(input);
+        let due = self.feed.due(machine.taken(), machine.counts(), cycles);
+        if let Some((input, series)) = due {
+            machine.take(input, series);
             return None;
         }
         if let Some(request) = machine.entry() {
@@ -66,6 +77,19 @@ impl Processor {
             return None;
         }
         machine.execute(&self.rope)
+    }
+
+    /// Adds an input at a cycle, after all inputs of that cycle. An input at a cycle above those of a step changes no state and
+    /// no output up to that step.
+    pub fn add(&mut self, cycle: u64, input: Input) -> Result<(), AddFault>
+        ensures added { OnOk result (AddsInput cycle input self.old self.new) }
+        ensures later { OnOk result ((n : ℕ) → (run self.old.scenario n).cycles < cycle → AreAlikeUpTo self.old.scenario self.new.scenario n) }
+        ensures fits { OnOk result ((s : State) → TakenBelow self.old.scenario.inputs s.taken cycle → FitsRun self.old.scenario s → FitsRun self.new.scenario s) }
+        ensures unchanged { OnErr result (self.new ≡ self.old) }
+        ensures room { OnOk result (plain_inputs self.old.scenario < most_plain_inputs) }
+        ensures full { result ≡ Err AddFault.TooMany → most_plain_inputs ≤ plain_inputs self.old.scenario }
+    {
+        self.feed.add(cycle, input)
     }
 
     /// How many steps were made.

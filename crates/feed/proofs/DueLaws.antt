@@ -5,7 +5,9 @@ use Rattle.std.proofs.lemmas.Bool.Decides.{nat_tests}
 use Rattle.feed.specs.declared.entry.Entry.{Entry}
 use Rattle.feed.specs.Merged.{is_before, inserted, due, when_come, given_by}
 use Rattle.feed.specs.Order.{NoneBefore, IsInOrder}
+use Rattle.feed.specs.Added.{AddsLast, plain_on}
 use Rattle.feed.specs.Kept.{NoneDue, due_from}
+use Rattle.feed.specs.declared.input.Input.{Input}
 use Rattle.feed.proofs.Sorting.{either_way, before-not}
 
 isnt_le : (a b : ℕ) → b < a → leb a b ≡ false
@@ -68,7 +70,11 @@ pub due-inserted : (e : Entry) (list : List Entry) (k cycles : ℕ) → IsInOrde
 unfolding due
 due-inserted e list k cycles o h = come-inserted e list k cycles o h
 
--- no divisor, no line
+-- An input that was added changes nothing that is due below its cycle.
+pub due-adds : (old new : List Entry) (cycle : ℕ) (input : Input) (k cycles : ℕ) → AddsLast old cycle input new → IsInOrder old → cycles < cycle → due new k cycles ≡ due old k cycles
+due-adds old new cycle input k cycles a order below =
+    ap (λ l. due l k cycles) a.new_is ∙ due-inserted (plain_on a.line cycle input) old k cycles order below
+
 pub none_due-zero : (list : List Entry) (k : ℕ) → NoneDue list k 0
 none_due-zero list k = λ now b. absurd (omega arith)
 

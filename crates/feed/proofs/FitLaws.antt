@@ -1,23 +1,23 @@
 -- What fits a list still fits after a step and after an addition.
-use Rattle.std.proofs.Common.{ℕ, zero, suc, ◌+◌, ◌*◌, ◌^◌, ◌<◌, ◌≤◌, ◌≡◌, true, List, [], ◌∷◌, Option, Some, None, cond, ltb, length, refl, ap, ◌∙◌, sym, arith, inl, inr, subst, take, get_or, leb}
+use Rattle.std.proofs.Common.{ℕ, zero, suc, ◌+◌, ◌*◌, ◌^◌, ◌<◌, ◌≤◌, ◌≡◌, true, false, ◌⊎◌, List, [], ◌∷◌, Option, Some, None, cond, ltb, length, refl, ap, ◌∙◌, sym, arith, inl, inr, subst, take, get_or, leb}
 use Rattle.std.specs.Prelude.{slice_get, slice_index, IfSome, set, sum}
 use Rattle.std.proofs.lemmas.Bool.Decides.{nat_tests, eqb_tells}
-use Rattle.std.proofs.lemmas.List.{get_or-set_same, get_or-set_other}
+use Rattle.std.proofs.lemmas.List.{get_or-set_same, get_or-set_other, length-set}
 use Rattle.std.proofs.lemmas.List.Filters.{length-filter_more}
 use Rattle.std.proofs.lemmas.Option.{slice_get_within, get_or_from_slice_get}
 use Rattle.feed.specs.declared.entry.Entry.{Entry}
 use Rattle.feed.specs.declared.input.Input.{Input}
-use Rattle.feed.specs.Merged.{is_before, inserted, when_come}
+use Rattle.feed.specs.Merged.{is_before, inserted, when_come, due}
 use Rattle.feed.specs.Added.{AddsLast, TakenBelow, plain_on}
-use Rattle.feed.specs.Fits.{is_from, number_from, Fits, counts_after, AreInputs}
+use Rattle.feed.specs.Fits.{is_source, is_from, number_from, Fits, counts_after, AreOfSixteen, AreInputs}
 use Rattle.feed.specs.Order.{IsAmong}
 use Rattle.feed.proofs.Sorting.{either_way}
-use Rattle.feed.proofs.Merging.{total-counts}
+use Rattle.feed.proofs.Merging.{total-counts, tells-all, past-counts, fewer-taken, number_from-other, eqb-no}
 use Rattle.std.proofs.lemmas.List.{length-take-le}
 use Rattle.std.proofs.lemmas.List.Sums.{sum_by-cons}
 
 -- nothing was taken yet
-pub fits-start : (list : List Entry) (counts : List ℕ) → ((j : ℕ) → slice_index counts j ≡ 0) → Fits list 0 counts
+pub fits-start : (list : List Entry) (counts : List ℕ) → ((j : ℕ) → j < length counts → slice_index counts j ≡ 0) → Fits list 0 counts
 fits-start list counts h = record { stand = omega arith; tell = h }
 
 -- one for an entry of a source
@@ -30,31 +30,33 @@ one-more list taken e s h =
     let at = get_or_from_slice_get list taken e e h in
     length-filter_more (is_from s) list taken e within ∙ ap (λ x. number_from s (take taken list) + one_from s x) at
 
-tell-more : (list : List Entry) (taken : ℕ) (counts : List ℕ) (e : Entry) (o : Option ℕ) → e.series ≡ o → slice_get list taken ≡ Some e → Fits list taken counts → IfSome o (λ j. j < length counts)
-    → (j : ℕ) → slice_index (counts_after counts o) j ≡ number_from (Some j) (take (taken + 1) list)
-tell-more list taken counts e None is h f w j =
+tell-more : (list : List Entry) (taken : ℕ) (counts : List ℕ) (e : Entry) (o : Option ℕ) → e.series ≡ o → slice_get list taken ≡ Some e → Fits list taken counts
+    → (j : ℕ) → j < length (counts_after counts o) → slice_index (counts_after counts o) j ≡ number_from (Some j) (take (taken + 1) list)
+tell-more list taken counts e None is h f j b =
     let more = one-more list taken e (Some j) h in
     let same : one_from (Some j) e ≡ 0 = rw is refl in
-    omega (arith, f.tell j, more, same)
-tell-more list taken counts e (Some k) is h f w j =
+    omega (arith, f.tell j b, more, same)
+tell-more list taken counts e (Some k) is h f j b =
     let more = one-more list taken e (Some j) h in
+    let within : j < length counts = let l = length-set counts k (get_or counts k 0 + 1) in omega (arith, b, l) in
     elim (eqb_tells j k) [
       | inl at ↦
+          let w : k < length counts = let s = at.1 in omega (arith, within, s) in
           let one : one_from (Some j) e ≡ 1 = rw (is, at.0) refl in
           let here : get_or (set counts k (get_or counts k 0 + 1)) j 0 ≡ get_or counts k 0 + 1 = ap (λ n. get_or (set counts k (get_or counts k 0 + 1)) n 0) at.1 ∙ get_or-set_same counts k _ 0 w in
-          let was : get_or counts k 0 ≡ number_from (Some j) (take taken list) = f.tell k ∙ ap (λ n. number_from (Some n) (take taken list)) (sym at.1) in
+          let was : get_or counts k 0 ≡ number_from (Some j) (take taken list) = f.tell k w ∙ ap (λ n. number_from (Some n) (take taken list)) (sym at.1) in
           omega (arith, more, one, here, was)
       | inr other ↦
           let same : one_from (Some j) e ≡ 0 = rw (is, other.0) refl in
           let there : get_or (set counts k (get_or counts k 0 + 1)) j 0 ≡ get_or counts j 0 = get_or-set_other counts k j _ 0 other.1 in
-          omega (arith, f.tell j, more, same, there)
+          omega (arith, f.tell j within, more, same, there)
     ]
 
 -- the next entry is taken
-pub fits-more : (list : List Entry) (taken : ℕ) (counts : List ℕ) (e : Entry) → slice_get list taken ≡ Some e → Fits list taken counts → IfSome e.series (λ j. j < length counts) → Fits list (taken + 1) (counts_after counts e.series)
-fits-more list taken counts e h f w = record {
+pub fits-more : (list : List Entry) (taken : ℕ) (counts : List ℕ) (e : Entry) → slice_get list taken ≡ Some e → Fits list taken counts → Fits list (taken + 1) (counts_after counts e.series)
+fits-more list taken counts e h f = record {
   stand = let within = slice_get_within list taken e h in omega arith;
-  tell = tell-more list taken counts e e.series refl h f w;
+  tell = tell-more list taken counts e e.series refl h f;
 }
 
 is_below : (a b : ℕ) → a < b → ltb a b ≡ true
@@ -84,41 +86,44 @@ length-inserted e (x ∷ list) = elim (either_way (is_before x e)) [
 pub fits-added : (list : List Entry) (taken : ℕ) (counts : List ℕ) (e : Entry) → ((x : Entry) → IsAmong x (take taken list) → x.cycle < e.cycle) → Fits list taken counts → Fits (inserted e list) taken counts
 fits-added list taken counts e later f = record {
   stand = let l = length-inserted e list in let s = f.stand in omega arith;
-  tell = λ j. f.tell j ∙ ap (number_from (Some j)) (sym (take-inserted taken e list f.stand later));
+  tell = λ j b. f.tell j b ∙ ap (number_from (Some j)) (sym (take-inserted taken e list f.stand later));
 }
 
--- what is given by the next entry is counted
-pub fits-given : (list : List Entry) (taken cycles : ℕ) (counts : List ℕ) (o : Option Entry) → length counts ≡ 16 → slice_get list taken ≡ o → Fits list taken counts → IfSome o (λ e. IfSome e.series (λ j. j < 16))
+fits-given : (list : List Entry) (taken cycles : ℕ) (counts : List ℕ) (o : Option Entry) → slice_get list taken ≡ o → Fits list taken counts
     → IfSome (when_come cycles o) (λ given. Fits list (taken + 1) (counts_after counts given.1))
-fits-given list taken cycles counts None long is f w = tt
-fits-given list taken cycles counts (Some e) long is f w = elim (either_way (leb e.cycle cycles)) [
-  | inl le ↦ rw le (fits-more list taken counts e is f (within-counts e.series w))
+fits-given list taken cycles counts None is f = tt
+fits-given list taken cycles counts (Some e) is f = elim (either_way (leb e.cycle cycles)) [
+  | inl le ↦ rw le (fits-more list taken counts e is f)
   | inr later ↦ rw later tt
 ]
-  where
-    within-counts : (o : Option ℕ) → IfSome o (λ j. j < 16) → IfSome o (λ j. j < length counts)
-    within-counts None b = tt
-    within-counts (Some j) b = omega arith
 
-pub fits-none : (list : List Entry) (taken : ℕ) (counts : List ℕ) → IfSome None (λ (given : Input × Option ℕ). Fits list (taken + 1) (counts_after counts given.1))
-fits-none list taken counts = tt
+-- what is due is counted when it is taken
+pub fits-due : (list : List Entry) (taken cycles : ℕ) (counts : List ℕ) → Fits list taken counts → IfSome (due list taken cycles) (λ given. Fits list (taken + 1) (counts_after counts given.1))
+unfolding due
+fits-due list taken cycles counts f = fits-given list taken cycles counts (slice_get list taken) refl f
 
 -- an input that was added above the cycles of all that were taken keeps the fit
 pub fits-adds : (old new : List Entry) (cycle taken : ℕ) (input : Input) (counts : List ℕ) → AddsLast old cycle input new → TakenBelow old taken cycle → Fits old taken counts → Fits new taken counts
 fits-adds old new cycle taken input counts a below f =
     subst (λ (l : List Entry). Fits l taken counts) (sym a.new_is) (fits-added old taken counts (plain_on a.line cycle input) below f)
 
-fewer-taken : (s : Option ℕ) (k : ℕ) (list : List Entry) → number_from s (take k list) ≤ number_from s list
-fewer-taken s zero list = omega arith
-fewer-taken s (suc k) [] = omega arith
-fewer-taken s (suc k) (e ∷ list) = elim (either_way (is_from s e)) [
-  | inl is ↦ rw is (let f = fewer-taken s k list in omega (arith, f))
-  | inr isnt ↦ rw isnt (fewer-taken s k list)
-]
-
 -- the counts of a machine that fits a feed are small
 pub counts-small : (list : List Entry) (taken : ℕ) (counts : List ℕ) → AreInputs list → Fits list taken counts → (j : ℕ) → slice_index counts j < 10 ^ 9
-counts-small list taken counts a f j = omega (arith, f.tell j, fewer-taken (Some j) taken list, a.serially j)
+counts-small list taken counts a f j = elim (below_or_past j (length counts)) [
+  | inl within ↦ omega (arith, f.tell j within, fewer-taken (Some j) taken list, a.serially j)
+  | inr past ↦ let none = past-counts counts j past in omega (arith, none)
+]
+  where
+    below_or_past : (j n : ℕ) → (j < n) ⊎ (n ≤ j)
+    below_or_past j n = grind arith
+
+of-none : (j : ℕ) (list : List Entry) → AreOfSixteen list → 16 ≤ j → number_from (Some j) list ≡ 0
+of-none j [] few past = refl
+of-none j (e ∷ list) few past = number_from-other (Some j) e list (not_from j e.series (few 0 e refl) past) ∙ of-none j list (λ k x h. few (suc k) x h) past
+  where
+    not_from : (j : ℕ) (o : Option ℕ) → IfSome o (λ k. k < 16) → 16 ≤ j → is_source (Some j) o ≡ false
+    not_from j None w past = refl
+    not_from j (Some k) w past = eqb-no j k (λ same. absurd (omega (arith, w, past, same)))
 
 sum-small : (counts : List ℕ) (most : ℕ) → ((j : ℕ) → get_or counts j 0 < most) → sum counts ≤ length counts * most
 sum-small [] most h = omega arith
@@ -131,7 +136,7 @@ sum-small (c ∷ counts) most h =
 -- and so is the number of what it took
 pub taken-small : (list : List Entry) (taken : ℕ) (counts : List ℕ) → length counts ≡ 16 → AreInputs list → Fits list taken counts → taken < 2 ^ 63
 taken-small list taken counts long a f =
-    let t = total-counts counts (take taken list) f.tell in
+    let t = total-counts counts (take taken list) (tells-all list taken counts (λ j past. of-none j list a.sixteen (omega (arith, past, long))) f) in
     let s = sum-small counts (10 ^ 9) (counts-small list taken counts a f) in
     let p = fewer-taken None taken list in
     let few = a.plainly in

@@ -15,7 +15,7 @@ use Rattle.feed.proofs.HeadLaws.{below-more, cases_below}
 use Rattle.std.proofs.lemmas.Bool.Decides.{nat_tests}
 use Rattle.std.proofs.lemmas.List.{set-get_or}
 use Rattle.std.proofs.lemmas.Option.{slice_get_past, slice_get_within, slice_get-get_or}
-use Rattle.feed.proofs.Merging.{total-counts}
+use Rattle.feed.proofs.Merging.{total-counts, past-counts}
 
 none-pass : (x y : Entry) (ys : List Entry) → is_before y x ≡ false → NoneBefore y ys → filter (λ e. is_before e x) ys ≡ []
 none-pass x y [] h n = refl
@@ -58,7 +58,7 @@ fits-front all front taken counts is few tell enough =
     let first : take taken all ≡ front = ap (λ k. take k all) (sym long) ∙ sym is in
     record {
       stand = omega (arith, long, few);
-      tell = λ j. sym (tell (Some j)) ∙ ap (number_from (Some j)) (sym first);
+      tell = λ j b. sym (tell (Some j)) ∙ ap (number_from (Some j)) (sym first);
     }
 
 -- From each source all entries before one entry are taken, and no other: then the counts fit.
@@ -182,11 +182,6 @@ none-beyond j o plain series h = ap (λ s. number_before o (entries_at j s)) (sl
 
 pub number_at : (j : ℕ) (o : Option Entry) (plain : List Plain) (series : List Series) (s : Series) (n : ℕ) → slice_get series j ≡ Some s → number_before o (entries_of j s) ≡ n → number_before o (source plain series (Some j)) ≡ n
 number_at j o plain series s n at h = ap (λ x. number_before o (entries_at j x)) at ∙ h
-
-past-counts : (counts : List ℕ) (j : ℕ) → length counts ≤ j → get_or counts j 0 ≡ 0
-past-counts [] j h = refl
-past-counts (c ∷ counts) zero h = absurd (omega arith)
-past-counts (c ∷ counts) (suc j) h = past-counts counts j (omega arith)
 
 pub fits-all : (n : ℕ) (o : Option Entry) (plain : List Plain) (series : List Series) (taken : ℕ) (counts : List ℕ) → AreSources plain series → length series ≤ n → length counts ≤ n → sum counts ≤ taken → TakenUpTo n o plain series taken counts
     → Fits (merged plain series) taken counts

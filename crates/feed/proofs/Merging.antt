@@ -1,18 +1,19 @@
 -- The next entry is the least head.
-use Rattle.std.proofs.Common.{ℕ, zero, suc, ◌+◌, ◌<◌, ◌≡◌, ◌≢◌, Bool, true, false, List, [], ◌∷◌, ◌++◌, Option, Some, None, ltb, eqb, length, refl, ap, ◌∙◌, sym, arith, inl, inr, ◌⊎◌, subst, ◌&&◌, ◌||◌, filter, take, drop, get_or, eq-eqb}
+use Rattle.std.proofs.Common.{ℕ, zero, suc, ◌+◌, ◌<◌, ◌≤◌, ◌≡◌, ◌≢◌, Bool, true, false, List, [], ◌∷◌, ◌++◌, Option, Some, None, ltb, eqb, length, refl, ap, ◌∙◌, sym, arith, inl, inr, ◌⊎◌, subst, ◌&&◌, ◌||◌, filter, take, drop, get_or, eq-eqb}
 use Rattle.std.specs.Prelude.{slice_get, set}
 use Rattle.std.specs.List.{sum}
 use Rattle.std.proofs.lemmas.Bool.Decides.{nat_tests, eqb_tells}
 use Rattle.std.proofs.lemmas.List.{take-append-drop, length-take-le, get_or-set_same, get_or-set_other}
 use Rattle.std.proofs.lemmas.List.Elements.{filter-append}
 use Rattle.std.proofs.lemmas.List.Sums.{sum_by-cons, sum_by-set}
+use Rattle.std.proofs.lemmas.Option.{slice_get_past}
 use Rattle.std.proofs.Math.Seq.{drop-append_seam}
 use Rattle.feed.specs.declared.entry.Entry.{Entry}
 use Rattle.feed.specs.declared.entry.Plain.{Plain}
 use Rattle.feed.specs.declared.entry.Series.{Series}
 use Rattle.feed.specs.Merged.{is_before, merged}
 use Rattle.feed.specs.Fits.{is_source, is_from, number_from, Fits}
-use Rattle.feed.specs.Heads.{source, AreSources, number_taken, head, IsntBefore, IsLeast}
+use Rattle.feed.specs.Heads.{source, entries_at, AreSources, number_taken, head, IsntBefore, IsLeast}
 use Rattle.feed.specs.Order.{NoneBefore, IsInOrder, IsAmong}
 use Rattle.feed.proofs.Sorting.{either_way, is_in_order}
 use Rattle.feed.proofs.SourceLaws.{source-merged}
@@ -33,14 +34,14 @@ beyond (c ∷ counts) (suc j) h = omega (arith, beyond counts j h)
 number_from-own : (j : ℕ) (e : Entry) (list : List Entry) → e.series ≡ Some j → number_from (Some j) (e ∷ list) ≡ suc (number_from (Some j) list)
 number_from-own j e list h = rw (h, eq-eqb j j refl) refl
 
-number_from-other : (s : Option ℕ) (e : Entry) (list : List Entry) → is_from s e ≡ false → number_from s (e ∷ list) ≡ number_from s list
+pub number_from-other : (s : Option ℕ) (e : Entry) (list : List Entry) → is_from s e ≡ false → number_from s (e ∷ list) ≡ number_from s list
 number_from-other s e list h = rw h refl
 
 pub series_or_none : (o : Option ℕ) → (o ≡ None) ⊎ ((j : ℕ) × (o ≡ Some j))
 series_or_none None = inl refl
 series_or_none (Some j) = inr (j, refl)
 
-eqb-no : (a b : ℕ) → (a ≢ b) → eqb a b ≡ false
+pub eqb-no : (a b : ℕ) → (a ≢ b) → eqb a b ≡ false
 eqb-no a b h = grind (arith, nat_tests)
 
 other-of : (e : Entry) (j k : ℕ) → e.series ≡ Some k → (j ≢ k) → is_from (Some j) e ≡ false
@@ -64,12 +65,39 @@ total-counts counts (e ∷ list) h = elim (series_or_none e.series) [
       omega (arith, same, here, sum-set counts k.0 (number_from (Some k.0) list) within, total-counts fewer list tell)
 ]
 
+-- of the first entries no more are from a source than of all
+pub fewer-taken : (s : Option ℕ) (k : ℕ) (list : List Entry) → number_from s (take k list) ≤ number_from s list
+fewer-taken s zero list = omega arith
+fewer-taken s (suc k) [] = omega arith
+fewer-taken s (suc k) (e ∷ list) = elim (either_way (is_from s e)) [
+  | inl is ↦ rw is (let f = fewer-taken s k list in omega (arith, f))
+  | inr isnt ↦ rw isnt (fewer-taken s k list)
+]
+
+pub past-counts : (counts : List ℕ) (j : ℕ) → length counts ≤ j → get_or counts j 0 ≡ 0
+past-counts [] j h = refl
+past-counts (c ∷ counts) zero h = absurd (omega arith)
+past-counts (c ∷ counts) (suc j) h = past-counts counts j (omega arith)
+
+-- counts that tell of every number, also of those that no series has
+abbrev pub TellsAll : List Entry → ℕ → List ℕ → Type 0
+TellsAll list taken counts = (j : ℕ) → get_or counts j 0 ≡ number_from (Some j) (take taken list)
+
+pub tells-all : (list : List Entry) (taken : ℕ) (counts : List ℕ) → ((j : ℕ) → length counts ≤ j → number_from (Some j) list ≡ 0) → Fits list taken counts → TellsAll list taken counts
+tells-all list taken counts none f = λ j. elim (below_or_past j (length counts)) [
+  | inl within ↦ f.tell j within
+  | inr past ↦ let few = fewer-taken (Some j) taken list in past-counts counts j past ∙ omega (arith, none j past, few)
+]
+  where
+    below_or_past : (j n : ℕ) → (j < n) ⊎ (n ≤ j)
+    below_or_past j n = grind arith
+
 -- how many of a source's entries are among those taken
-taken-from : (list : List Entry) (taken : ℕ) (counts : List ℕ) (s : Option ℕ) → Fits list taken counts → number_from s (take taken list) ≡ number_taken taken counts s
-taken-from list taken counts None f =
-    let t = total-counts counts (take taken list) f.tell in
-    omega (arith, t, length-take-le taken list f.stand)
-taken-from list taken counts (Some j) f = sym (f.tell j)
+taken-from : (list : List Entry) (taken : ℕ) (counts : List ℕ) (s : Option ℕ) → taken ≤ length list → TellsAll list taken counts → number_from s (take taken list) ≡ number_taken taken counts s
+taken-from list taken counts None stand tell =
+    let t = total-counts counts (take taken list) tell in
+    omega (arith, t, length-take-le taken list stand)
+taken-from list taken counts (Some j) stand tell = sym (tell j)
 
 first-drop : {X : Type 0} (k : ℕ) (xs : List X) → slice_get (drop k xs) 0 ≡ slice_get xs k
 first-drop zero xs = refl
@@ -77,19 +105,19 @@ first-drop (suc k) [] = refl
 first-drop (suc k) (x ∷ xs) = first-drop k xs
 
 -- what is left of a source is what is left of it in the whole list
-rest-source : (plain : List Plain) (series : List Series) (taken : ℕ) (counts : List ℕ) (s : Option ℕ) → AreSources plain series → Fits (merged plain series) taken counts
+rest-source : (plain : List Plain) (series : List Series) (taken : ℕ) (counts : List ℕ) (s : Option ℕ) → AreSources plain series → taken ≤ length (merged plain series) → TellsAll (merged plain series) taken counts
     → drop (number_taken taken counts s) (source plain series s) ≡ filter (is_from s) (drop taken (merged plain series))
-rest-source plain series taken counts s a f =
+rest-source plain series taken counts s a stand tell =
     let all = merged plain series in
     let parts : source plain series s ≡ filter (is_from s) (take taken all) ++ filter (is_from s) (drop taken all) =
     sym (source-merged plain series s a) ∙ ap (filter (is_from s)) (sym (take-append-drop taken all)) ∙ filter-append (is_from s) (take taken all) (drop taken all) in
-    ap (λ n. drop n (source plain series s)) (sym (taken-from all taken counts s f)) ∙ ap (drop (number_from s (take taken all))) parts
+    ap (λ n. drop n (source plain series s)) (sym (taken-from all taken counts s stand tell)) ∙ ap (drop (number_from s (take taken all))) parts
     ∙ drop-append_seam (filter (is_from s) (take taken all)) (filter (is_from s) (drop taken all))
 
-head-rest : (plain : List Plain) (series : List Series) (taken : ℕ) (counts : List ℕ) (s : Option ℕ) → AreSources plain series → Fits (merged plain series) taken counts
+head-rest : (plain : List Plain) (series : List Series) (taken : ℕ) (counts : List ℕ) (s : Option ℕ) → AreSources plain series → taken ≤ length (merged plain series) → TellsAll (merged plain series) taken counts
     → head plain series taken counts s ≡ slice_get (filter (is_from s) (drop taken (merged plain series))) 0
-head-rest plain series taken counts s a f =
-    sym (first-drop (number_taken taken counts s) (source plain series s)) ∙ ap (λ l. slice_get l 0) (rest-source plain series taken counts s a f)
+head-rest plain series taken counts s a stand tell =
+    sym (first-drop (number_taken taken counts s) (source plain series s)) ∙ ap (λ l. slice_get l 0) (rest-source plain series taken counts s a stand tell)
 
 first-among : (p : Entry → Bool) (xs : List Entry) (e : Entry) → slice_get (filter p xs) 0 ≡ Some e → IsAmong e xs
 first-among p [] e h = cc
@@ -146,12 +174,13 @@ least-first (x ∷ rest) heads (Some e) order tell are least =
     ]
 
 -- The next entry is the least of the heads.
-pub next_entry : (plain : List Plain) (series : List Series) (taken : ℕ) (counts : List ℕ) (o : Option Entry) → AreSources plain series → Fits (merged plain series) taken counts
+pub next_entry : (plain : List Plain) (series : List Series) (taken : ℕ) (counts : List ℕ) (o : Option Entry) → AreSources plain series → length series ≤ length counts → Fits (merged plain series) taken counts
     → IsLeast (head plain series taken counts) o → slice_get (merged plain series) taken ≡ o
 unfolding merged
-next_entry plain series taken counts o a f least =
+next_entry plain series taken counts o a few f least =
     let all = merged plain series in
+    let none : (j : ℕ) → length counts ≤ j → number_from (Some j) all ≡ 0 = λ j past. ap length (source-merged plain series (Some j) a ∙ ap (entries_at j) (slice_get_past series j (omega (arith, few, past)))) in
     sym (first-drop taken all) ∙ least-first (drop taken all) (head plain series taken counts) o
     (in_order-drop taken all (is_in_order _))
     (λ x y p q. a.lines_tell x y (among-drop taken all x p) (among-drop taken all y q))
-    (λ s. head-rest plain series taken counts s a f) least
+    (λ s. head-rest plain series taken counts s a f.stand (tells-all all taken counts none f)) least

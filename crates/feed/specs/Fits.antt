@@ -18,11 +18,11 @@ is_from source e = is_source source e.series
 abbrev pub number_from : Option ℕ → List Entry → ℕ
 number_from source list = length (filter (is_from source) list)
 
--- A number of entries taken and counts fit a list: so many entries stand, and the counts tell for each series how many
--- of them are its own.
+-- A number of entries taken and counts fit a list: so many entries stand, and the counts tell for each series that has a
+-- count how many of them are its own.
 pub record Fits (list : List Entry) (taken : ℕ) (counts : List ℕ) : Type 0 where
   pub stand : taken ≤ length list
-  pub tell : (j : ℕ) → slice_index counts j ≡ number_from (Some j) (take taken list)
+  pub tell : (j : ℕ) → j < length counts → slice_index counts j ≡ number_from (Some j) (take taken list)
 
 -- the counts after an entry of a source was taken
 abbrev pub counts_after : List ℕ → Option ℕ → List ℕ

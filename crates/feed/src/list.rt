@@ -3,7 +3,7 @@
 ghost use Rattle.std.specs.Prelude.{◌≡◌, ◌≤◌, ◌<◌, ◌+◌, ◌^◌, ℕ, List, [], Some, None, Err, OnOk, OnErr, IfSome, length, slice_get, slice_index};
 ghost use Rattle.feed.specs.Added.{AddsLast, TakenBelow};
 ghost use Rattle.feed.specs.Feed.{most_inputs};
-ghost use Rattle.feed.specs.Fits.{Fits, number_from, counts_after, AreInputs};
+ghost use Rattle.feed.specs.Fits.{Fits, number_from, AreInputs};
 ghost use Rattle.feed.specs.Kept.{AreGathered, IsPlaceOf, due_from};
 ghost use Rattle.feed.specs.Merged.{merged, due, when_come};
 ghost use Rattle.feed.specs.Order.{IsInOrder};
@@ -86,7 +86,6 @@ impl Feed {
     ) -> Option<(Input, Option<usize>)>
         ensures same { self.new ≡ self.old }
         ensures value { Fits self.old taken counts.now → result ≡ due self.old taken cycles }
-        ensures fits { Fits self.old taken counts.now → IfSome result (λ given. Fits self.old (taken + 1) (counts_after counts.now given.1)) }
         ensures room { Fits self.old taken counts.now → IfSome result (λ given. taken < 2 ^ 63) }
         ensures small { Fits self.old taken counts.now → (j : ℕ) → slice_index counts.now j < 10 ^ 9 }
         ensures series { IfSome result (λ given. IfSome given.1 (λ j. j < 16)) }
@@ -102,6 +101,7 @@ impl Feed {
     pub fn add(&mut self, cycle: u64, input: Input) -> Result<(), AddFault>
         ensures added { OnOk result (AddsLast self.old cycle input self.new) }
         ensures fits { OnOk result ((taken : ℕ) → (counts : List ℕ) → TakenBelow self.old taken cycle → Fits self.old taken counts → Fits self.new taken counts) }
+        ensures later { OnOk result ((k : ℕ) → (cycles : ℕ) → cycles < cycle → due self.new k cycles ≡ due self.old k cycles) }
         ensures unchanged { OnErr result (self.new ≡ self.old) }
         ensures room { OnOk result (number_from None self.old < most_inputs) }
         ensures full { result ≡ Err AddFault.TooMany → most_inputs ≤ number_from None self.old }

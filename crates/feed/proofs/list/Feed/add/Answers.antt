@@ -6,6 +6,7 @@ use Rattle.feed.specs.Merged.{merged}
 use Rattle.feed.specs.declared.entry.Entry.{Entry}
 use Rattle.feed.specs.declared.entry.Plain.{Plain}
 use Rattle.feed.proofs.FitLaws.{fits-adds}
+use Rattle.feed.proofs.DueLaws.{due-adds}
 use Rattle.feed.proofs.AddLaws.{gathered-adds, feed-added, number-plain}
 use Rattle.feed.proofs.GrowLaws.{are_inputs}
 use Rattle.feed.proofs.list.Feed.add.Goals as goal
@@ -43,5 +44,12 @@ returns-in-Ok-clause-room c =
 pub returns-in-Ok-clause-fits : goal.returns-in-Ok-clause-fits
 returns-in-Ok-clause-fits c = λ taken counts below f. fits-adds c.args.self.now _ c.args.cycle taken c.args.input counts (adds-last c) below f
 
+of-feed : goal.returns-in-Ok-clause-inputs
+of-feed c = subst (λ (l : List Entry). AreInputs l) c.self.view_is (are_inputs c.self.inside.plain.items c.self.inside.sources.items c.self.inside.line c.self.invariant.gathered)
+
+pub returns-in-Ok-clause-later : goal.returns-in-Ok-clause-later
+returns-in-Ok-clause-later c = λ k cycles below.
+    due-adds c.args.self.now _ c.args.cycle c.args.input k cycles (adds-last c) (of-feed c).order below
+
 pub returns-in-Ok-clause-inputs : goal.returns-in-Ok-clause-inputs
-returns-in-Ok-clause-inputs c = subst (λ (l : List Entry). AreInputs l) c.self.view_is (are_inputs c.self.inside.plain.items c.self.inside.sources.items c.self.inside.line c.self.invariant.gathered)
+returns-in-Ok-clause-inputs c = of-feed c

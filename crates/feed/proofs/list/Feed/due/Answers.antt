@@ -3,19 +3,13 @@ use Rattle.std.proofs.Common.{◌<◌, List, arith, length, subst, Option, IfSom
 use Rattle.feed.specs.declared.input.Input.{Input}
 use Rattle.feed.specs.declared.entry.Entry.{Entry}
 use Rattle.feed.specs.Fits.{Fits, counts_after, AreInputs}
-use Rattle.feed.proofs.FitLaws.{fits-given, counts-small, given-room, given-series}
+use Rattle.feed.proofs.FitLaws.{counts-small, given-room, given-series}
 use Rattle.feed.proofs.DueLaws.{due-at}
 use Rattle.feed.proofs.GrowLaws.{are_inputs}
 use Rattle.feed.proofs.list.Feed.due.Goals as goal
 
 pub returns-clause-value : goal.returns-clause-value
 returns-clause-value c = λ f. c.when_come.ensures ∙ sym (due-at c.args.self.now c.args.taken c.args.cycles c.next.result (c.next.ensures.entry f))
-
-pub returns-clause-fits : goal.returns-clause-fits
-returns-clause-fits c = λ f.
-    let long : length c.args.counts.now ≡ 16 = omega arith in
-    subst (λ (o : Option (Input × Option ℕ)). IfSome o (λ given. Fits c.args.self.now (c.args.taken + 1) (counts_after c.args.counts.now given.1))) (sym c.when_come.ensures)
-    (fits-given c.args.self.now c.args.taken c.args.cycles c.args.counts.now c.next.result long (c.next.ensures.entry f) f c.next.ensures.series)
 
 of-feed : goal.returns-clause-inputs
 of-feed c = subst (λ (l : List Entry). AreInputs l) c.self.view_is (are_inputs c.self.inside.plain.items c.self.inside.sources.items c.self.inside.line c.self.invariant.gathered)

@@ -1,0 +1,165 @@
+-- What a state has taken fits what runs.
+use Rattle.std.proofs.Common.{◌≡◌, ◌≤◌, ◌<◌, ◌+◌, ℕ, zero, suc, List, [], ◌∷◌, Option, Some, None, refl, arith, ◌∙◌, sym, ap, subst, inl, inr, ◌⊎◌, replicate, take}
+use Rattle.std.specs.Prelude.{IfSome, slice_get}
+use Rattle.std.proofs.lemmas.List.{get_or-replicate, length-replicate}
+use Rattle.words.specs.declared.counters.Carry.{Carry}
+use Rattle.words.specs.declared.counters.Carry.TheVariants.{No, Plus, Minus, ShiftedOut}
+use Rattle.rope.specs.Places.{Words}
+use Rattle.feed.specs.declared.input.Counter.{Counter}
+use Rattle.feed.specs.declared.input.Input.{Input}
+use Rattle.feed.specs.declared.input.Input.TheVariants.{Count, Word, Request}
+use Rattle.feed.specs.declared.entry.Entry.{Entry}
+use Rattle.feed.specs.Fits as from
+use Rattle.feed.specs.Fits.{Fits}
+use Rattle.feed.specs.Merged.{due, when_come}
+use Rattle.feed.specs.Order.{IsAmong}
+use Rattle.feed.specs.Added.{TakenBelow}
+use Rattle.feed.proofs.FitLaws.{fits-start, fits-due}
+use Rattle.feed.proofs.DueLaws.{come-later}
+use Rattle.cpu.specs.declared.output.Output.{Output}
+use Rattle.cpu.specs.State.{State, Scenario, FitsRun, most_series, start}
+use Rattle.cpu.specs.Effects.{Change, change, changes, after, dxch}
+use Rattle.cpu.specs.Effects.Change.{AtPlace, OnChannel, Inhibits, Serves, WaitsWithSum, WaitsWithWord}
+use Rattle.cpu.specs.declared.instruction.Instruction.{Instruction}
+use Rattle.cpu.specs.declared.instruction.Instruction.TheVariants.{Extend, Edrupt}
+use Rattle.cpu.specs.Next.{fetched, executed, execute, entry, entered, next_by, next}
+use Rattle.cpu.specs.Inputs as inputs
+use Rattle.cpu.specs.Inputs.{input_effect, counted, received, asked, asked_after, asked_on, carried, carries_into, stepped, step_of, count_of}
+use Rattle.cpu.specs.Run.{run}
+use Rattle.cpu.proofs.RunLaws.{counted_in, rise-take, rise-next_by, rise-run}
+
+-- how many inputs a state has taken, and how many from each series
+abbrev account : State → ℕ × List ℕ
+account s = (s.taken, s.counts)
+
+account-change : (s : State) (c : Change) → account (change s c) ≡ account s
+account-change s (AtPlace p x) = refl
+account-change s (OnChannel n x) = refl
+account-change s (Inhibits b) = refl
+account-change s (Serves b) = refl
+account-change s (WaitsWithSum x) = refl
+account-change s (WaitsWithWord w) = refl
+
+account-changes : (s : State) (cs : List Change) → account (changes s cs) ≡ account s
+account-changes s [] = refl
+account-changes s (c ∷ cs) = account-changes (change s c) cs ∙ account-change s c
+
+account-after : (rope : Words) (s : State) (instruction : Instruction) → account (after rope s instruction) ≡ account s
+unfolding after dxch
+account-after rope s Extend = refl
+account-after rope s (Edrupt n) = refl
+account-after rope s instruction = search (account-changes)
+
+account-asked : (s : State) (o : Option ℕ) → account (asked s o) ≡ account s
+account-asked s None = refl
+account-asked s (Some k) = refl
+
+account-carried : (s : State) (o : Option Counter) (carry : Carry) → account (carried s o carry) ≡ account s
+account-carried s None carry = refl
+account-carried s (Some counter) No = refl
+account-carried s (Some counter) Plus = refl
+account-carried s (Some counter) Minus = refl
+account-carried s (Some counter) ShiftedOut = refl
+
+account-effect : (s : State) (input : Input) → account (input_effect s input) ≡ account s
+unfolding counted received
+account-effect s (Count counter sequence) =
+    let step = step_of sequence (count_of s counter) in
+    account-asked _ (asked_after counter step) ∙ account-carried (stepped s counter step) (carries_into counter) step.carry
+account-effect s (Word n w) = account-asked _ (asked_on n)
+account-effect s (Request k) = refl
+
+-- an input that is taken is counted
+account-take : (s : State) (given : Input × Option ℕ) → account (inputs.take s given) ≡ (s.taken + 1, from.counts_after s.counts given.1)
+unfolding inputs.take
+account-take s given = account-effect (counted_in s given) given.0
+
+-- nothing else is
+account-next_by : (rope : Words) (s : State) (o : Option ℕ) → account (next_by rope s None o).0 ≡ account s
+unfolding entered execute executed fetched
+account-next_by rope s (Some k) = refl
+account-next_by rope s None = account-after rope _ _
+
+fits-by : (scenario : Scenario) (s t : State) → account t ≡ account s → FitsRun scenario s → FitsRun scenario t
+fits-by scenario s t e f = subst (λ (a : ℕ × List ℕ). Fits scenario.inputs a.0 a.1) (sym e) f
+
+fits-next_by : (scenario : Scenario) (s : State) (d : Option (Input × Option ℕ)) (o : Option ℕ) → IfSome d (λ given. Fits scenario.inputs (s.taken + 1) (from.counts_after s.counts given.1)) → FitsRun scenario s
+    → FitsRun scenario (next_by scenario.rope s d o).0
+fits-next_by scenario s None o given f = fits-by scenario s (next_by scenario.rope s None o).0 (account-next_by scenario.rope s o) f
+fits-next_by scenario s (Some input) o given f = subst (λ (a : ℕ × List ℕ). Fits scenario.inputs a.0 a.1) (sym (account-take s input)) given
+
+-- a step keeps the fit
+pub fits-next : (scenario : Scenario) (s : State) → FitsRun scenario s → FitsRun scenario (next scenario s).0
+unfolding next
+fits-next scenario s f =
+    fits-next_by scenario s (due scenario.inputs s.taken s.cycles) (entry s) (fits-due scenario.inputs s.taken s.cycles s.counts f) f
+
+-- a state that a step leads to
+pub fits-after : (scenario : Scenario) (s t : State) (o : Option Output) → (t, o) ≡ next scenario s → FitsRun scenario s → FitsRun scenario t
+fits-after scenario s t o e f = subst (λ (p : State × Option Output). FitsRun scenario p.0) (sym e) (fits-next scenario s f)
+
+-- the start fits whatever runs
+pub fits-at_start : (scenario : Scenario) → FitsRun scenario start
+unfolding start
+fits-at_start scenario = fits-start scenario.inputs (replicate most_series 0) (λ j b. get_or-replicate most_series j 0 0 (let l = length-replicate {A = ℕ} most_series 0 in omega (arith, l, b)))
+
+-- Every state of the reference run fits what runs.
+pub run-fits : (scenario : Scenario) (n : ℕ) → FitsRun scenario (run scenario n)
+unfolding run
+run-fits scenario zero = fits-at_start scenario
+run-fits scenario (suc n) = fits-next scenario (run scenario n) (run-fits scenario n)
+
+among-one_more : (x : Entry) (list : List Entry) (k : ℕ) → IsAmong x (take (suc k) list) → IsAmong x (take k list) ⊎ (slice_get list k ≡ Some x)
+among-one_more x [] k h = absurd h
+among-one_more x (y ∷ ys) zero (inl h) = inr (ap Some h)
+among-one_more x (y ∷ ys) zero (inr h) = absurd h
+among-one_more x (y ∷ ys) (suc k) (inl h) = inl (inl h)
+among-one_more x (y ∷ ys) (suc k) (inr h) = elim (among-one_more x ys k h) [ inl a ↦ inl (inr a) | inr b ↦ inr b ]
+
+-- the inputs taken are due no later than the state's cycles
+TakenPast : List Entry → State → Type 0
+TakenPast list s = (x : Entry) → IsAmong x (take s.taken list) → x.cycle ≤ s.cycles
+
+was_come : (cycles : ℕ) (o : Option Entry) (x : Entry) (given : Input × Option ℕ) → when_come cycles o ≡ Some given → o ≡ Some x → x.cycle ≤ cycles
+was_come cycles None x given h e = absurd (cc)
+was_come cycles (Some y) x given h e = elim (le_or_less y.cycle cycles) [
+  | inl le ↦ let same : y ≡ x = cc in subst (λ (z : Entry). z.cycle ≤ cycles) same le
+  | inr less ↦ absurd (let none = come-later cycles y less in cc)
+]
+  where
+    le_or_less : (a b : ℕ) → (a ≤ b) ⊎ (b < a)
+    le_or_less a b = grind arith
+
+past-next_by : (scenario : Scenario) (s : State) (d : Option (Input × Option ℕ)) (o : Option ℕ) → when_come s.cycles (slice_get scenario.inputs s.taken) ≡ d → TakenPast scenario.inputs s
+    → TakenPast scenario.inputs (next_by scenario.rope s d o).0
+unfolding TakenPast
+past-next_by scenario s None o is past = λ x m.
+    let same : (next_by scenario.rope s None o).0.taken ≡ s.taken = ap (λ (a : ℕ × List ℕ). a.0) (account-next_by scenario.rope s o) in
+    let p = past x (subst (λ (n : ℕ). IsAmong x (take n scenario.inputs)) same m) in
+    let rise = rise-next_by scenario.rope s None o in
+    omega (arith, p, rise)
+past-next_by scenario s (Some given) o is past = λ x m.
+    let more : (inputs.take s given).taken ≡ s.taken + 1 = ap (λ (a : ℕ × List ℕ). a.0) (account-take s given) in
+    let one : s.taken + 1 ≡ suc s.taken = omega arith in
+    let rise = rise-take s given in
+    elim (among-one_more x scenario.inputs s.taken (subst (λ (n : ℕ). IsAmong x (take n scenario.inputs)) (more ∙ one) m)) [
+      | inl before ↦ let p = past x before in omega (arith, p, rise)
+      | inr here ↦ let p = was_come s.cycles (slice_get scenario.inputs s.taken) x given is here in omega (arith, p, rise)
+    ]
+
+past-next : (scenario : Scenario) (s : State) → TakenPast scenario.inputs s → TakenPast scenario.inputs (next scenario s).0
+unfolding next due
+past-next scenario s past = past-next_by scenario s (due scenario.inputs s.taken s.cycles) (entry s) refl past
+
+past-run : (scenario : Scenario) (n : ℕ) → TakenPast scenario.inputs (run scenario n)
+unfolding run start TakenPast
+past-run scenario zero = λ x m. absurd m
+past-run scenario (suc n) = past-next scenario (run scenario n) (past-run scenario n)
+
+-- A cycle above those of step n is above the cycles of all inputs that a state up to there has taken.
+pub taken-below : (scenario : Scenario) (n t cycle : ℕ) → (run scenario n).cycles < cycle → t ≤ n → TakenBelow scenario.inputs (run scenario t).taken cycle
+unfolding TakenPast
+taken-below scenario n t cycle above few = λ x m.
+    let p = past-run scenario t x m in
+    let c = rise-run scenario t n few in
+    omega (arith, p, c)
