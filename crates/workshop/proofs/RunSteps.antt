@@ -1,14 +1,15 @@
 -- A run, step by step.
-use Rattle.std.proofs.Common.{◌≡◌, ℕ, ◌+◌, ◌*◌, ◌^◌, ◌<◌, ◌≤◌, true, false, List, [], ◌∷◌, ◌++◌, length, Option, Some, None, Result, Ok, Err, refl, sym, ap, ◌∙◌, arith, append-nil, length-append, below_more, subst, rules}
+use Rattle.std.proofs.Common.{◌≡◌, ℕ, ◌+◌, ◌^◌, ◌<◌, ◌≤◌, List, [], ◌++◌, length, Option, Some, None, refl, sym, ap, ◌∙◌, arith, append-nil, length-append, subst}
 use Rattle.std.proofs.lemmas.List.Concat.{flat_map-append}
 use Rattle.std.specs.Option.{option_to_list}
 use Rattle.words.specs.Devices.{WritesBeginning}
 use Rattle.words.proofs.Texts.{append-then, beginning-after}
 use Rattle.cpu.specs.declared.output.Output.{Output}
-use Rattle.cpu.specs.State.{Scenario, State, start}
+use Rattle.cpu.specs.State.{Scenario, State, FitsRun}
 use Rattle.cpu.specs.Next.{next}
 use Rattle.cpu.specs.Run.{run, outs}
-use Rattle.cpu.proofs.RunLaws.{run-zero, run-add-one, out-add-one, outs-zero, outs-add-one, cycles-run}
+use Rattle.cpu.proofs.RunLaws.{run-add-one, out-add-one, outs-zero, outs-add-one, cycles-run}
+use Rattle.cpu.proofs.TakenLaws.{run-fits}
 use Rattle.workshop.specs.ChannelLines.{channel_line, channel_lines}
 use Rattle.workshop.specs.Runs.{BreaksOff}
 use Rattle.workshop.specs.Steps.{outputs_after}
@@ -33,6 +34,9 @@ start_writes scenario a = rw (outs-zero scenario, lines_of_none) (sym (append-ni
 
 pub few_cycles : (scenario : Scenario) (n : ℕ) (s : State) → s ≡ run scenario n → n < 2 ^ 40 → s.cycles ≤ 2 ^ 62
 few_cycles scenario n s e h = rw e (omega (arith, cycles-run scenario n))
+
+pub fits_after : (scenario now : Scenario) (n : ℕ) (s : State) → now ≡ scenario → s ≡ run scenario n → FitsRun now s
+fits_after scenario now n s same e = rw (same, e) (run-fits scenario n)
 
 pub outs_more : (scenario : Scenario) (n : ℕ) → outs scenario (n + 1) ≡ outs scenario n ++ outputs_after scenario (run scenario n)
 outs_more scenario n =

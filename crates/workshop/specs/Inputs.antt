@@ -5,7 +5,7 @@ use Rattle.yayul.specs.declared.fault.Fault.{Fault}
 use Rattle.feed.specs.Feed.{inputs, most_bytes}
 use Rattle.feed.specs.declared.fault.FeedFault.{FeedFault}
 use Rattle.feed.specs.declared.fault.FeedFault.TheVariants as feed_fault
-use Rattle.feed.specs.declared.input.TimedInput.{TimedInput}
+use Rattle.feed.specs.declared.entry.Entry.{Entry}
 use Rattle.cpu.specs.State.{Scenario}
 use Rattle.workshop.specs.declared.fault.WorkshopFault.{WorkshopFault}
 use Rattle.workshop.specs.declared.fault.WorkshopFault.TheVariants.{NoMemory, ReadFailed, Source, Feed, TooLong}
@@ -31,7 +31,7 @@ of_feed_fault (feed_fault.WrongCounter line) = Feed (feed_fault.WrongCounter lin
 of_feed_fault feed_fault.TooLong = TooLong
 
 -- a program and inputs, or a fault of the feed
-abbrev pub of_feed : Program → Result (List TimedInput) FeedFault → Result Loaded WorkshopFault
+abbrev pub of_feed : Program → Result (List Entry) FeedFault → Result Loaded WorkshopFault
 of_feed p (Ok is) = Ok (record { program = p; feed = is })
 of_feed p (Err fault) = Err (of_feed_fault fault)
 

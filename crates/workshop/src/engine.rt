@@ -11,6 +11,7 @@ ghost use Rattle.workshop.specs.Failures.{has_read_failed, has_write_failed, fai
 ghost use Rattle.workshop.specs.Runs.{Answers};
 ghost use Rattle.workshop.specs.Steps.{Runs, outputs_after};
 ghost use Rattle.cpu.specs.Next.{next};
+ghost use Rattle.cpu.specs.State.{FitsRun};
 
 use crate::channel_line::channel_line;
 use crate::fault::WorkshopFault;
@@ -111,7 +112,8 @@ fn step_and_write<W: Write>(
     machine: &mut Machine,
     out: &mut W,
 ) -> Result<u64, WriteFailed>
-    requires { machine.old.cycles ≤ 2 ^ 62 }
+    requires cycles { machine.old.cycles ≤ 2 ^ 62 }
+    requires fits { FitsRun processor.old.scenario machine.old }
     ensures scenario { processor.new.scenario ≡ processor.old.scenario }
     ensures state { machine.new ≡ (next processor.old.scenario machine.old).0 }
     ensures count { IfOk result (λ count. count ≡ length (outputs_after processor.old.scenario machine.old)) }

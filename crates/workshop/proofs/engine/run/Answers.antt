@@ -5,22 +5,25 @@ use Rattle.cpu.proofs.RunLaws.{run-zero, outs-zero}
 use Rattle.words.specs.Devices.{WritesBeginning}
 use Rattle.workshop.specs.ChannelLines.{channel_lines}
 use Rattle.workshop.specs.Steps.{outputs_after}
-use Rattle.workshop.proofs.RunSteps.{start_writes, few_cycles, breaks_off, state_more, lines_after, outputs_more}
+use Rattle.workshop.proofs.RunSteps.{start_writes, few_cycles, fits_after, breaks_off, state_more, lines_after, outputs_more}
 use Rattle.workshop.proofs.engine.run.Goals as goal
 
 pub loop-done-init : goal.loop-done-init
 loop-done-init g c =
     record {
       scenario = refl;
-      state = c.start-machine.ensures ∙ sym (run-zero c.args.processor.now.scenario);
+      state = c.start-machine.ensures.start ∙ sym (run-zero c.args.processor.now.scenario);
       written = λ told. start_writes c.args.processor.now.scenario _;
       failures = refl;
       outputs = rw (outs-zero c.args.processor.now.scenario) refl;
       few_outputs = omega arith;
     }
 
-pub step_and_write-requires : goal.step_and_write-requires
-step_and_write-requires g c = few_cycles _ c.loop-done._done _ c.loop-done.invariant.state (omega arith)
+pub step_and_write-requires-clause-cycles : goal.step_and_write-requires-clause-cycles
+step_and_write-requires-clause-cycles g c = few_cycles _ c.loop-done._done _ c.loop-done.invariant.state (omega arith)
+
+pub step_and_write-requires-clause-fits : goal.step_and_write-requires-clause-fits
+step_and_write-requires-clause-fits g c = fits_after _ _ c.loop-done._done _ c.loop-done.invariant.scenario c.loop-done.invariant.state
 
 pub returns-in-Err-clause-runs : goal.returns-in-Err-clause-runs
 returns-in-Err-clause-runs g c = λ told.
