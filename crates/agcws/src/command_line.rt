@@ -87,7 +87,11 @@ const RUN_HELP: &str = "Files:
           CYCLE CHAN CHANNEL WORD     a word on an input channel, in octal
           CYCLE RUPT K                interrupt K is asked for, 1 to 10
           CYCLE COUNTER SEQUENCE      a pulse, as 100 TIME3 PINC
-        CYCLE and K are decimal.
+        and at most 16 series, each one input COUNT times:
+          EVERY FIRST NUM DEN COUNT, and an input without its CYCLE
+        Input I of it, from 0 on, comes at FIRST + (I * NUM) / DEN, rounded
+        down: EVERY 0 2560 3 600 TIME3 PINC is a pulse each 10 ms for 6 s.
+        CYCLE, K and the numbers of a series are decimal.
   Both are ASCII text of at most 8388608 bytes.
 
 Output: one line for each word written to a channel, as

@@ -1,7 +1,8 @@
 //! The processor: fixed memory, the inputs, and the count of steps.
 
-ghost use Rattle.std.specs.Prelude.{◌≡◌, ◌+◌, ◌-◌, ◌<◌, ◌≤◌, ◌^◌, min, ℕ, Some, None, Err, OnOk, OnErr};
+ghost use Rattle.std.specs.Prelude.{◌≡◌, true, false, ◌+◌, ◌-◌, ◌<◌, ◌≤◌, ◌^◌, min, ℕ, Some, None, Err, OnOk, OnErr};
 ghost use Rattle.feed.specs.Added.{TakenBelow};
+ghost use Rattle.feed.specs.Merged.{due};
 ghost use Rattle.cpu.specs.State.{State, FitsRun};
 ghost use Rattle.cpu.specs.Additions.{AddsInput, AreAlikeUpTo, plain_inputs, most_plain_inputs};
 ghost use Rattle.cpu.specs.Run.{run};
@@ -63,13 +64,10 @@ impl Processor {
         ensures fits { machine.old.cycles ≤ most_cycles → FitsRun self.old.scenario machine.old → FitsRun self.old.scenario machine.new }
     {
         self.meter = self.meter.saturating_add(1);
-        let cycles = machine.cycles();
-        if cycles > MOST_CYCLES {
+        if machine.cycles() > MOST_CYCLES {
             return None;
         }
-        let due = self.feed.due(machine.taken(), machine.counts(), cycles);
-        if let Some((input, series)) = due {
-            machine.take(input, series);
+        if self.take_input(machine) {
             return None;
         }
         if let Some(request) = machine.entry() {
@@ -77,6 +75,39 @@ impl Processor {
             return None;
         }
         machine.execute(&self.rope)
+    }
+
+    /// Takes the next input where it is due, and tells whether it was.
+    fn take_input(&mut self, machine: &mut Machine) -> bool
+        requires { machine.old.cycles ≤ most_cycles }
+        ensures same { self.new ≡ self.old }
+        ensures none { result ≡ false → machine.new ≡ machine.old }
+        ensures known { FitsRun self.old.scenario machine.old → result ≡ false → due self.old.scenario.inputs machine.old.taken machine.old.cycles ≡ None }
+        ensures next { FitsRun self.old.scenario machine.old → result ≡ true → (machine.new, None) ≡ next self.old.scenario machine.old }
+    {
+        if self.feed.is_none_due(machine.taken(), machine.cycles()) {
+            return false;
+        }
+        self.take_due(machine)
+    }
+
+    /// The same, where it is not known that none is due. It stands apart, so that most steps have none of its locals.
+    #[cold]
+    #[inline(never)]
+    #[tactic(auto, unfolding(crate::specs::Next::next))]
+    fn take_due(&mut self, machine: &mut Machine) -> bool
+        requires { machine.old.cycles ≤ most_cycles }
+        ensures same { self.new ≡ self.old }
+        ensures none { result ≡ false → machine.new ≡ machine.old }
+        ensures known { FitsRun self.old.scenario machine.old → result ≡ false → due self.old.scenario.inputs machine.old.taken machine.old.cycles ≡ None }
+        ensures next { FitsRun self.old.scenario machine.old → result ≡ true → (machine.new, None) ≡ next self.old.scenario machine.old }
+    {
+        let due = self.feed.due(machine.taken(), machine.counts(), machine.cycles());
+        if let Some((input, series)) = due {
+            machine.take(input, series);
+            return true;
+        }
+        false
     }
 
     /// Adds an input at a cycle, after all inputs of that cycle. An input at a cycle above those of a step changes no state and

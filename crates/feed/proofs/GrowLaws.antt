@@ -170,3 +170,7 @@ are_inputs plain series line g = record {
   plainly = let n = number-plain plain series g.sources in let f = g.plainly in omega (arith, n, f);
   serially = λ j. subst (λ (l : List Entry). length l < 10 ^ 9) (sym (source-merged plain series (Some j) g.sources)) (entries-at series j g.sources.rules);
 }
+
+-- what the inputs of a feed are, seen as its list
+pub inputs-of : (plain : List Plain) (series : List Series) (line : ℕ) (list : List Entry) → AreGathered plain series line → merged plain series ≡ list → AreInputs list
+inputs-of plain series line list g same = subst (λ (l : List Entry). AreInputs l) same (are_inputs plain series line g)

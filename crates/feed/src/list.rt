@@ -1,6 +1,6 @@
 //! The inputs of a run.
 
-ghost use Rattle.std.specs.Prelude.{◌≡◌, ◌≤◌, ◌<◌, ◌+◌, ◌^◌, ℕ, List, [], Some, None, Err, OnOk, OnErr, IfSome, length, slice_get, slice_index};
+ghost use Rattle.std.specs.Prelude.{◌≡◌, ◌≤◌, ◌<◌, ◌+◌, ◌^◌, ℕ, List, [], true, Some, None, Err, OnOk, OnErr, IfSome, length, slice_get, slice_index};
 ghost use Rattle.feed.specs.Added.{AddsLast, TakenBelow};
 ghost use Rattle.feed.specs.Feed.{most_inputs};
 ghost use Rattle.feed.specs.Fits.{Fits, number_from, AreInputs};
@@ -76,6 +76,13 @@ impl Feed {
         }
     }
 
+    /// Whether it is known that no input is due for a machine that took `taken`, up to `cycles`: two comparisons.
+    pub fn is_none_due(&self, taken: usize, cycles: u64) -> bool
+        ensures { result ≡ true → due self.now taken cycles ≡ None }
+    {
+        taken == self.known && cycles < self.due_at
+    }
+
     /// The next input for a machine that took `taken`, by its counts so many from each series, where its cycle is at most
     /// `cycles`; and the number of its series, where it is from one.
     pub fn due(
@@ -91,9 +98,6 @@ impl Feed {
         ensures series { IfSome result (λ given. IfSome given.1 (λ j. j < 16)) }
         ensures inputs { AreInputs self.old }
     {
-        if taken == self.known && cycles < self.due_at {
-            return None;
-        }
         when_come(cycles, self.next(taken, counts))
     }
 
@@ -127,6 +131,7 @@ impl Feed {
         ensures same { self.new ≡ self.old }
         ensures entry { Fits self.old taken counts.now → slice_get self.old taken ≡ result }
         ensures series { IfSome result (λ e. IfSome e.series (λ j. j < 16)) }
+        ensures inputs { AreInputs self.old }
     {
         let (next, known) = next_of(&self.plain, &mut self.sources, taken, counts);
         if known {

@@ -222,3 +222,48 @@ fn input_while_a_sum_waits(rt: HostRuntime) {
         );
     }
 }
+
+/// A series beside a plain input: those of one cycle come by their lines.
+#[test]
+fn series_and_channel(rt: HostRuntime) {
+    let text = b"EVERY 3 5 2 4 TIME1 PINC\n5 CHAN 015 00021\n";
+    for (steps, ticks, key, cycles) in [
+        (4, 1, 0, 4),
+        (6, 2, 0, 6),
+        (7, 2, 0o21, 6),
+        (12, 4, 0o21, 11),
+    ] {
+        let machine = after(rt.alloc(), &[0o14000], text, steps).expect(&rt, "memory");
+        assert_eq!(rt; at(&machine, 0o25), ticks, "after {steps}");
+        assert_eq!(rt;
+            machine.channel(Chan::of_low_bits(0o15)).to_u16(),
+            key,
+            "after {steps}"
+        );
+        assert_eq!(rt; machine.cycles(), cycles, "after {steps}");
+    }
+}
+
+/// An input that is added is the last of its cycle, and changes nothing before; a copy of an earlier machine takes it too.
+#[test]
+fn added_input(rt: HostRuntime) {
+    let rope = rope_of(rt.alloc(), &[0o14000]).expect(&rt, "memory");
+    let feed = feed_of(rt.alloc(), b"3 TIME1 PINC\n").expect(&rt, "a feed");
+    let mut processor = Processor::new(rope, feed);
+    let mut machine = Machine::start();
+    let mut image = Machine::start();
+    processor.step(&mut machine);
+    machine.copy_to(&mut image);
+    processor.step(&mut machine);
+    let key = Input::Word(Chan::of_low_bits(0o15), Word::of_low_bits(0o21));
+    assert_eq!(rt; processor.add(3, key), Ok(()));
+    for stepped in [&mut machine, &mut image] {
+        for _ in 0..4 {
+            processor.step(stepped);
+        }
+        assert_eq!(rt; at(stepped, 0o25), 1);
+    }
+    assert_eq!(rt; (machine.cycles(), image.cycles()), (5, 4));
+    assert_eq!(rt; machine.channel(Chan::of_low_bits(0o15)).to_u16(), 0o21);
+    assert_eq!(rt; image.channel(Chan::of_low_bits(0o15)).to_u16(), 0o21);
+}

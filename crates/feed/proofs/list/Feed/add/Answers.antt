@@ -1,6 +1,6 @@
 use Rattle.std.proofs.Common.{◌≡◌, None, length, ap, subst, arith, List}
 use Rattle.feed.specs.Added.{AddsLast}
-use Rattle.feed.specs.Fits.{number_from, AreInputs}
+use Rattle.feed.specs.Fits.{number_from}
 use Rattle.feed.specs.Kept.{IsPlaceOf}
 use Rattle.feed.specs.Merged.{merged}
 use Rattle.feed.specs.declared.entry.Entry.{Entry}
@@ -8,7 +8,7 @@ use Rattle.feed.specs.declared.entry.Plain.{Plain}
 use Rattle.feed.proofs.FitLaws.{fits-adds}
 use Rattle.feed.proofs.DueLaws.{due-adds}
 use Rattle.feed.proofs.AddLaws.{gathered-adds, feed-added, number-plain}
-use Rattle.feed.proofs.GrowLaws.{are_inputs}
+use Rattle.feed.proofs.GrowLaws.{inputs-of}
 use Rattle.feed.proofs.list.Feed.add.Goals as goal
 
 pub returns-then-as_slice-ge-MOST_INPUTS-clause-full : goal.returns-then-as_slice-ge-MOST_INPUTS-clause-full
@@ -45,7 +45,7 @@ pub returns-in-Ok-clause-fits : goal.returns-in-Ok-clause-fits
 returns-in-Ok-clause-fits c = λ taken counts below f. fits-adds c.args.self.now _ c.args.cycle taken c.args.input counts (adds-last c) below f
 
 of-feed : goal.returns-in-Ok-clause-inputs
-of-feed c = subst (λ (l : List Entry). AreInputs l) c.self.view_is (are_inputs c.self.inside.plain.items c.self.inside.sources.items c.self.inside.line c.self.invariant.gathered)
+of-feed c = inputs-of c.self.inside.plain.items c.self.inside.sources.items c.self.inside.line c.args.self.now c.self.invariant.gathered c.self.view_is
 
 pub returns-in-Ok-clause-later : goal.returns-in-Ok-clause-later
 returns-in-Ok-clause-later c = λ k cycles below.

@@ -1,0 +1,30 @@
+# A clock of seconds: TIME3 is counted each 10 ms, and is set so that its
+# hundredth pulse overflows it. The interrupt puts the seconds on channel 13.
+
+ARUPT   EQUALS  10              # where a program keeps A while it serves an interrupt
+TIME3   EQUALS  26
+
+        SETLOC  100
+SECONDS ERASE
+
+        SETLOC  4000
+        CAF     SECOND
+        TS      TIME3
+        RELINT
+IDLE    TCF     IDLE
+
+        SETLOC  4014            # T3RUPT: four words, so that the rest stands elsewhere
+        TCF     TICK
+
+        SETLOC  4100
+TICK    XCH     ARUPT           # A is kept
+        CAF     SECOND
+        TS      TIME3
+        INCR    SECONDS
+        CA      SECONDS
+        EXTEND
+        WRITE   13
+        XCH     ARUPT           # A is as it was
+        RESUME
+
+SECOND  OCT     37634           # a hundred pulses before overflow
