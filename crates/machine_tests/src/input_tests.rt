@@ -1,10 +1,11 @@
 //! Worked examples: programs with a feed, and the machine after some steps.
 
 use crate::programs::{machine_after, rope_of};
-use cpu::{Machine, Processor};
+use cpu::{Input, Machine, Processor};
 use feed::{Feed, read};
 use space::numbers::{Chan, Eras};
 use std::alloc::Global;
+use words::Word;
 
 /// The feed of these lines.
 fn feed_of(alloc: Global, text: &[u8]) -> Option<Feed> {
@@ -244,12 +245,40 @@ fn series_and_channel(rt: HostRuntime) {
     }
 }
 
+/// A machine that was put back goes on with its own inputs, whatever another has taken since.
+#[test]
+fn series_after_going_back(rt: HostRuntime) {
+    let text = b"EVERY 3 5 2 4 TIME1 PINC\nEVERY 4 5 2 4 TIME3 PINC\n";
+    let mut processor = processor_of(rt.alloc(), &[0o14000], text).expect(&rt, "memory");
+    let mut machine = Machine::start();
+    let mut image = Machine::start();
+    for step in 0..14u8 {
+        if step == 6 {
+            machine.copy_to(&mut image);
+        }
+        processor.step(&mut machine);
+    }
+    assert_eq!(rt;
+        (at(&image, 0o25), at(&image, 0o26), image.cycles()),
+        (2, 1, 6)
+    );
+    for _ in 6..14u8 {
+        processor.step(&mut image);
+    }
+    for stepped in [&machine, &image] {
+        assert_eq!(rt;
+            (at(stepped, 0o25), at(stepped, 0o26), stepped.cycles()),
+            (4, 4, 14)
+        );
+    }
+}
+
 /// An input that is added is the last of its cycle, and changes nothing before; a copy of an earlier machine takes it too.
 #[test]
 fn added_input(rt: HostRuntime) {
-    let rope = rope_of(rt.alloc(), &[0o14000]).expect(&rt, "memory");
-    let feed = feed_of(rt.alloc(), b"3 TIME1 PINC\n").expect(&rt, "a feed");
-    let mut processor = Processor::new(rope, feed);
+    let mut processor = processor_of(rt.alloc(), &[0o14000], b"3 TIME1 PINC\n").expect(
+        &rt, "memory",
+    );
     let mut machine = Machine::start();
     let mut image = Machine::start();
     processor.step(&mut machine);
