@@ -10,6 +10,7 @@ use Rattle.feed.specs.declared.input.Input.{Input}
 use Rattle.feed.specs.declared.input.Input.TheVariants.{Count, Word, Request}
 use Rattle.feed.specs.declared.entry.Entry.{Entry}
 use Rattle.feed.specs.Fits as from
+use Rattle.feed.specs.Feed.{most_series}
 use Rattle.feed.specs.Fits.{Fits}
 use Rattle.feed.specs.Merged.{due, when_come}
 use Rattle.feed.specs.Order.{IsAmong}
@@ -17,7 +18,7 @@ use Rattle.feed.specs.Added.{TakenBelow}
 use Rattle.feed.proofs.FitLaws.{fits-start, fits-due}
 use Rattle.feed.proofs.DueLaws.{come-later}
 use Rattle.cpu.specs.declared.output.Output.{Output}
-use Rattle.cpu.specs.State.{State, Scenario, FitsRun, most_series, start}
+use Rattle.cpu.specs.State.{State, Scenario, FitsRun, start}
 use Rattle.cpu.specs.Effects.{Change, change, changes, after, dxch}
 use Rattle.cpu.specs.Effects.Change.{AtPlace, OnChannel, Inhibits, Serves, WaitsWithSum, WaitsWithWord}
 use Rattle.cpu.specs.declared.instruction.Instruction.{Instruction}

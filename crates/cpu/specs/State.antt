@@ -4,6 +4,7 @@ use Rattle.std.specs.Ordering.{nat_cmp}
 use Rattle.std.specs.FinSet as set
 use Rattle.rope.specs.Places.{Words}
 use Rattle.feed.specs.declared.entry.Entry.{Entry}
+use Rattle.feed.specs.Feed.{most_series}
 use Rattle.feed.specs.Fits.{Fits}
 use Rattle.space.specs.Cells.{Cells, zero_cells, put, program_counter}
 
@@ -37,10 +38,6 @@ pub record State : Type 0 where
 -- series' own.
 abbrev pub FitsRun : Scenario → State → Type 0
 FitsRun scenario s = Fits scenario.inputs s.taken s.counts
-
--- how many series have a count
-abbrev pub most_series : ℕ
-most_series = 16
 
 -- the first address of bank 2, where a run starts
 abbrev pub first_address : ℕ

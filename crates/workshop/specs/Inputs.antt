@@ -29,6 +29,7 @@ of_feed_fault (feed_fault.OutOfOrder line) = Feed (feed_fault.OutOfOrder line)
 of_feed_fault feed_fault.TooMany = Feed feed_fault.TooMany
 of_feed_fault (feed_fault.WrongCounter line) = Feed (feed_fault.WrongCounter line)
 of_feed_fault feed_fault.TooLong = TooLong
+of_feed_fault (feed_fault.TooManySeries line) = Feed (feed_fault.TooManySeries line)
 
 -- a program and inputs, or a fault of the feed
 abbrev pub of_feed : Program → Result (List Entry) FeedFault → Result Loaded WorkshopFault
