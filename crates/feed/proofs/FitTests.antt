@@ -1,17 +1,17 @@
 -- A test by which counts are known to fit.
 use Rattle.std.proofs.Common.{ℕ, zero, suc, ◌+◌, ◌-◌, ◌<◌, ◌≤◌, ◌≡◌, ◌≢◌, Bool, true, false, List, [], ◌∷◌, Option, Some, None, length, refl, ap, ◌∙◌, sym, arith, inl, inr, subst, filter, take, get_or, eqb, map, ◌&&◌, ◌||◌}
-use Rattle.std.specs.Prelude.{slice_get, slice_index, sum, not, set}
+use Rattle.std.specs.Prelude.{◌==◌, if◌then◌else◌, is_some, slice_get, slice_index, sum, not, set}
 use Rattle.std.proofs.Math.Seq.{take-length}
 use Rattle.feed.specs.declared.entry.Entry.{Entry}
 use Rattle.feed.specs.declared.entry.Plain.{Plain}
 use Rattle.feed.specs.declared.entry.Series.{Series}
 use Rattle.feed.specs.Merged.{is_before, merged, plain_entry, entries_of}
 use Rattle.feed.specs.Fits.{is_from, number_from, Fits}
-use Rattle.feed.specs.Heads.{source, entries_at, AreSources, IsRule, number_taken, number_before, entry_before, last_passes, next_passes, is_cut}
+use Rattle.feed.specs.Heads.{source, entries_at, AreSources, AreEnded, IsEnded, IsLeast, IsntBefore, IsntAfter, head, number_taken, last_taken, number_before, entry_before, later, passes, stands}
 use Rattle.feed.specs.Order.{NoneBefore, IsInOrder}
-use Rattle.feed.proofs.Sorting.{either_way, before-not, is_in_order, filter-yes, filter-no}
-use Rattle.feed.proofs.SourceLaws.{source-merged, in_order-entries}
-use Rattle.feed.proofs.HeadLaws.{below-more, cases_below}
+use Rattle.feed.proofs.Sorting.{either_way, before-asym, before-not, is_in_order, filter-yes, filter-no}
+use Rattle.feed.proofs.SourceLaws.{source-merged, source-in_order}
+use Rattle.feed.proofs.HeadLaws.{below-more, cases_below, isnt_itself}
 use Rattle.std.proofs.lemmas.Bool.Decides.{nat_tests}
 use Rattle.std.proofs.lemmas.List.{set-get_or}
 use Rattle.std.proofs.lemmas.Option.{slice_get_past, slice_get_within, slice_get-get_or}
@@ -74,6 +74,22 @@ fits-before plain series taken counts (Some x) a tell enough =
     fits-front all (filter (λ e. is_before e x) all) taken counts (front-before x all (is_in_order _)) (few-before x all)
     (λ s. ap length (filter-turn (is_from s) (λ e. is_before e x) all ∙ ap (filter (λ e. is_before e x)) (source-merged plain series s a)) ∙ tell s) enough
 
+-- an entry stands, and before x where that stands
+abbrev last_passes : Option Entry → Option Entry → Bool
+last_passes None o = false
+last_passes (Some last) None = true
+last_passes (Some last) (Some x) = is_before last x
+
+-- an entry isn't before x, or none stands
+abbrev next_passes : Option Entry → Option Entry → Bool
+next_passes None o = true
+next_passes (Some next) None = false
+next_passes (Some next) (Some x) = not (is_before next x)
+
+-- the last of so many entries is before x and the next isn't; where x doesn't stand, no next stands
+abbrev is_cut : ℕ → Option Entry → Option Entry → Option Entry → Bool
+is_cut number last next o = (number == 0 || last_passes last o) && next_passes next o
+
 not_before-get : (y e : Entry) (ys : List Entry) (k : ℕ) → NoneBefore y ys → slice_get ys k ≡ Some e → is_before e y ≡ false
 not_before-get y e [] k n h = absurd (cc)
 not_before-get y e (z ∷ zs) zero n h = let same : z ≡ e = cc in subst (λ (w : Entry). is_before w y ≡ false) same n.0
@@ -103,17 +119,24 @@ count-before x (y ∷ ys) (suc k) last o at h n = elim (either_way (is_before y 
 pub count-at_start : (x : Entry) (S : List Entry) → IsInOrder S → NotBeforeAt x S 0 → number_before (Some x) S ≡ 0
 count-at_start x S o h = count-none x S o h
 
-and-left : (b c : Bool) → (b && c) ≡ true → b ≡ true
+pub and-left : (b c : Bool) → (b && c) ≡ true → b ≡ true
 and-left true c e = refl
 and-left false c e = e
 
-and-right : (b c : Bool) → (b && c) ≡ true → c ≡ true
+pub and-right : (b c : Bool) → (b && c) ≡ true → c ≡ true
 and-right true c e = e
 and-right false c e = absurd (cc)
 
 or-right : (b c : Bool) → b ≡ false → (b || c) ≡ true → c ≡ true
 or-right true c h e = absurd (cc)
 or-right false c h e = e
+
+or-true : (b : Bool) → (b || true) ≡ true
+or-true true = refl
+or-true false = refl
+
+and-both : {a b : Bool} → a ≡ true → b ≡ true → (a && b) ≡ true
+and-both p q = rw (p, q) refl
 
 not-true : (b : Bool) → not b ≡ true → b ≡ false
 not-true true e = absurd (cc)
@@ -157,42 +180,122 @@ cut-counts S (suc m) last next (Some x) order l n h =
     let f = last-before x S m last order l (or-right _ _ (above-zero m) (and-left _ _ h)) (subst (λ k. NotBeforeAt x S k) (let s : suc m ≡ m + 1 = omega arith in s) e) in
     omega (arith, f)
 
--- the cut of a series, whose rule is good
-pub series-cut : (j : ℕ) (s : Series) (k : ℕ) (last next o : Option Entry) → IsRule s → last ≡ entry_before (entries_of j s) k → next ≡ slice_get (entries_of j s) k → is_cut k last next o ≡ true → number_before o (entries_of j s) ≡ k
-series-cut j s k last next o rule = cut-counts (entries_of j s) k last next o (in_order-entries j s rule)
+-- an entry is not before x; none stands where x doesn't
+abbrev IsLeastOf : Option Entry → Option Entry → Type 0
+IsLeastOf None next = next ≡ None
+IsLeastOf (Some x) next = IsntBefore x next
 
--- From the plain inputs and the first n series all entries before one entry are taken, and no other.
-pub record TakenUpTo (n : ℕ) (o : Option Entry) (plain : List Plain) (series : List Series) (taken : ℕ) (counts : List ℕ) : Type 0 where
-  pub plainly : number_before o (map plain_entry plain) ≡ taken - sum counts
-  pub serially : (j : ℕ) → j < n → number_before o (source plain series (Some j)) ≡ slice_index counts j
+later-left : (k g l : Option Entry) → IsntAfter k g → IsntAfter k (later g l)
+later-left None g l h = tt
+later-left (Some k) None l h = absurd h
+later-left (Some k) (Some g) None h = h
+later-left (Some k) (Some g) (Some l) h = elim (either_way (is_before g l)) [
+  | inl is ↦ rw is (before-not k g l h (before-asym g l is))
+  | inr isnt ↦ rw isnt h
+]
 
-pub taken-more : (n : ℕ) (o : Option Entry) (plain : List Plain) (series : List Series) (taken : ℕ) (counts : List ℕ) → TakenUpTo n o plain series taken counts
-    → number_before o (source plain series (Some n)) ≡ slice_index counts n → TakenUpTo (n + 1) o plain series taken counts
-taken-more n o plain series taken counts t h = record {
-  plainly = t.plainly;
-  serially = below-more (λ j. number_before o (source plain series (Some j)) ≡ slice_index counts j) n t.serially h;
+later-right : (g l : Option Entry) → IsntAfter l (later g l)
+later-right g None = tt
+later-right None (Some l) = isnt_itself l
+later-right (Some g) (Some l) = elim (either_way (is_before g l)) [
+  | inl is ↦ rw is (isnt_itself l)
+  | inr isnt ↦ rw isnt isnt
+]
+
+-- a source that is ended stays so by a later entry
+ended-on : (plain : List Plain) (series : List Series) (taken : ℕ) (counts : List ℕ) (g l : Option Entry) (s : Option ℕ) → IsEnded plain series taken counts g s → IsEnded plain series taken counts (later g l) s
+ended-on plain series taken counts g l s h = (h.0, later-left (last_taken plain series taken counts s) g l h.1)
+
+-- The plain inputs and the first n series are ended.
+pub record AreEndedUpTo (n : ℕ) (plain : List Plain) (series : List Series) (taken : ℕ) (counts : List ℕ) (e : Option Entry) : Type 0 where
+  pub enough : sum counts ≤ taken
+  pub beyond : (j : ℕ) → length series ≤ j → slice_index counts j ≡ 0
+  pub plainly : IsEnded plain series taken counts e None
+  pub serially : (j : ℕ) → j < n → IsEnded plain series taken counts e (Some j)
+
+-- one series more
+pub ended-more : (n : ℕ) (plain : List Plain) (series : List Series) (taken : ℕ) (counts : List ℕ) (g l : Option Entry) (s : Series) → slice_get series n ≡ Some s → l ≡ entry_before (entries_of n s) (slice_index counts n)
+    → stands (slice_index counts n) l ≡ true → AreEndedUpTo n plain series taken counts g → AreEndedUpTo (n + 1) plain series taken counts (later g l)
+ended-more n plain series taken counts g l s at is stand t =
+    let own : last_taken plain series taken counts (Some n) ≡ l = ap (λ x. entry_before (entries_at n x) (slice_index counts n)) at ∙ sym is in
+    record {
+      enough = t.enough;
+      beyond = t.beyond;
+      plainly = ended-on plain series taken counts g l None t.plainly;
+      serially = below-more (λ j. IsEnded plain series taken counts (later g l) (Some j)) n (λ j b. ended-on plain series taken counts g l (Some j) (t.serially j b))
+          (subst (λ o. (stands (slice_index counts n) o ≡ true) × IsntAfter o (later g l)) (sym own) (stand, later-right g l));
+    }
+
+-- the plain inputs
+pub ended-first : (plain : List Plain) (series : List Series) (taken k : ℕ) (counts : List ℕ) (last : Option Entry) → k ≡ taken - sum counts → last ≡ entry_before (map plain_entry plain) k → stands k last ≡ true
+    → sum counts ≤ taken → ((j : ℕ) → length series ≤ j → slice_index counts j ≡ 0) → AreEndedUpTo 0 plain series taken counts last
+ended-first plain series taken k counts last at is stand enough none = record {
+  enough = enough;
+  beyond = none;
+  plainly =
+      let own : last_taken plain series taken counts None ≡ last = ap (entry_before (map plain_entry plain)) (sym at) ∙ sym is in
+      subst (λ n. (stands n (last_taken plain series taken counts None) ≡ true) × IsntAfter (last_taken plain series taken counts None) last) at
+      (subst (λ o. (stands k o ≡ true) × IsntAfter o last) (sym own) (stand, later-right None last));
+  serially = λ j b. absurd (omega arith);
 }
 
-number_before-nil : (o : Option Entry) → number_before o [] ≡ 0
-number_before-nil None = refl
-number_before-nil (Some x) = refl
+-- one series more, as it is told
+pub ended-next : (n : ℕ) (plain : List Plain) (series : List Series) (taken : ℕ) (counts : List ℕ) (g l o : Option Entry) (s : Series) (before now : Bool) → slice_get series n ≡ Some s → l ≡ entry_before (entries_of n s) (slice_index counts n)
+    → now ≡ (before && stands (slice_index counts n) l) → o ≡ later g l → (before ≡ true → AreEndedUpTo n plain series taken counts g) → now ≡ true → AreEndedUpTo (n + 1) plain series taken counts o
+ended-next n plain series taken counts g l o s before now at is told o_is t h =
+    let both = sym told ∙ h in
+    subst (λ e. AreEndedUpTo (n + 1) plain series taken counts e) (sym o_is)
+    (ended-more n plain series taken counts g l s at is (and-right before (stands (slice_index counts n) l) both) (t (and-left before (stands (slice_index counts n) l) both)))
 
-pub none-beyond : (j : ℕ) (o : Option Entry) (plain : List Plain) (series : List Series) → length series ≤ j → number_before o (source plain series (Some j)) ≡ 0
-none-beyond j o plain series h = ap (λ s. number_before o (entries_at j s)) (slice_get_past series j h) ∙ number_before-nil o
+past-end-before : (j k : ℕ) (series : List Series) → length series ≤ j → entry_before (entries_at j (slice_get series j)) k ≡ None
+past-end-before j k series past = ap (λ x. entry_before (entries_at j x) k) (slice_get_past series j past) ∙ none k
+  where
+    none : (k : ℕ) → entry_before [] k ≡ None
+    none zero = refl
+    none (suc k) = refl
 
-pub number_at : (j : ℕ) (o : Option Entry) (plain : List Plain) (series : List Series) (s : Series) (n : ℕ) → slice_get series j ≡ Some s → number_before o (entries_of j s) ≡ n → number_before o (source plain series (Some j)) ≡ n
-number_at j o plain series s n at h = ap (λ x. number_before o (entries_at j x)) at ∙ h
+-- all are ended
+pub ended-all : (n : ℕ) (plain : List Plain) (series : List Series) (taken : ℕ) (counts : List ℕ) (e : Option Entry) → length series ≤ n → AreEndedUpTo n plain series taken counts e → AreEnded plain series taken counts e
+ended-all n plain series taken counts e long t = record { enough = t.enough; ended = each }
+  where
+    each : (s : Option ℕ) → IsEnded plain series taken counts e s
+    each None = t.plainly
+    each (Some j) = elim (cases_below j n) [
+      | inl b ↦ t.serially j b
+      | inr past ↦
+          let none = past-end-before j (slice_index counts j) series (omega arith) in
+          let zero_is = t.beyond j (omega arith) in
+          rw (none, zero_is) (refl, tt)
+    ]
 
-pub fits-all : (n : ℕ) (o : Option Entry) (plain : List Plain) (series : List Series) (taken : ℕ) (counts : List ℕ) → AreSources plain series → length series ≤ n → length counts ≤ n → sum counts ≤ taken → TakenUpTo n o plain series taken counts
+passed-last : (last g o : Option Entry) (number : ℕ) → stands number last ≡ true → IsntAfter last g → passes g o ≡ true → (number == 0 || last_passes last o) ≡ true
+passed-last None g o number stand h p = stand
+passed-last (Some l) None o number stand h p = absurd h
+passed-last (Some l) (Some g) None number stand h p = or-true (number == 0)
+passed-last (Some l) (Some g) (Some x) number stand h p = elim (either_way (is_before l x)) [
+  | inl is ↦ rw is (or-true (number == 0))
+  | inr isnt ↦ absurd (let e = before-not x l g isnt h in cc)
+]
+
+isnt-passes : (o next : Option Entry) → IsLeastOf o next → next_passes next o ≡ true
+isnt-passes None next h = rw h refl
+isnt-passes (Some x) None h = refl
+isnt-passes (Some x) (Some f) h = rw h refl
+
+least-of : (heads : Option ℕ → Option Entry) (o : Option Entry) (s : Option ℕ) → IsLeast heads o → IsLeastOf o (heads s)
+least-of heads None s h = h s
+least-of heads (Some e) s h = h.1 s
+
+-- Where the last entry that was taken is before the next one, the counts fit.
+pub fits-ended : (plain : List Plain) (series : List Series) (taken : ℕ) (counts : List ℕ) (g o : Option Entry) → AreSources plain series → IsLeast (head plain series taken counts) o → AreEnded plain series taken counts g → passes g o ≡ true
     → Fits (merged plain series) taken counts
-fits-all n o plain series taken counts a long many enough t = fits-before plain series taken counts o a from-each enough
+fits-ended plain series taken counts g o a least t p = fits-before plain series taken counts o a from-each t.enough
   where
     from-each : (s : Option ℕ) → number_before o (source plain series s) ≡ number_taken taken counts s
-    from-each None = t.plainly
-    from-each (Some j) = elim (cases_below j n) [
-      | inl b ↦ t.serially j b
-      | inr past ↦ none-beyond j o plain series (omega arith) ∙ sym (past-counts counts j (omega arith))
-    ]
+    from-each s =
+        cut-counts (source plain series s) (number_taken taken counts s) (last_taken plain series taken counts s) (head plain series taken counts s) o (source-in_order plain series s a) refl refl
+        (and-both (passed-last (last_taken plain series taken counts s) g o (number_taken taken counts s) (t.ended s).0 (t.ended s).1 p)
+        (isnt-passes o (head plain series taken counts s) (least-of (head plain series taken counts) o s least)))
 
 pub same-set : (xs ys : List Series) (i : ℕ) (x y : Series) → xs ≡ ys → y ≡ get_or xs i x → set xs i y ≡ ys
 same-set xs ys i x y e p = ap (set xs i) p ∙ set-get_or xs i x ∙ e

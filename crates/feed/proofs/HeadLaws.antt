@@ -38,7 +38,7 @@ isnt_before-later : (e f : Entry) (o : Option Entry) → is_before f e ≡ true 
 isnt_before-later e f None h k = tt
 isnt_before-later e f (Some g) h k = before-not f e g (before-asym f e h) k
 
-isnt_itself : (e : Entry) → is_before e e ≡ false
+pub isnt_itself : (e : Entry) → is_before e e ≡ false
 isnt_itself e = elim (either_way (is_before e e)) [ inl is ↦ before-asym e e is | inr isnt ↦ isnt ]
 
 is_itself : (e : Entry) (o : Option Entry) → o ≡ Some e → IsntBefore e o

@@ -1,5 +1,5 @@
 -- The sources of a feed's inputs, and the first entry of each that was not taken.
-use Rattle.std.specs.Prelude.{ℕ, zero, suc, true, not, ◌==◌, ◌&&◌, ◌||◌, ◌-◌, ◌<◌, ◌^◌, if◌then◌else◌, ◌≡◌, Bool, false, List, [], map, Option, Some, None, IfSome, slice_get, slice_index, sum, length, filter}
+use Rattle.std.specs.Prelude.{ℕ, zero, suc, true, not, ◌==◌, ◌&&◌, ◌||◌, ◌-◌, ◌<◌, ◌^◌, if◌then◌else◌, ◌≡◌, Bool, false, List, [], map, Option, Some, None, IfSome, is_some, ◌≤◌, slice_get, slice_index, sum, length, filter}
 use Rattle.feed.specs.declared.entry.Entry.{Entry}
 use Rattle.feed.specs.declared.entry.Plain.{Plain}
 use Rattle.feed.specs.declared.entry.Series.{Series}
@@ -45,27 +45,46 @@ abbrev pub entry_before : List Entry → ℕ → Option Entry
 entry_before list zero = None
 entry_before list (suc k) = slice_get list k
 
--- an entry stands, and before x where that stands
-abbrev pub last_passes : Option Entry → Option Entry → Bool
-last_passes None o = false
-last_passes (Some last) None = true
-last_passes (Some last) (Some x) = is_before last x
-
--- an entry isn't before x, or none stands
-abbrev pub next_passes : Option Entry → Option Entry → Bool
-next_passes None o = true
-next_passes (Some next) None = false
-next_passes (Some next) (Some x) = not (is_before next x)
-
--- the last of so many entries is before x and the next isn't; where x doesn't stand, no next stands
-abbrev pub is_cut : ℕ → Option Entry → Option Entry → Option Entry → Bool
-is_cut number last next o = (number == 0 || last_passes last o) && next_passes next o
-
 -- the earlier of two entries that may stand
 abbrev pub earlier : Option Entry → Option Entry → Option Entry
 earlier None o = o
 earlier (Some e) None = Some e
 earlier (Some e) (Some f) = if is_before f e then Some f else Some e
+
+-- the later of two entries that may stand
+abbrev pub later : Option Entry → Option Entry → Option Entry
+later None o = o
+later (Some e) None = Some e
+later (Some e) (Some f) = if is_before e f then Some f else Some e
+
+-- an entry is before another, where both stand
+abbrev pub passes : Option Entry → Option Entry → Bool
+passes None o = true
+passes (Some last) None = true
+passes (Some last) (Some next) = is_before last next
+
+-- an entry stands, where any were taken
+abbrev pub stands : ℕ → Option Entry → Bool
+stands number last = number == 0 || is_some last
+
+-- an entry is not after another: where it stands, that stands too and is not before it
+abbrev pub IsntAfter : Option Entry → Option Entry → Type 0
+IsntAfter None o = Unit {0}
+IsntAfter (Some e) None = ⊥
+IsntAfter (Some e) (Some f) = is_before f e ≡ false
+
+-- the last entry of a source that was taken
+abbrev pub last_taken : List Plain → List Series → ℕ → List ℕ → Option ℕ → Option Entry
+last_taken plain series taken counts s = entry_before (source plain series s) (number_taken taken counts s)
+
+-- of a source as many entries stand as were taken, and the last of these is not after e
+abbrev pub IsEnded : List Plain → List Series → ℕ → List ℕ → Option Entry → Option ℕ → Type 0
+IsEnded plain series taken counts e s = (stands (number_taken taken counts s) (last_taken plain series taken counts s) ≡ true) × IsntAfter (last_taken plain series taken counts s) e
+
+-- So many were taken in all as the counts add up to at least, and each source is ended by e.
+pub record AreEnded (plain : List Plain) (series : List Series) (taken : ℕ) (counts : List ℕ) (e : Option Entry) : Type 0 where
+  pub enough : sum counts ≤ taken
+  pub ended : (s : Option ℕ) → IsEnded plain series taken counts e s
 
 -- An entry is the head of its source, and no head of the plain inputs and the first n series is before it; or there is
 -- none, as there is no such head.

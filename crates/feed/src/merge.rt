@@ -1,12 +1,11 @@
 //! The next entry of several sources.
 
-ghost use Rattle.std.specs.Prelude.{◌≡◌, ◌≤◌, ◌<◌, true, IfSome, length, sum, slice_get, map};
-ghost use Rattle.feed.specs.Merged.{plain_entry, merged};
+ghost use Rattle.std.specs.Prelude.{◌≡◌, ◌≤◌, ◌<◌, ◌&&◌, ℕ, true, IfSome, length, sum, slice_get, slice_index, map};
 ghost use Rattle.feed.specs.Fits.{Fits};
-ghost use Rattle.feed.specs.Heads.{AreSources, IsLeast, head, number_before};
-ghost use Rattle.feed.specs.Order.{IsInOrder};
+ghost use Rattle.feed.specs.Heads.{AreSources, AreEnded, IsLeast, head, entry_before, earlier, later, stands};
+ghost use Rattle.feed.specs.Merged.{plain_entry, merged};
 
-use crate::cut::{earlier, is_cut};
+use crate::cut::{earlier, later, passes};
 use crate::entry::{Entry, Plain};
 use crate::source::Source;
 
@@ -40,69 +39,86 @@ fn plain_head(plain: &[Plain], index: usize) -> Option<Entry>
     }
 }
 
-// Whether the first `number` plain inputs are those before an entry, or all where it doesn't stand.
-fn plain_are_before(plain: &[Plain], number: usize, next: &Option<Entry>) -> bool
-    requires { IsInOrder (map plain_entry plain.now) }
-    ensures { result ≡ true → number_before next.now (map plain_entry plain.now) ≡ number }
+// The plain input before number `index`, where it stands.
+fn plain_before(plain: &[Plain], index: usize) -> Option<Entry>
+    ensures { result ≡ entry_before (map plain_entry plain.now) index }
 {
-    let last = if number == 0 {
+    if index == 0 {
         None
     } else {
-        plain_head(plain, number - 1)
-    };
-    is_cut(number, last, plain_head(plain, number), next)
+        plain_head(plain, index - 1)
+    }
 }
 
-// The least of the first entries that were not taken.
-fn least(
+// Whether nothing is counted from a number on.
+fn none_from(counts: &[u32; MOST_SERIES], from: usize) -> bool
+    ensures { result ≡ true → (j : ℕ) → from ≤ j → slice_index counts.now j ≡ 0 }
+{
+    for index in from..MOST_SERIES {
+        if counts[index] != 0 {
+            return false;
+        }
+    }
+    true
+}
+
+/// What a look at some of the sources tells: the first of their entries that were not taken, the last of those that were,
+/// and whether of each source as many stand as were taken.
+#[derive(Clone, Copy, Drop)]
+struct Looked {
+    next: Option<Entry>,
+    last: Option<Entry>,
+    stand: bool,
+}
+
+impl Looked {
+    // What a look at one source more tells, of which so many were taken.
+    fn with(self, number: usize, last: Option<Entry>, next: Option<Entry>) -> Looked
+        ensures next { result.next ≡ earlier self.next next }
+        ensures last { result.last ≡ later self.last last }
+        ensures stand { result.stand ≡ (self.stand && stands number last) }
+    {
+        Looked {
+            next: earlier(self.next, next),
+            last: later(self.last, last),
+            stand: self.stand && (number == 0 || last.is_some()),
+        }
+    }
+}
+
+// Looks at each source once.
+fn look(
     plain: &[Plain],
     sources: &mut [Source],
     taken: usize,
     counts: &[u32; MOST_SERIES],
-) -> Option<Entry>
+) -> Looked
     requires { length sources.old ≤ 16 }
     ensures same { sources.new ≡ sources.old }
-    ensures least { IsLeast (head plain.now sources.old taken counts.now) result }
-{
-    let mut least = plain_head(plain, taken.saturating_sub(total(counts)));
-    for index in 0..sources.len() {
-        least = earlier(least, sources[index].head(index, counts[index]));
-    }
-    least
-}
-
-// Whether the counts are known to fit: from each source all entries before the next one are taken, and no other.
-fn fits(
-    plain: &[Plain],
-    sources: &mut [Source],
-    taken: usize,
-    counts: &[u32; MOST_SERIES],
-    next: &Option<Entry>,
-) -> bool
-    requires few { length sources.old ≤ 16 }
-    requires sources { AreSources plain.now sources.old }
-    ensures same { sources.new ≡ sources.old }
-    ensures fits { result ≡ true → Fits (merged plain.now sources.old) taken counts.now }
+    ensures next { IsLeast (head plain.now sources.old taken counts.now) result.next }
+    ensures last { result.stand ≡ true → AreEnded plain.now sources.old taken counts.now result.last }
 {
     let total = total(counts);
-    if total > taken {
-        return false;
-    }
-    let mut fits = plain_are_before(plain, taken - total, next);
+    let number = taken.saturating_sub(total);
+    let known = total <= taken && none_from(counts, sources.len());
+    let none = Looked {
+        next: None,
+        last: None,
+        stand: known,
+    };
+    let mut looked = none.with(
+        number,
+        plain_before(plain, number),
+        plain_head(plain, number),
+    );
     for index in 0..sources.len() {
-        if !sources[index].are_before(index, counts[index], next) {
-            fits = false;
-        }
+        let (last, next) = sources[index].look(index, counts[index]);
+        looked = looked.with(counts[index] as usize, last, next);
     }
-    for index in sources.len()..MOST_SERIES {
-        if counts[index] != 0 {
-            fits = false;
-        }
-    }
-    fits
+    looked
 }
 
-// The next entry for a machine whose counts fit; and whether they are known to.
+// The next entry for a machine whose counts fit; and whether they are known to: all that it took is before that entry.
 pub(crate) fn next_of(
     plain: &[Plain],
     sources: &mut [Source],
@@ -116,7 +132,7 @@ pub(crate) fn next_of(
     ensures series { IfSome result.0 (λ e. IfSome e.series (λ j. j < 16)) }
     ensures fits { result.1 ≡ true → Fits (merged plain.now sources.old) taken counts.now }
 {
-    let next = least(plain, sources, taken, counts);
-    let known = fits(plain, sources, taken, counts, &next);
-    (next, known)
+    let looked = look(plain, sources, taken, counts);
+    let known = looked.stand && passes(&looked.last, &looked.next);
+    (looked.next, known)
 }

@@ -1,10 +1,9 @@
 //! A series, with the cycles that were told last.
 
-ghost use Rattle.std.specs.Prelude.{◌≡◌, ◌-◌, true, slice_get};
+ghost use Rattle.std.specs.Prelude.{◌≡◌, ◌-◌, slice_get};
 ghost use Rattle.feed.specs.Merged.{cycle_of, entries_of};
-ghost use Rattle.feed.specs.Heads.{IsRule, number_before};
+ghost use Rattle.feed.specs.Heads.{IsRule, entry_before};
 
-use crate::cut::is_cut;
 use crate::entry::{Entry, Series};
 use crate::input::Input;
 use crate::request::Request;
@@ -46,7 +45,7 @@ impl Source {
     }
 
     // The cycles of entry `number` and of the one before it.
-    fn look(&mut self, number: u32) -> (u64, u64)
+    fn cycles(&mut self, number: u32) -> (u64, u64)
         ensures same { self.new ≡ self.old }
         ensures cycle { result.0 ≡ cycle_of self.old number }
         ensures last { result.1 ≡ cycle_of self.old (number - 1) }
@@ -63,28 +62,20 @@ impl Source {
         (self.cycle, self.before)
     }
 
-    // Entry `number`, where it stands.
-    pub(crate) fn head(&mut self, index: usize, number: u32) -> Option<Entry>
+    // The entry before entry `number`, and that, where they stand.
+    pub(crate) fn look(&mut self, index: usize, number: u32) -> (Option<Entry>, Option<Entry>)
         ensures same { self.new ≡ self.old }
-        ensures head { result ≡ slice_get (entries_of index self.old) number }
+        ensures last { result.0 ≡ entry_before (entries_of index self.old) number }
+        ensures next { result.1 ≡ slice_get (entries_of index self.old) number }
     {
-        let (cycle, _) = self.look(number);
-        series_entry(index, &self.rule, number, cycle)
-    }
-
-    // Whether the first `number` entries are those before an entry, or all where it doesn't stand.
-    pub(crate) fn are_before(&mut self, index: usize, number: u32, next: &Option<Entry>) -> bool
-        ensures same { self.new ≡ self.old }
-        ensures before { result ≡ true → number_before next.now (entries_of index self.old) ≡ number }
-    {
-        let (cycle, before) = self.look(number);
-        let first = series_entry(index, &self.rule, number, cycle);
+        let (cycle, before) = self.cycles(number);
+        let next = series_entry(index, &self.rule, number, cycle);
         let last = if number == 0 {
             None
         } else {
             series_entry(index, &self.rule, number - 1, before)
         };
-        is_cut(number as usize, last, first, next)
+        (last, next)
     }
 }
 
