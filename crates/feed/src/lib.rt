@@ -10,8 +10,6 @@ mod merge;
 mod names;
 mod reading;
 pub mod request;
-#[cfg(test)]
-mod series_tests;
 mod source;
 mod statement;
 

@@ -2,7 +2,7 @@
 
 use feed::input::{Counter, Input, Sequence};
 use feed::request::Request;
-use feed::{Feed, FeedFault, MOST_BYTES, read};
+use feed::{Feed, FeedFault, MOST_BYTES, MOST_SERIES, read};
 use space::numbers::Chan;
 use std::alloc::{AllocError, Global};
 use words::Word;

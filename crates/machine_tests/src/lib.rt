@@ -9,3 +9,5 @@ mod input_tests;
 mod instruction_tests;
 #[cfg(test)]
 mod programs;
+#[cfg(test)]
+mod series_tests;

@@ -1,5 +1,7 @@
-use super::*;
-use crate::input::{Counter, Input, Sequence};
+//! Series, inputs that are added, and lines by themselves.
+
+use feed::input::{Counter, Input, Sequence};
+use feed::{AddFault, Feed, FeedFault, LineFault, MOST_SERIES, parse_line, read};
 use space::numbers::Chan;
 use std::alloc::{AllocError, Global};
 use words::Word;
