@@ -1,0 +1,10 @@
+pub mod ImageLemmas
+pub mod FewImages
+pub mod ThinningLemmas
+pub mod SessionLemmas
+pub mod LastHitLemmas
+pub mod SlotLemmas
+pub mod CallLemmas
+pub mod StepLemmas
+pub mod FloorlogLemmas
+pub mod StayingLemmas

@@ -1,0 +1,26 @@
+use Rattle.std.proofs.Common.{◌≡◌, ◌++◌, ◌∷◌, [], List, ◌+◌, map, take, get_or, ◌∙◌, sym, ap, arith, append_assoc, take_all}
+use Rattle.std.proofs.lemmas.List.{map-append, take_more}
+use Rattle.replay.specs.declared.calls.Call.{Call}
+use Rattle.replay.specs.declared.calls.Call.TheVariants.{Forward}
+use Rattle.std.specs.Fn.{FnReturnsAt}
+use Rattle.replay.specs.Calls.{Told}
+use Rattle.replay.proofs.CallLemmas.{Leads-push, travels}
+use Rattle.replay.proofs.calls.follow.Goals as goal
+
+pub loop-call-preserved : goal.loop-call-preserved
+loop-call-preserved g c =
+    let kept = c.loop-call.invariant in
+    let made = c.make.ensures in
+    let index = c.loop-call.call-index in
+    let e : Told = (get_or c.args.calls.now index Forward, made.0) in
+    let told : g.O.Observer.told c.make.new.observer ≡ g.O.Observer.told c.args.observer.now ++ (kept.0 ++ e ∷ []) =
+    made.1 ∙ ap (λ (before : List Told). before ++ e ∷ []) kept.1 ∙ append_assoc (g.O.Observer.told c.args.observer.now) kept.0 (e ∷ []) in
+    let calls : map (λ (x : Told). x.0) (kept.0 ++ e ∷ []) ≡ take (index + 1) c.args.calls.now =
+    map-append (λ (x : Told). x.0) kept.0 (e ∷ []) ∙ ap (λ (before : List Call). before ++ e.0 ∷ []) kept.2 ∙ sym (take_more c.args.calls.now index Forward c.loop-call-test.true) in
+    (kept.0 ++ e ∷ [], told, calls, Leads-push g.K.Keeper.may_refuse (FnReturnsAt g.F.Fn c.args.hit.now) c.args.session.now kept.0 c.loop-call.session e c.make.new.session kept.3 made.2)
+
+pub returns-clause-travel : goal.returns-clause-travel
+returns-clause-travel g c =
+    let kept = c.loop-call.invariant in
+    let all : take c.loop-call.call-index c.args.calls.now ≡ c.args.calls.now = take_all _ _ (omega (arith, c.loop-call-test.false)) in
+    (kept.0, kept.1, travels g.K.Keeper.may_refuse (FnReturnsAt g.F.Fn c.args.hit.now) c.args.session.now c.args.calls.now kept.0 c.loop-call.session (kept.2 ∙ all) kept.3 c.steps.ensures.stands)

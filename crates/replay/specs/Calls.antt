@@ -1,0 +1,87 @@
+-- Lists of calls of a session, and the time-travel theorem.
+use Rattle.std.specs.Prelude.{◌≡◌, ℕ, ◌+◌, ◌<◌, ◌≤◌, min, Bool, true, Option, List, [], ◌∷◌, ◌++◌, map}
+use Rattle.std.specs.Option.{option_to_list}
+use Rattle.cpu.specs.declared.output.Output.{Output}
+use Rattle.cpu.specs.State.{State, Scenario}
+use Rattle.cpu.specs.Run.{run, out, outs}
+use Rattle.replay.specs.declared.refusal.Refusal.{Refusal}
+use Rattle.replay.specs.declared.refusal.Refusal.TheVariants.{NoMemory, StepLimit, NotYet}
+use Rattle.replay.specs.declared.calls.Call.{Call}
+use Rattle.replay.specs.declared.calls.Call.TheVariants.{Forward, Show, WithPresent, SeekBack}
+use Rattle.replay.specs.Memory.{Fits, step_limit}
+use Rattle.replay.specs.View.{SessionView, Stands, HasShown, counted, held}
+use Rattle.replay.specs.LastHit.{last_hit, AnswersAs, HasSought}
+
+-- what a call answered: the output of a step, a machine, a machine with the present one and what runs, the step found by a
+-- search, or a refusal
+pub data Answer : Type 0 where
+  Went : Option Output → Answer
+  Shown : State → Answer
+  ShownBeside : State → State → Scenario → Answer
+  Sought : Option ℕ → Answer
+  Refused : Refusal → Answer
+
+-- a call, and what it answered
+abbrev pub Told : Type 0
+Told = Call × Answer
+
+-- what a call of forward that went a step leaves
+pub record HasGone (old : SessionView) (answer : Option Output) (new : SessionView) : Type 0 where
+  pub step : new.n ≡ old.n + 1
+  pub output : answer ≡ out old.scenario new.n
+  pub meter : new.meter ≡ counted old.meter
+  pub scenario : new.scenario ≡ old.scenario
+  pub stands : Stands new
+
+-- when a call may be refused so; for memory only where the keeper may refuse
+abbrev pub MayRefuse : Bool → SessionView → Call → Refusal → Type 0
+MayRefuse may_refuse s Forward NoMemory = (may_refuse ≡ true) × (s.n < step_limit)
+MayRefuse may_refuse s Forward StepLimit = s.n ≡ step_limit
+MayRefuse may_refuse s (Show t) NotYet = s.n < t
+MayRefuse may_refuse s (WithPresent t) NotYet = s.n < t
+MayRefuse may_refuse s call refusal = ⊥
+
+-- what a call answers, where the session was old, and what it leaves: a refused call leaves everything as it was
+abbrev pub Answers : Bool → (State → Bool → Type 0) → SessionView → Call → Answer → SessionView → Type 0
+Answers may_refuse returns old Forward (Went output) new = HasGone old output new
+Answers may_refuse returns old (Show t) (Shown state) new = (t ≤ old.n) × (state ≡ run old.scenario t) × HasShown old t new
+Answers may_refuse returns old (WithPresent t) (ShownBeside state present scenario) new =
+    (t ≤ old.n) × (state ≡ run old.scenario t) × (present ≡ run old.scenario old.n) × (scenario ≡ old.scenario) × HasShown old t new
+Answers may_refuse returns old (SeekBack p) (Sought found) new =
+    ((is_hit : ℕ → Bool) → AnswersAs returns old.scenario (min p old.n) is_hit → found ≡ last_hit is_hit (min p old.n)) × HasSought old (min p old.n) found new
+Answers may_refuse returns old call (Refused refusal) new = MayRefuse may_refuse old call refusal × (new ≡ old)
+Answers may_refuse returns old call answer new = ⊥
+
+-- calls, each with its answer, that lead from one session to another
+abbrev pub Leads : Bool → (State → Bool → Type 0) → SessionView → List Told → SessionView → Type 0
+Leads may_refuse returns old [] new = new ≡ old
+Leads may_refuse returns old (e ∷ es) new = (between : SessionView) × Answers may_refuse returns old e.0 e.1 between × Leads may_refuse returns between es new
+
+-- the steps that an answer went, and what they put out
+abbrev pub steps_of : Answer → ℕ
+steps_of (Went output) = 1
+steps_of answer = 0
+
+abbrev pub outputs_of : Answer → List Output
+outputs_of (Went output) = option_to_list output
+outputs_of answer = []
+
+abbrev pub steps_told : List Told → ℕ
+steps_told [] = 0
+steps_told (e ∷ es) = steps_of e.1 + steps_told es
+
+abbrev pub outputs_told : List Told → List Output
+outputs_told [] = []
+outputs_told (e ∷ es) = outputs_of e.1 ++ outputs_told es
+
+-- the time-travel theorem, of a session, a list of calls, what is told of them, and the session that they leave: each call is
+-- told once, in order; the present machine and the outputs are the reference run's after n steps; few machines are held; and
+-- each answer is the one that is stated of its call, in the session as the calls before it left it
+pub record TimeTravel (may_refuse : Bool) (returns : State → Bool → Type 0) (old : SessionView) (calls : List Call) (events : List Told) (new : SessionView) : Type 0 where
+  pub told : map (λ e. e.0) events ≡ calls
+  pub scenario : new.scenario ≡ old.scenario
+  pub steps : new.n ≡ old.n + steps_told events
+  pub present : new.present ≡ run old.scenario new.n
+  pub outputs : outs old.scenario new.n ≡ outs old.scenario old.n ++ outputs_told events
+  pub few : Fits (held new) new.n
+  pub each : Leads may_refuse returns old events new

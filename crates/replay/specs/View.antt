@@ -1,0 +1,52 @@
+-- What a session is, and what its calls leave.
+use Rattle.std.specs.Prelude.{◌≡◌, ℕ, ◌+◌, ◌-◌, ◌<◌, ◌≤◌, ◌^◌, List, length, All, min}
+use Rattle.cpu.specs.State.{State, Scenario}
+use Rattle.cpu.specs.Run.{run}
+use Rattle.replay.specs.Images.{Image, steps}
+use Rattle.replay.specs.Memory.{Fits, step_limit}
+use Rattle.replay.specs.Spacing.{AreStaying}
+
+-- what a session is seen as: what it runs, the steps made so far by its processor's meter, the images that its keeper
+-- holds, the present machine, the shown one, and the number of steps that it has gone
+pub record SessionView : Type 0 where
+  pub scenario : Scenario
+  pub meter : ℕ
+  pub images : List Image
+  pub present : State
+  pub shown : State
+  pub n : ℕ
+
+-- how many machines a session holds: the images, the present and the shown one
+abbrev pub held : SessionView → ℕ
+held s = length s.images + 2
+
+-- a meter after one step more
+abbrev pub counted : ℕ → ℕ
+counted meter = min (meter + 1) (2 ^ 128 - 1)
+
+-- what holds of a session whenever a call has returned: the present machine is the reference run's after n steps, and few
+-- machines are held
+pub record Stands (s : SessionView) : Type 0 where
+  pub within : s.n ≤ step_limit
+  pub present : s.present ≡ run s.scenario s.n
+  pub few : Fits (held s) s.n
+
+-- each image is the state of the run at its step
+abbrev pub AreOfRun : Scenario → List Image → Type 0
+AreOfRun scenario images = All (λ i. i.1 ≡ run scenario i.0) images
+
+-- what every session keeps
+pub record IsSound (s : SessionView) : Type 0 where
+  pub stands : Stands s
+  pub of_run : AreOfRun s.scenario s.images
+  pub staying : AreStaying s.n s.n (steps s.images)
+  pub metered : s.meter < 2 ^ 128
+
+-- what a call that shows step t leaves: only the shown machine and the meter may change, and a step before the present is
+-- reached in fewer than n - t steps
+pub record HasShown (old : SessionView) (t : ℕ) (new : SessionView) : Type 0 where
+  pub stands : Stands new
+  pub same : new ≡ record old { shown = new.shown; meter = new.meter }
+  pub unchanged : old.n ≤ t → new ≡ old
+  pub least : old.meter ≤ new.meter
+  pub cheap : t < old.n → new.meter + t < old.meter + old.n
