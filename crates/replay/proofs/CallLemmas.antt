@@ -7,7 +7,7 @@ use Rattle.cpu.specs.declared.output.Output.{Output}
 use Rattle.replay.specs.declared.calls.Call.{Call}
 use Rattle.replay.specs.declared.calls.Call.TheVariants.{Forward, Show, WithPresent, SeekBack}
 use Rattle.replay.specs.View.{SessionView, Stands}
-use Rattle.replay.specs.Calls.{Answer, Told, Answers, Leads, TimeTravel, steps_of, outputs_of, steps_told, outputs_told}
+use Rattle.replay.specs.Calls.{Answer, Told, Answers, Saw, Leads, TimeTravel, steps_of, outputs_of, steps_told, outputs_told}
 use Rattle.replay.specs.Calls.Answer.{Went, Shown, ShownBeside, Sought, Refused}
 
 -- what a call leaves of the run, with the steps and the outputs that it answers
@@ -81,6 +81,10 @@ keeps_told m r old (e ∷ es) new h =
 pub Leads-push : (m : Bool) (r : State → Bool → Type 0) (old : SessionView) (es : List Told) (mid : SessionView) (e : Told) (new : SessionView) → Leads m r old es mid → Answers m r mid e.0 e.1 new → Leads m r old (es ++ e ∷ []) new
 Leads-push m r old [] mid e new h answers = (new, rw h at answers, refl)
 Leads-push m r old (x ∷ xs) mid e new h answers = (h.0, h.1, Leads-push m r h.0 xs mid e new h.2 answers)
+
+pub Saw-push : {O : Type 0} (sees : O → Told → O → Type 0) (old : O) (es : List Told) (mid : O) (e : Told) (new : O) → Saw sees old es mid → sees mid e new → Saw sees old (es ++ e ∷ []) new
+Saw-push sees old [] mid e new h saw = (new, rw h at saw, refl)
+Saw-push sees old (x ∷ xs) mid e new h saw = (h.0, h.1, Saw-push sees h.0 xs mid e new h.2 saw)
 
 -- the theorem, of calls that lead to a session that stands
 pub travels : (m : Bool) (r : State → Bool → Type 0) (old : SessionView) (calls : List Call) (es : List Told) (new : SessionView) → map (λ e. e.0) es ≡ calls → Leads m r old es new → Stands new → TimeTravel m r old calls es new

@@ -25,6 +25,11 @@ pub data Answer : Type 0 where
 abbrev pub Told : Type 0
 Told = Call × Answer
 
+-- an observer that was told these, one after the other
+abbrev pub Saw : {O : Type 0} → (O → Told → O → Type 0) → O → List Told → O → Type 0
+Saw sees old [] new = new ≡ old
+Saw {O} sees old (e ∷ es) new = (between : O) × sees old e between × Saw sees between es new
+
 -- what a call of forward that went a step leaves
 pub record HasGone (old : SessionView) (answer : Option Output) (new : SessionView) : Type 0 where
   pub step : new.n ≡ old.n + 1

@@ -4,7 +4,7 @@ use Rattle.replay.specs.declared.calls.Call.{Call}
 use Rattle.replay.specs.declared.calls.Call.TheVariants.{Forward}
 use Rattle.std.specs.Fn.{FnReturnsAt}
 use Rattle.replay.specs.Calls.{Told}
-use Rattle.replay.proofs.CallLemmas.{Leads-push, travels}
+use Rattle.replay.proofs.CallLemmas.{Saw-push, Leads-push, travels}
 use Rattle.replay.proofs.calls.follow.Goals as goal
 
 pub loop-call-preserved : goal.loop-call-preserved
@@ -13,11 +13,9 @@ loop-call-preserved g c =
     let made = c.make.ensures in
     let index = c.loop-call.call-index in
     let e : Told = (get_or c.args.calls.now index Forward, made.0) in
-    let told : g.O.Observer.told c.make.new.observer ≡ g.O.Observer.told c.args.observer.now ++ (kept.0 ++ e ∷ []) =
-    made.1 ∙ ap (λ (before : List Told). before ++ e ∷ []) kept.1 ∙ append_assoc (g.O.Observer.told c.args.observer.now) kept.0 (e ∷ []) in
     let calls : map (λ (x : Told). x.0) (kept.0 ++ e ∷ []) ≡ take (index + 1) c.args.calls.now =
     map-append (λ (x : Told). x.0) kept.0 (e ∷ []) ∙ ap (λ (before : List Call). before ++ e.0 ∷ []) kept.2 ∙ sym (take_more c.args.calls.now index Forward c.loop-call-test.true) in
-    (kept.0 ++ e ∷ [], told, calls, Leads-push g.K.Keeper.may_refuse (FnReturnsAt g.F.Fn c.args.hit.now) c.args.session.now kept.0 c.loop-call.session e c.make.new.session kept.3 made.2)
+    (kept.0 ++ e ∷ [], Saw-push g.O.Observer.sees c.args.observer.now kept.0 c.loop-call.observer e c.make.new.observer kept.1 made.1, calls, Leads-push g.K.Keeper.may_refuse (FnReturnsAt g.F.Fn c.args.hit.now) c.args.session.now kept.0 c.loop-call.session e c.make.new.session kept.3 made.2)
 
 pub returns-clause-travel : goal.returns-clause-travel
 returns-clause-travel g c =

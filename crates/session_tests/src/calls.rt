@@ -1,0 +1,98 @@
+//! Lists of calls.
+
+use crate::machines::five_plus_five;
+use cpu::{Machine, Output, Processor};
+use replay::{Call, Observer, Refusal, Session, SlotKeeper, follow};
+use std::test::Fail;
+
+/// An observer that notes the cycles of what it is shown, and counts the rest.
+#[derive(Drop)]
+struct Notes {
+    shown: [u64; 4],
+    shows: usize,
+    outputs: u64,
+    refusals: u64,
+    found: Option<u64>,
+}
+
+impl Notes {
+    /// Notes the cycles of a machine.
+    fn note(&mut self, machine: &Machine) {
+        if self.shows < 4 {
+            self.shown[self.shows] = machine.cycles();
+            self.shows += 1;
+        }
+    }
+}
+
+impl Observer for Notes {
+    ghost sees = { λ old told new. Unit {0} };
+
+    fn went(&mut self, output: Option<Output>) {
+        if output.is_some() {
+            self.outputs = self.outputs.wrapping_add(1);
+        }
+    }
+
+    fn shown(&mut self, _t: u64, machine: &Machine) {
+        self.note(machine);
+    }
+
+    fn shown_beside(
+        &mut self,
+        _t: u64,
+        machine: &Machine,
+        present: &Machine,
+        _processor: &Processor,
+    ) {
+        self.note(machine);
+        self.note(present);
+    }
+
+    fn sought(&mut self, _p: u64, found: Option<u64>) {
+        self.found = found;
+    }
+
+    fn refused(&mut self, _call: Call, _refusal: Refusal) {
+        self.refusals = self.refusals.wrapping_add(1);
+    }
+}
+
+#[test]
+fn calls_are_followed(rt: HostRuntime) -> Result<(), Fail> {
+    let mut session = Session::<SlotKeeper>::open(rt.alloc(), five_plus_five(rt.alloc())?)?;
+    let mut notes = Notes {
+        shown: [0; 4],
+        shows: 0,
+        outputs: 0,
+        refusals: 0,
+        found: None,
+    };
+    let calls = [
+        Call::Forward,
+        Call::Forward,
+        Call::Forward,
+        Call::Forward,
+        Call::Forward,
+        Call::Forward,
+        Call::Show(6),
+        Call::Show(7),
+        Call::Forward,
+        Call::Show(3),
+        Call::SeekBack(6),
+        Call::WithPresent(2),
+        Call::WithPresent(8),
+    ];
+    let steps = follow(
+        &mut session,
+        &calls,
+        &|machine: &Machine| machine.cycles() % 8 == 2,
+        &mut notes,
+    );
+    assert_eq!(rt; steps, 7);
+    assert_eq!(rt; notes.shown, [10, 5, 4, 12]);
+    assert_eq!(rt; notes.outputs, 1);
+    assert_eq!(rt; notes.refusals, 2);
+    assert_eq!(rt; notes.found, Some(1));
+    Ok(())
+}

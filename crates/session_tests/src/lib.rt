@@ -1,0 +1,11 @@
+//! Tests of sessions.
+#![tactic(auto)]
+
+#[cfg(test)]
+mod calls;
+#[cfg(test)]
+mod machines;
+#[cfg(test)]
+mod refusing;
+#[cfg(test)]
+mod runs;

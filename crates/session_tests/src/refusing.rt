@@ -1,0 +1,84 @@
+//! A keeper that refuses each image once.
+
+use crate::machines::{everything, expect, same};
+use cpu::Machine;
+use replay::{Keeper, Refusal, Session, VecKeeper};
+use std::alloc::Global;
+use std::test::Fail;
+
+/// A keeper that refuses each image when it is first handed over, and takes it the next time.
+#[derive(Drop)]
+struct RefusingKeeper {
+    inner: VecKeeper,
+    refused: bool,
+}
+
+impl Keeper for RefusingKeeper {
+    ghost use Rattle.std.specs.Prelude.{true};
+
+    ghost images = { λ k. k.inner.images.items };
+
+    ghost may_refuse = { true };
+
+    fn new(alloc: Global) -> Result<Self, Refusal> {
+        Ok(RefusingKeeper {
+            inner: VecKeeper::new(alloc)?,
+            refused: false,
+        })
+    }
+
+    fn before(&self, t: u64) -> Option<(u64, &Machine)> {
+        self.inner.before(t)
+    }
+
+    fn keep(&mut self, step: u64, machine: &Machine) -> Result<(), Refusal> {
+        self.refused = !self.refused;
+        if self.refused {
+            return Err(Refusal::NoMemory);
+        }
+        self.inner.keep(step, machine)
+    }
+
+    fn remove(&mut self, step: u64) {
+        self.inner.remove(step);
+    }
+
+    fn count(&self) -> usize {
+        self.inner.count()
+    }
+
+    ghost rising = { λ k. k.inner.rising };
+}
+
+#[test]
+fn refused_image_changes_nothing(rt: HostRuntime) -> Result<(), Fail> {
+    let alloc = rt.alloc();
+    let mut session = Session::<RefusingKeeper>::open(alloc, everything(alloc, 3)?)?;
+    let mut plain = everything(alloc, 3)?;
+    let mut present = Machine::start();
+    for n in 0..150u64 {
+        let held = session.held();
+        let meter = session.meter();
+        expect(
+            matches!(session.forward(), Err(Refusal::NoMemory)),
+            "a refusal",
+        )?;
+        expect(session.steps() == n, "steps")?;
+        expect(session.held() == held, "machines held")?;
+        expect(session.meter() == meter, "the meter")?;
+        let mut other = everything(alloc, 3)?;
+        let mut machine = Machine::start();
+        for t in 0..n {
+            let shown = session.show(t)?;
+            expect(same(&other, shown, &machine), "what is shown")?;
+            other.step(&mut machine);
+        }
+        expect(same(&other, session.present(), &machine), "the present")?;
+        expect(
+            session.forward()? == plain.step(&mut present),
+            "the same call with memory",
+        )?;
+        expect(session.steps() == n + 1, "one step more")?;
+    }
+    Ok(())
+}

@@ -1,0 +1,176 @@
+//! Sessions that go forward and back.
+
+use crate::machines::{everything, expect, five_plus_five, same};
+use cpu::Machine;
+use replay::{Keeper, Refusal, Session, SlotKeeper, VecKeeper};
+use space::numbers::Chan;
+use std::alloc::Global;
+use std::test::Fail;
+
+/// At each step up to 1,023: few machines are held, and each step is shown within its bound.
+fn images_are_few<K: Keeper>(alloc: Global) -> Result<(), Fail> {
+    let mut session = Session::<K>::open(alloc, everything(alloc, 1)?)?;
+    for n in 0..1024u64 {
+        expect(session.steps() == n, "steps")?;
+        expect(
+            session.held() <= 2 * (n + 1).ilog2() as usize + 2,
+            "machines held",
+        )?;
+        for t in 0..n {
+            let before = session.meter();
+            session.show(t)?;
+            expect(
+                session.meter().wrapping_sub(before) < u128::from(n - t),
+                "steps executed",
+            )?;
+        }
+        let before = session.meter();
+        session.show(n)?;
+        expect(session.meter() == before, "the present is shown at once")?;
+        expect(
+            matches!(session.show(n + 1), Err(Refusal::NotYet)),
+            "a later step",
+        )?;
+        session.forward()?;
+    }
+    Ok(())
+}
+
+#[test]
+fn images_held(rt: HostRuntime) -> Result<(), Fail> {
+    images_are_few::<SlotKeeper>(rt.alloc())
+}
+
+#[test]
+fn images_held_in_a_vector(rt: HostRuntime) -> Result<(), Fail> {
+    images_are_few::<VecKeeper>(rt.alloc())
+}
+
+#[test]
+fn machines_held_at_first(rt: HostRuntime) -> Result<(), Fail> {
+    let mut session = Session::<SlotKeeper>::open(rt.alloc(), five_plus_five(rt.alloc())?)?;
+    for most in [2, 4, 4, 6, 6, 6, 6, 8, 8] {
+        assert!(rt; session.held() <= most);
+        session.forward()?;
+    }
+    Ok(())
+}
+
+/// Each step forward answers what it answers in a session that shows nothing, also after step 0 was shown.
+fn shows_the_start_before_each_step<K: Keeper>(alloc: Global) -> Result<(), Fail> {
+    let mut plain = Session::<K>::open(alloc, five_plus_five(alloc)?)?;
+    let mut session = Session::<K>::open(alloc, five_plus_five(alloc)?)?;
+    let mut outputs = 0u64;
+    for _ in 0..23 {
+        let shown = session.show(0)?;
+        expect(shown.cycles() == 0, "the start")?;
+        let output = session.forward()?;
+        expect(output == plain.forward()?, "the output")?;
+        if output.is_some() {
+            outputs = outputs.wrapping_add(1);
+        }
+    }
+    expect(outputs == 4, "an output for each fourth step of five")
+}
+
+#[test]
+fn forward_after_start_was_shown(rt: HostRuntime) -> Result<(), Fail> {
+    shows_the_start_before_each_step::<SlotKeeper>(rt.alloc())?;
+    shows_the_start_before_each_step::<VecKeeper>(rt.alloc())
+}
+
+/// What it costs, in a session of 7 steps, to show steps 6, 3 and 0, and the cycles there.
+fn goes_back_and_forth<K: Keeper>(alloc: Global) -> Result<(), Fail> {
+    let mut session = Session::<K>::open(alloc, five_plus_five(alloc)?)?;
+    for k in 1..8u8 {
+        let output = session.forward()?;
+        expect(output.is_some() == (k == 4), "one output, at step 4")?;
+        if let Some(output) = output {
+            expect(output.cycles == 7, "cycles of the output")?;
+            expect(output.channel == Chan::of_low_bits(0o10), "its channel")?;
+            expect(output.word.to_u16() == 0o12, "its word")?;
+        }
+    }
+    expect(session.present().cycles() == 12, "the present's cycles")?;
+    for (t, cycles, bound) in [(6, 10, 1), (3, 5, 4), (0, 0, 7)] {
+        let before = session.meter();
+        expect(session.show(t)?.cycles() == cycles, "the cycles")?;
+        expect(
+            session.meter().wrapping_sub(before) < bound,
+            "steps executed",
+        )?;
+    }
+    Ok(())
+}
+
+#[test]
+fn debugger_back_and_forth(rt: HostRuntime) -> Result<(), Fail> {
+    goes_back_and_forth::<SlotKeeper>(rt.alloc())?;
+    goes_back_and_forth::<VecKeeper>(rt.alloc())
+}
+
+/// The machine of another processor after so many steps.
+fn stepped(alloc: Global, seed: u32, steps: u64) -> Result<Machine, Fail> {
+    let mut processor = everything(alloc, seed)?;
+    let mut machine = Machine::start();
+    for _ in 0..steps {
+        processor.step(&mut machine);
+    }
+    Ok(machine)
+}
+
+/// What is shown at 100 steps of a run is what another processor comes to.
+fn shows_what_was<K: Keeper>(alloc: Global, seed: u32) -> Result<(), Fail> {
+    let mut session = Session::<K>::open(alloc, everything(alloc, seed)?)?;
+    for _ in 0..10_000 {
+        session.forward()?;
+    }
+    for k in 0..100u64 {
+        let t = k * 7_919 % 10_000;
+        let expected = stepped(alloc, seed, t)?;
+        let (shown, _, processor) = session.with_present(t)?;
+        expect(same(processor, shown, &expected), "the machine shown")?;
+    }
+    let processor = everything(alloc, seed)?;
+    expect(
+        same(
+            &processor,
+            session.present(),
+            &stepped(alloc, seed, 10_000)?,
+        ),
+        "the present",
+    )
+}
+
+#[test]
+fn programs_that_execute_everything(rt: HostRuntime) -> Result<(), Fail> {
+    for seed in [7, 1_969, 65_537] {
+        shows_what_was::<SlotKeeper>(rt.alloc(), seed)?;
+    }
+    shows_what_was::<VecKeeper>(rt.alloc(), 12)
+}
+
+#[test]
+fn last_hits(rt: HostRuntime) -> Result<(), Fail> {
+    let mut session = Session::<SlotKeeper>::open(rt.alloc(), five_plus_five(rt.alloc())?)?;
+    for _ in 0..7 {
+        session.forward()?;
+    }
+    // the program comes to its second word, at cycle 2, after steps 1 and 6
+    for (p, last) in [
+        (7, Some(6)),
+        (6, Some(1)),
+        (2, Some(1)),
+        (1, None),
+        (0, None),
+    ] {
+        let before = session.steps().min(p);
+        assert_eq!(rt; before, p);
+        assert_eq!(rt;
+            session.seek_back(before, |machine| machine.cycles() % 8 == 2),
+            last
+        );
+    }
+    assert_eq!(rt; session.steps(), 7);
+    Ok(())
+}
