@@ -1,81 +1,121 @@
 -- Calls, one after the other.
-use Rattle.std.proofs.Common.{◌≡◌, ℕ, ◌+◌, Bool, List, [], ◌∷◌, ◌++◌, map, append-nil, append_assoc, refl, sym, ◌∙◌, ap, arith}
-use Rattle.cpu.specs.State.{State}
+use Rattle.std.proofs.Common.{◌≡◌, ℕ, ◌+◌, ◌≤◌, Bool, Option, List, [], ◌∷◌, ◌++◌, map, append-nil, append_assoc, refl, sym, ◌∙◌, ap, arith}
+use Rattle.std.specs.Option.{option_to_list}
+use Rattle.cpu.specs.State.{State, Scenario}
+use Rattle.cpu.specs.FeedInput.{Input}
+use Rattle.cpu.specs.FeedEntry.{Entry}
+use Rattle.cpu.specs.Additions.{AreAlikeUpTo}
 use Rattle.cpu.specs.Run.{outs}
 use Rattle.cpu.proofs.RunLaws.{outs-add-one}
 use Rattle.cpu.specs.declared.output.Output.{Output}
 use Rattle.replay.specs.declared.calls.Call.{Call}
-use Rattle.replay.specs.declared.calls.Call.TheVariants.{Forward, Show, WithPresent, SeekBack}
-use Rattle.replay.specs.View.{SessionView, Stands}
-use Rattle.replay.specs.Calls.{Answer, Told, Answers, Saw, Leads, TimeTravel, steps_of, outputs_of, steps_told, outputs_told}
-use Rattle.replay.specs.Calls.Answer.{Went, Shown, ShownBeside, Sought, Refused}
+use Rattle.replay.specs.declared.calls.Call.TheVariants.{Forward, Show, WithPresent, SeekBack, Add}
+use Rattle.replay.specs.View.{SessionView, Stands, HasAdded}
+use Rattle.replay.specs.Calls.{Answer, Told, Answers, Saw, Leads, TimeTravel, HasGone, AddsAll, steps_of, outputs_of, added_by, steps_told, outputs_told, added_told}
+use Rattle.replay.specs.Calls.Answer.{Went, Shown, ShownBeside, Sought, Added, Refused}
 
--- what a call leaves of the run, with the steps and the outputs that it answers
-record Keeps (old : SessionView) (steps : ℕ) (outputs : List Output) (new : SessionView) : Type 0 where
-  scenario : new.scenario ≡ old.scenario
+-- the same run
+alike_same : (scenario other : Scenario) (n : ℕ) → other ≡ scenario → AreAlikeUpTo scenario other n
+alike_same scenario other n e t few = rw e (record { state = refl; output = refl; outputs = refl })
+
+alike_then : (a b c : Scenario) (n m : ℕ) → n ≤ m → AreAlikeUpTo a b n → AreAlikeUpTo b c m → AreAlikeUpTo a c n
+alike_then a b c n m less p q t few =
+    let x = p t few in
+    let y = q t (omega arith) in
+    record { state = y.state ∙ x.state; output = y.output ∙ x.output; outputs = y.outputs ∙ x.outputs }
+
+AddsAll-append : (is js : List (ℕ × Input)) (old mid new : List Entry) → AddsAll is old mid → AddsAll js mid new → AddsAll (is ++ js) old new
+AddsAll-append [] js old mid new e h = rw e at h
+AddsAll-append (i ∷ is) js old mid new a h = (a.0, a.1, AddsAll-append is js a.0 mid new a.2 h)
+
+-- what a call leaves of the run, with the steps, the outputs and the inputs that it answers
+record Keeps (old : SessionView) (steps : ℕ) (outputs : List Output) (added : List (ℕ × Input)) (new : SessionView) : Type 0 where
+  rope : new.scenario.rope ≡ old.scenario.rope
+  inputs : AddsAll added old.scenario.inputs new.scenario.inputs
+  alike : AreAlikeUpTo old.scenario new.scenario old.n
   steps_are : new.n ≡ old.n + steps
-  outputs_are : outs old.scenario new.n ≡ outs old.scenario old.n ++ outputs
+  outputs_are : outs new.scenario new.n ≡ outs old.scenario old.n ++ outputs
 
-keeps_same : (old new : SessionView) → new ≡ record old { shown = new.shown; meter = new.meter } → Keeps old 0 [] new
-keeps_same old new same =
-    let n_is = ap (λ (q : SessionView). q.n) same in
-    record {
-      scenario = ap (λ (q : SessionView). q.scenario) same;
-      steps_are = omega (arith, n_is);
-      outputs_are = rw n_is (sym (append-nil (outs old.scenario old.n)));
-    }
-
-keeps_refused : (old new : SessionView) → new ≡ old → Keeps old 0 [] new
-keeps_refused old new same =
-    let n_is = ap (λ (q : SessionView). q.n) same in
-    record {
-      scenario = ap (λ (q : SessionView). q.scenario) same;
-      steps_are = omega (arith, n_is);
-      outputs_are = rw n_is (sym (append-nil (outs old.scenario old.n)));
-    }
-
-keeps_answer : (m : Bool) (r : State → Bool → Type 0) (old : SessionView) (call : Call) (answer : Answer) (new : SessionView) → Answers m r old call answer new → Keeps old (steps_of answer) (outputs_of answer) new
-keeps_answer m r old Forward (Went output) new h = record {
-  scenario = h.scenario;
-  steps_are = h.step;
-  outputs_are = rw (h.output, h.step) (outs-add-one old.scenario old.n);
+keeps_run : (old new : SessionView) → new.scenario ≡ old.scenario → new.n ≡ old.n → Keeps old 0 [] [] new
+keeps_run old new same n_is = record {
+  rope = ap (λ (q : Scenario). q.rope) same;
+  inputs = ap (λ (q : Scenario). q.inputs) same;
+  alike = alike_same old.scenario new.scenario old.n same;
+  steps_are = omega (arith, n_is);
+  outputs_are = rw (same, n_is) (sym (append-nil (outs old.scenario old.n)));
 }
+
+keeps_same : (old new : SessionView) → new ≡ record old { shown = new.shown; meter = new.meter } → Keeps old 0 [] [] new
+keeps_same old new same = keeps_run old new (ap (λ (q : SessionView). q.scenario) same) (ap (λ (q : SessionView). q.n) same)
+
+keeps_refused : (old new : SessionView) → new ≡ old → Keeps old 0 [] [] new
+keeps_refused old new same = keeps_run old new (ap (λ (q : SessionView). q.scenario) same) (ap (λ (q : SessionView). q.n) same)
+
+keeps_went : (old : SessionView) (output : Option Output) (new : SessionView) → HasGone old output new → Keeps old 1 (option_to_list output) [] new
+keeps_went old output new h = record {
+  rope = ap (λ (q : Scenario). q.rope) h.scenario;
+  inputs = ap (λ (q : Scenario). q.inputs) h.scenario;
+  alike = alike_same old.scenario new.scenario old.n h.scenario;
+  steps_are = h.step;
+  outputs_are = rw (h.scenario, h.output, h.step) (outs-add-one old.scenario old.n);
+}
+
+keeps_added : (old : SessionView) (cycle : ℕ) (input : Input) (new : SessionView) → HasAdded old cycle input new → Keeps old 0 [] ((cycle, input) ∷ []) new
+keeps_added old cycle input new h =
+    let n_is = ap (λ (q : SessionView). q.n) h.same in
+    record {
+      rope = h.rope;
+      inputs = (new.scenario.inputs, h.inputs, refl);
+      alike = h.alike;
+      steps_are = omega (arith, n_is);
+      outputs_are = rw n_is ((h.alike old.n (omega arith)).outputs ∙ sym (append-nil (outs old.scenario old.n)));
+    }
+
+keeps_answer : (m : Bool) (r : State → Bool → Type 0) (old : SessionView) (call : Call) (answer : Answer) (new : SessionView) → Answers m r old call answer new → Keeps old (steps_of answer) (outputs_of answer) (added_by call answer) new
+keeps_answer m r old Forward (Went output) new h = keeps_went old output new h
 keeps_answer m r old Forward (Shown state) new h = elim h [ ]
 keeps_answer m r old Forward (ShownBeside state present scenario) new h = elim h [ ]
 keeps_answer m r old Forward (Sought found) new h = elim h [ ]
+keeps_answer m r old Forward Added new h = elim h [ ]
 keeps_answer m r old Forward (Refused refusal) new h = keeps_refused old new h.1
 keeps_answer m r old (Show t) (Went output) new h = elim h [ ]
 keeps_answer m r old (Show t) (Shown state) new h = keeps_same old new h.2.same
 keeps_answer m r old (Show t) (ShownBeside state present scenario) new h = elim h [ ]
 keeps_answer m r old (Show t) (Sought found) new h = elim h [ ]
+keeps_answer m r old (Show t) Added new h = elim h [ ]
 keeps_answer m r old (Show t) (Refused refusal) new h = keeps_refused old new h.1
 keeps_answer m r old (WithPresent t) (Went output) new h = elim h [ ]
 keeps_answer m r old (WithPresent t) (Shown state) new h = elim h [ ]
 keeps_answer m r old (WithPresent t) (ShownBeside state present scenario) new h = keeps_same old new h.4.same
 keeps_answer m r old (WithPresent t) (Sought found) new h = elim h [ ]
+keeps_answer m r old (WithPresent t) Added new h = elim h [ ]
 keeps_answer m r old (WithPresent t) (Refused refusal) new h = keeps_refused old new h.1
 keeps_answer m r old (SeekBack p) (Went output) new h = elim h [ ]
 keeps_answer m r old (SeekBack p) (Shown state) new h = elim h [ ]
 keeps_answer m r old (SeekBack p) (ShownBeside state present scenario) new h = elim h [ ]
 keeps_answer m r old (SeekBack p) (Sought found) new h = keeps_same old new h.1.same
+keeps_answer m r old (SeekBack p) Added new h = elim h [ ]
 keeps_answer m r old (SeekBack p) (Refused refusal) new h = keeps_refused old new h.1
+keeps_answer m r old (Add cycle input) (Went output) new h = elim h [ ]
+keeps_answer m r old (Add cycle input) (Shown state) new h = elim h [ ]
+keeps_answer m r old (Add cycle input) (ShownBeside state present scenario) new h = elim h [ ]
+keeps_answer m r old (Add cycle input) (Sought found) new h = elim h [ ]
+keeps_answer m r old (Add cycle input) Added new h = keeps_added old cycle input new h.2
+keeps_answer m r old (Add cycle input) (Refused refusal) new h = keeps_refused old new h.1
 
-keeps_first : (old : SessionView) → Keeps old 0 [] old
-keeps_first old = keeps_refused old old refl
+keeps_then : (old mid new : SessionView) (i j : ℕ) (xs ys : List Output) (is js : List (ℕ × Input)) → Keeps old i xs is mid → Keeps mid j ys js new → Keeps old (i + j) (xs ++ ys) (is ++ js) new
+keeps_then old mid new i j xs ys is js a b = record {
+  rope = b.rope ∙ a.rope;
+  inputs = AddsAll-append is js old.scenario.inputs mid.scenario.inputs new.scenario.inputs a.inputs b.inputs;
+  alike = alike_then old.scenario mid.scenario new.scenario old.n mid.n (omega (arith, a.steps_are)) a.alike b.alike;
+  steps_are = omega (arith, a.steps_are, b.steps_are);
+  outputs_are = b.outputs_are ∙ ap (λ (zs : List Output). zs ++ ys) a.outputs_are ∙ append_assoc (outs old.scenario old.n) xs ys;
+}
 
-keeps_then : (old mid new : SessionView) (i j : ℕ) (xs ys : List Output) → Keeps old i xs mid → Keeps mid j ys new → Keeps old (i + j) (xs ++ ys) new
-keeps_then old mid new i j xs ys a b =
-    let here : outs old.scenario new.n ≡ outs old.scenario mid.n ++ ys = rw a.scenario at b.outputs_are in
-    record {
-      scenario = b.scenario ∙ a.scenario;
-      steps_are = omega (arith, a.steps_are, b.steps_are);
-      outputs_are = here ∙ ap (λ (zs : List Output). zs ++ ys) a.outputs_are ∙ append_assoc (outs old.scenario old.n) xs ys;
-    }
-
-keeps_told : (m : Bool) (r : State → Bool → Type 0) (old : SessionView) (es : List Told) (new : SessionView) → Leads m r old es new → Keeps old (steps_told es) (outputs_told es) new
+keeps_told : (m : Bool) (r : State → Bool → Type 0) (old : SessionView) (es : List Told) (new : SessionView) → Leads m r old es new → Keeps old (steps_told es) (outputs_told es) (added_told es) new
 keeps_told m r old [] new h = keeps_refused old new h
 keeps_told m r old (e ∷ es) new h =
-    keeps_then old h.0 new (steps_of e.1) (steps_told es) (outputs_of e.1) (outputs_told es) (keeps_answer m r old e.0 e.1 h.0 h.1) (keeps_told m r h.0 es new h.2)
+    keeps_then old h.0 new (steps_of e.1) (steps_told es) (outputs_of e.1) (outputs_told es) (added_by e.0 e.1) (added_told es) (keeps_answer m r old e.0 e.1 h.0 h.1) (keeps_told m r h.0 es new h.2)
 
 -- one call more
 pub Leads-push : (m : Bool) (r : State → Bool → Type 0) (old : SessionView) (es : List Told) (mid : SessionView) (e : Told) (new : SessionView) → Leads m r old es mid → Answers m r mid e.0 e.1 new → Leads m r old (es ++ e ∷ []) new
@@ -92,9 +132,11 @@ travels m r old calls es new told leads stands =
     let kept = keeps_told m r old es new leads in
     record {
       told = told;
-      scenario = kept.scenario;
+      rope = kept.rope;
+      inputs = kept.inputs;
+      alike = kept.alike;
       steps = kept.steps_are;
-      present = rw kept.scenario at stands.present;
+      present = stands.present;
       outputs = kept.outputs_are;
       few = stands.few;
       each = leads;

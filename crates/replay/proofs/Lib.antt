@@ -4,6 +4,7 @@ pub mod ThinningLemmas
 pub mod SessionLemmas
 pub mod LastHitLemmas
 pub mod SlotLemmas
+pub mod AddLemmas
 pub mod CallLemmas
 pub mod StepLemmas
 pub mod FloorlogLemmas

@@ -4,11 +4,12 @@ use Rattle.std.specs.List.{Contains}
 use Rattle.std.proofs.lemmas.Bool.{cases_lt}
 use Rattle.std.proofs.lemmas.List.{length-map, map-append}
 use Rattle.std.proofs.lemmas.List.Elements.{All-contains, All-push, Contains-get_or}
-use Rattle.cpu.specs.State.{State, Scenario, start}
+use Rattle.cpu.specs.State.{State, Scenario, start, FitsRun}
 use Rattle.cpu.specs.Next.{next}
 use Rattle.cpu.specs.Run.{run, out}
 use Rattle.cpu.specs.declared.output.Output.{Output}
 use Rattle.cpu.proofs.RunLaws.{run-zero, run-add-one, out-add-one, cycles-run}
+use Rattle.cpu.proofs.TakenLaws.{run-fits}
 use Rattle.replay.specs.Images.{Image, IsRising, steps}
 use Rattle.replay.specs.Memory.{Fits, step_limit}
 use Rattle.replay.specs.Spacing.{Has, AreStaying}
@@ -72,19 +73,19 @@ cycles_of s stands =
     omega (arith, cycles-run s.scenario s.n, stands.within)
 
 -- a step of the machine that stands at the state after k steps
-pub steps_on : (scenario : Scenario) (k : ℕ) (before after : State) (output : Option Output) → k < 2 ^ 40 → before ≡ run scenario k → (before.cycles ≤ 2 ^ 62 → (after, output) ≡ next scenario before) → after ≡ run scenario (k + 1)
+pub steps_on : (scenario : Scenario) (k : ℕ) (before after : State) (output : Option Output) → k < 2 ^ 40 → before ≡ run scenario k → (before.cycles ≤ 2 ^ 62 → FitsRun scenario before → (after, output) ≡ next scenario before) → after ≡ run scenario (k + 1)
 steps_on scenario k before after output low is step =
     let e = ap (λ (s : State). s.cycles) is in
-    ap (λ (p : State × Option Output). p.0) (step (omega (arith, cycles-run scenario k))) ∙ ap (λ (s : State). (next scenario s).0) is ∙ sym (run-add-one scenario k)
+    ap (λ (p : State × Option Output). p.0) (step (omega (arith, cycles-run scenario k)) (rw is (run-fits scenario k))) ∙ ap (λ (s : State). (next scenario s).0) is ∙ sym (run-add-one scenario k)
 
 -- and what it puts out
-pub puts_out : (scenario : Scenario) (k : ℕ) (before after : State) (output : Option Output) → k < 2 ^ 40 → before ≡ run scenario k → (before.cycles ≤ 2 ^ 62 → (after, output) ≡ next scenario before) → output ≡ out scenario (k + 1)
+pub puts_out : (scenario : Scenario) (k : ℕ) (before after : State) (output : Option Output) → k < 2 ^ 40 → before ≡ run scenario k → (before.cycles ≤ 2 ^ 62 → FitsRun scenario before → (after, output) ≡ next scenario before) → output ≡ out scenario (k + 1)
 puts_out scenario k before after output low is step =
     let e = ap (λ (s : State). s.cycles) is in
-    ap (λ (p : State × Option Output). p.1) (step (omega (arith, cycles-run scenario k))) ∙ ap (λ (s : State). (next scenario s).1) is ∙ sym (out-add-one scenario k)
+    ap (λ (p : State × Option Output). p.1) (step (omega (arith, cycles-run scenario k)) (rw is (run-fits scenario k))) ∙ ap (λ (s : State). (next scenario s).1) is ∙ sym (out-add-one scenario k)
 
 -- a step further, with the images thinned
-pub goes_sound : (s : SessionView) (after : State) (output : Option Output) (scenario : Scenario) (kept thinned : List Image) (meter : ℕ) → IsSound s → s.n < step_limit → scenario ≡ s.scenario → meter < 2 ^ 128 → kept ≡ s.images ++ (s.n, s.present) ∷ [] → (s.present.cycles ≤ 2 ^ 62 → (after, output) ≡ next s.scenario s.present)
+pub goes_sound : (s : SessionView) (after : State) (output : Option Output) (scenario : Scenario) (kept thinned : List Image) (meter : ℕ) → IsSound s → s.n < step_limit → scenario ≡ s.scenario → meter < 2 ^ 128 → kept ≡ s.images ++ (s.n, s.present) ∷ [] → (s.present.cycles ≤ 2 ^ 62 → FitsRun s.scenario s.present → (after, output) ≡ next s.scenario s.present)
     → IsRising thinned → AreStaying (s.n + 1) (s.n + 1) (steps thinned) → ((i : Image) → Contains thinned i → Contains kept i) → IsSound (record { scenario = scenario; meter = meter; images = thinned; present = after; shown = s.shown; n = s.n + 1 })
 goes_sound s after output scenario kept thinned meter sound low same metered is stepped rising staying part = rw same (record {
   stands = record {

@@ -4,21 +4,26 @@ use Rattle.std.specs.Option.{option_to_list}
 use Rattle.cpu.specs.declared.output.Output.{Output}
 use Rattle.cpu.specs.State.{State, Scenario}
 use Rattle.cpu.specs.Run.{run, out, outs}
+use Rattle.cpu.specs.FeedInput.{Input}
+use Rattle.cpu.specs.FeedEntry.{Entry}
+use Rattle.cpu.specs.FeedAdded.{AddsLast}
+use Rattle.cpu.specs.Additions.{AreAlikeUpTo, plain_inputs, most_plain_inputs}
 use Rattle.replay.specs.declared.refusal.Refusal.{Refusal}
-use Rattle.replay.specs.declared.refusal.Refusal.TheVariants.{NoMemory, StepLimit, NotYet}
+use Rattle.replay.specs.declared.refusal.Refusal.TheVariants.{NoMemory, StepLimit, NotYet, TooEarly, TooMany}
 use Rattle.replay.specs.declared.calls.Call.{Call}
-use Rattle.replay.specs.declared.calls.Call.TheVariants.{Forward, Show, WithPresent, SeekBack}
+use Rattle.replay.specs.declared.calls.Call.TheVariants.{Forward, Show, WithPresent, SeekBack, Add}
 use Rattle.replay.specs.Memory.{Fits, step_limit}
-use Rattle.replay.specs.View.{SessionView, Stands, HasShown, counted, held}
+use Rattle.replay.specs.View.{SessionView, Stands, HasShown, HasAdded, greatest_cycle, counted, held}
 use Rattle.replay.specs.LastHit.{last_hit, AnswersAs, HasSought}
 
 -- what a call answered: the output of a step, a machine, a machine with the present one and what runs, the step found by a
--- search, or a refusal
+-- search, that an input was added, or a refusal
 pub data Answer : Type 0 where
   Went : Option Output → Answer
   Shown : State → Answer
   ShownBeside : State → State → Scenario → Answer
   Sought : Option ℕ → Answer
+  Added : Answer
   Refused : Refusal → Answer
 
 -- a call, and what it answered
@@ -38,12 +43,23 @@ pub record HasGone (old : SessionView) (answer : Option Output) (new : SessionVi
   pub scenario : new.scenario ≡ old.scenario
   pub stands : Stands new
 
--- when a call may be refused so; for memory only where the keeper may refuse
+-- the calls that may be made: an input is added at a cycle that may be
+abbrev pub IsAllowed : Call → Type 0
+IsAllowed Forward = Unit {0}
+IsAllowed (Show t) = Unit {0}
+IsAllowed (WithPresent t) = Unit {0}
+IsAllowed (SeekBack p) = Unit {0}
+IsAllowed (Add cycle input) = cycle ≤ greatest_cycle
+
+-- when a call may be refused so; forward for memory only where the keeper may refuse
 abbrev pub MayRefuse : Bool → SessionView → Call → Refusal → Type 0
 MayRefuse may_refuse s Forward NoMemory = (may_refuse ≡ true) × (s.n < step_limit)
 MayRefuse may_refuse s Forward StepLimit = s.n ≡ step_limit
 MayRefuse may_refuse s (Show t) NotYet = s.n < t
 MayRefuse may_refuse s (WithPresent t) NotYet = s.n < t
+MayRefuse may_refuse s (Add cycle input) TooEarly = cycle ≤ s.present.cycles
+MayRefuse may_refuse s (Add cycle input) TooMany = (s.present.cycles < cycle) × (most_plain_inputs ≤ plain_inputs s.scenario)
+MayRefuse may_refuse s (Add cycle input) NoMemory = s.present.cycles < cycle
 MayRefuse may_refuse s call refusal = ⊥
 
 -- what a call answers, where the session was old, and what it leaves: a refused call leaves everything as it was
@@ -54,6 +70,7 @@ Answers may_refuse returns old (WithPresent t) (ShownBeside state present scenar
     (t ≤ old.n) × (state ≡ run old.scenario t) × (present ≡ run old.scenario old.n) × (scenario ≡ old.scenario) × HasShown old t new
 Answers may_refuse returns old (SeekBack p) (Sought found) new =
     ((is_hit : ℕ → Bool) → AnswersAs returns old.scenario (min p old.n) is_hit → found ≡ last_hit is_hit (min p old.n)) × HasSought old (min p old.n) found new
+Answers may_refuse returns old (Add cycle input) Added new = (old.present.cycles < cycle) × (plain_inputs old.scenario < most_plain_inputs) × HasAdded old cycle input new
 Answers may_refuse returns old call (Refused refusal) new = MayRefuse may_refuse old call refusal × (new ≡ old)
 Answers may_refuse returns old call answer new = ⊥
 
@@ -79,14 +96,31 @@ abbrev pub outputs_told : List Told → List Output
 outputs_told [] = []
 outputs_told (e ∷ es) = outputs_of e.1 ++ outputs_told es
 
+-- the inputs that were added
+abbrev pub added_by : Call → Answer → List (ℕ × Input)
+added_by (Add cycle input) Added = (cycle, input) ∷ []
+added_by call answer = []
+
+abbrev pub added_told : List Told → List (ℕ × Input)
+added_told [] = []
+added_told (e ∷ es) = added_by e.0 e.1 ++ added_told es
+
+-- inputs with more of them, each added on a line after all before
+abbrev pub AddsAll : List (ℕ × Input) → List Entry → List Entry → Type 0
+AddsAll [] old new = new ≡ old
+AddsAll (i ∷ is) old new = (between : List Entry) × AddsLast old i.0 i.1 between × AddsAll is between new
+
 -- the time-travel theorem, of a session, a list of calls, what is told of them, and the session that they leave: each call is
--- told once, in order; the present machine and the outputs are the reference run's after n steps; few machines are held; and
--- each answer is the one that is stated of its call, in the session as the calls before it left it
+-- told once, in order; what runs has the inputs that were added, and is as before up to the step where the session stood; the
+-- present machine and the outputs are the reference run's after n steps; few machines are held; and each answer is the one
+-- that is stated of its call, in the session as the calls before it left it
 pub record TimeTravel (may_refuse : Bool) (returns : State → Bool → Type 0) (old : SessionView) (calls : List Call) (events : List Told) (new : SessionView) : Type 0 where
   pub told : map (λ e. e.0) events ≡ calls
-  pub scenario : new.scenario ≡ old.scenario
+  pub rope : new.scenario.rope ≡ old.scenario.rope
+  pub inputs : AddsAll (added_told events) old.scenario.inputs new.scenario.inputs
+  pub alike : AreAlikeUpTo old.scenario new.scenario old.n
   pub steps : new.n ≡ old.n + steps_told events
-  pub present : new.present ≡ run old.scenario new.n
-  pub outputs : outs old.scenario new.n ≡ outs old.scenario old.n ++ outputs_told events
+  pub present : new.present ≡ run new.scenario new.n
+  pub outputs : outs new.scenario new.n ≡ outs old.scenario old.n ++ outputs_told events
   pub few : Fits (held new) new.n
   pub each : Leads may_refuse returns old events new

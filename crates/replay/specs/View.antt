@@ -2,6 +2,9 @@
 use Rattle.std.specs.Prelude.{◌≡◌, ℕ, ◌+◌, ◌-◌, ◌<◌, ◌≤◌, ◌^◌, List, length, All, min}
 use Rattle.cpu.specs.State.{State, Scenario}
 use Rattle.cpu.specs.Run.{run}
+use Rattle.cpu.specs.FeedInput.{Input}
+use Rattle.cpu.specs.FeedAdded.{AddsLast}
+use Rattle.cpu.specs.Additions.{AreAlikeUpTo}
 use Rattle.replay.specs.Images.{Image, steps}
 use Rattle.replay.specs.Memory.{Fits, step_limit}
 use Rattle.replay.specs.Spacing.{AreStaying}
@@ -50,3 +53,16 @@ pub record HasShown (old : SessionView) (t : ℕ) (new : SessionView) : Type 0 w
   pub unchanged : old.n ≤ t → new ≡ old
   pub least : old.meter ≤ new.meter
   pub cheap : t < old.n → new.meter + t < old.meter + old.n
+
+-- the last cycle at which an input may be added
+abbrev pub greatest_cycle : ℕ
+greatest_cycle = 999999999999999
+
+-- what a call that added an input leaves: what runs has the input, on a line after all others, and comes to the same up to
+-- step n; all else stays
+pub record HasAdded (old : SessionView) (cycle : ℕ) (input : Input) (new : SessionView) : Type 0 where
+  pub stands : Stands new
+  pub rope : new.scenario.rope ≡ old.scenario.rope
+  pub inputs : AddsLast old.scenario.inputs cycle input new.scenario.inputs
+  pub alike : AreAlikeUpTo old.scenario new.scenario old.n
+  pub same : new ≡ record old { scenario = new.scenario }

@@ -1,7 +1,7 @@
 //! Lists of calls.
 
-use crate::machines::five_plus_five;
-use cpu::{Machine, Output, Processor};
+use crate::machines::{ONE_PULSE, five_plus_five};
+use cpu::{Input, Machine, Output, Processor};
 use replay::{Call, Observer, Refusal, Session, SlotKeeper, follow};
 use std::test::Fail;
 
@@ -13,6 +13,7 @@ struct Notes {
     outputs: u64,
     refusals: u64,
     found: Option<u64>,
+    added: u64,
 }
 
 impl Notes {
@@ -53,6 +54,10 @@ impl Observer for Notes {
         self.found = found;
     }
 
+    fn added(&mut self, cycle: u64, _input: &Input) {
+        self.added = cycle;
+    }
+
     fn refused(&mut self, _call: Call, _refusal: Refusal) {
         self.refusals = self.refusals.wrapping_add(1);
     }
@@ -67,6 +72,7 @@ fn calls_are_followed(rt: HostRuntime) -> Result<(), Fail> {
         outputs: 0,
         refusals: 0,
         found: None,
+        added: 0,
     };
     let calls = [
         Call::Forward,
@@ -82,6 +88,8 @@ fn calls_are_followed(rt: HostRuntime) -> Result<(), Fail> {
         Call::SeekBack(6),
         Call::WithPresent(2),
         Call::WithPresent(8),
+        Call::Add(12, ONE_PULSE),
+        Call::Add(13, ONE_PULSE),
     ];
     let steps = follow(
         &mut session,
@@ -92,7 +100,8 @@ fn calls_are_followed(rt: HostRuntime) -> Result<(), Fail> {
     assert_eq!(rt; steps, 7);
     assert_eq!(rt; notes.shown, [10, 5, 4, 12]);
     assert_eq!(rt; notes.outputs, 1);
-    assert_eq!(rt; notes.refusals, 2);
+    assert_eq!(rt; notes.refusals, 3);
+    assert_eq!(rt; notes.added, 13);
     assert_eq!(rt; notes.found, Some(1));
     Ok(())
 }

@@ -1,6 +1,7 @@
 //! Processors to be run, and what tells machines apart.
 
-use cpu::{Machine, Processor};
+use cpu::{Input, Machine, Processor};
+use feed::input::{Counter, Sequence};
 use feed::{Feed, read};
 use rope::Rope;
 use space::numbers::{Bank, Chan, Offset};
@@ -41,6 +42,9 @@ const INPUTS: &[u8] = b"3 TIME1 PINC
 9999 RUPT 3
 ";
 
+/// A pulse of the clock that counts in TIME1.
+pub(crate) const ONE_PULSE: Input = Input::Count(Counter::Time1, Sequence::Pinc);
+
 /// Fails where something does not hold.
 pub(crate) fn expect(holds: bool, what: &'static str) -> Result<(), Fail> {
     if holds { Ok(()) } else { Err(Fail::new(what)) }
@@ -66,6 +70,15 @@ fn rope_of(alloc: Global, words: &[u16]) -> Result<Rope, Fail> {
 /// A processor that runs five plus five, without inputs.
 pub(crate) fn five_plus_five(alloc: Global) -> Result<Processor, Fail> {
     Ok(Processor::new(rope_of(alloc, &FIVE_PLUS_FIVE)?, Feed::empty(alloc)))
+}
+
+/// A processor that jumps in place, with the inputs of a feed.
+pub(crate) fn jump_in_place(alloc: Global, feed: &[u8]) -> Result<Processor, Fail> {
+    let mut inputs = feed;
+    Ok(Processor::new(
+        rope_of(alloc, &[0o14000])?,
+        read(alloc, &mut inputs)?,
+    ))
 }
 
 /// A processor that allows interrupts and then executes a bank of words from a generator, with inputs of all kinds.

@@ -1,7 +1,6 @@
-use Rattle.std.proofs.Common.{◌≡◌, ◌++◌, ◌∷◌, [], List, ◌+◌, map, take, get_or, ◌∙◌, sym, ap, arith, append_assoc, take_all}
+use Rattle.std.proofs.Common.{◌≡◌, ◌++◌, ◌∷◌, [], List, ◌+◌, map, take, ◌∙◌, sym, ap, arith, take_all}
 use Rattle.std.proofs.lemmas.List.{map-append, take_more}
 use Rattle.replay.specs.declared.calls.Call.{Call}
-use Rattle.replay.specs.declared.calls.Call.TheVariants.{Forward}
 use Rattle.std.specs.Fn.{FnReturnsAt}
 use Rattle.replay.specs.Calls.{Told}
 use Rattle.replay.proofs.CallLemmas.{Saw-push, Leads-push, travels}
@@ -12,9 +11,9 @@ loop-call-preserved g c =
     let kept = c.loop-call.invariant in
     let made = c.make.ensures in
     let index = c.loop-call.call-index in
-    let e : Told = (get_or c.args.calls.now index Forward, made.0) in
+    let e : Told = (c.call-item.result, made.0) in
     let calls : map (λ (x : Told). x.0) (kept.0 ++ e ∷ []) ≡ take (index + 1) c.args.calls.now =
-    map-append (λ (x : Told). x.0) kept.0 (e ∷ []) ∙ ap (λ (before : List Call). before ++ e.0 ∷ []) kept.2 ∙ sym (take_more c.args.calls.now index Forward c.loop-call-test.true) in
+    map-append (λ (x : Told). x.0) kept.0 (e ∷ []) ∙ ap (λ (before : List Call). before ++ e.0 ∷ []) kept.2 ∙ ap (λ (call : Call). take index c.args.calls.now ++ call ∷ []) c.call-item.is ∙ sym (take_more c.args.calls.now index c.call-item.result c.loop-call-test.true) in
     (kept.0 ++ e ∷ [], Saw-push g.O.Observer.sees c.args.observer.now kept.0 c.loop-call.observer e c.make.new.observer kept.1 made.1, calls, Leads-push g.K.Keeper.may_refuse (FnReturnsAt g.F.Fn c.args.hit.now) c.args.session.now kept.0 c.loop-call.session e c.make.new.session kept.3 made.2)
 
 pub returns-clause-travel : goal.returns-clause-travel
