@@ -75,10 +75,7 @@ pub(crate) fn five_plus_five(alloc: Global) -> Result<Processor, Fail> {
 /// A processor that jumps in place, with the inputs of a feed.
 pub(crate) fn jump_in_place(alloc: Global, feed: &[u8]) -> Result<Processor, Fail> {
     let mut inputs = feed;
-    Ok(Processor::new(
-        rope_of(alloc, &[0o14000])?,
-        read(alloc, &mut inputs)?,
-    ))
+    Ok(Processor::new(rope_of(alloc, &[0o14000])?, read(alloc, &mut inputs)?))
 }
 
 /// A processor that allows interrupts and then executes a bank of words from a generator, with inputs of all kinds.
