@@ -352,3 +352,34 @@ impl Machine {
         }
     }
 }
+
+#[cfg(test)]
+mod tests {
+    use super::*;
+
+    #[test]
+    fn images_outside_content(rt: HostRuntime) {
+        let machine = Machine::start();
+        let Machine {
+            store,
+            extra,
+            inhibit,
+            inside,
+            waiting_sum,
+            waiting_word,
+            requests,
+            taken,
+            counts,
+            cycles,
+        } = &machine;
+        let _: &Store = store;
+        let flags: [&bool; 3] = [extra, inhibit, inside];
+        let waiting: (&Option<Wide>, &Option<Word>) = (waiting_sum, waiting_word);
+        let _: &[bool; 10] = requests;
+        let _: &[u32; 16] = counts;
+        let numbers: (&usize, &u64) = (taken, cycles);
+        assert_eq!(rt; flags.len(), 3);
+        assert!(rt; waiting.0.is_none());
+        assert_eq!(rt; *numbers.0, 0);
+    }
+}

@@ -144,3 +144,20 @@ impl Processor {
         (machine.instruction_word(&self.rope), machine.extra())
     }
 }
+
+#[cfg(test)]
+mod tests {
+    use super::*;
+    use std::test::Fail;
+
+    #[test]
+    fn images_outside_content(rt: HostRuntime) -> Result<(), Fail> {
+        let processor = Processor::new(Rope::empty(rt.alloc())?, Feed::empty(rt.alloc()));
+        let Processor { rope, feed, meter } = &processor;
+        let _: &Rope = rope;
+        let _: &Feed = feed;
+        let meter: &u128 = meter;
+        assert_eq!(rt; *meter, 0);
+        Ok(())
+    }
+}

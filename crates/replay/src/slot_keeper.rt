@@ -101,3 +101,22 @@ impl Keeper for SlotKeeper {
 
     ghost rising = { λ k. IsRising-images_in k.slots.items k.marks.items k.slotted.rising };
 }
+
+#[cfg(test)]
+mod tests {
+    use super::*;
+    use std::test::Fail;
+
+    #[test]
+    fn images_outside_content(rt: HostRuntime) -> Result<(), Fail> {
+        let keeper = SlotKeeper::new(rt.alloc())?;
+        let SlotKeeper { slots, marks, free } = &keeper;
+        let slots: &Vec<Machine> = slots;
+        let marks: &ArrayVec<(u64, usize), 79> = marks;
+        let free: &ArrayVec<usize, 79> = free;
+        assert_eq!(rt; slots.len(), 79);
+        assert_eq!(rt; marks.len(), 0);
+        assert_eq!(rt; free.len(), 79);
+        Ok(())
+    }
+}

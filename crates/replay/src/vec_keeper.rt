@@ -58,3 +58,18 @@ impl Keeper for VecKeeper {
 
     ghost rising = { λ k. k.rising };
 }
+
+#[cfg(test)]
+mod tests {
+    use super::*;
+    use std::test::Fail;
+
+    #[test]
+    fn images_outside_content(rt: HostRuntime) -> Result<(), Fail> {
+        let keeper = VecKeeper::new(rt.alloc())?;
+        let VecKeeper { images } = &keeper;
+        let images: &Vec<(u64, Machine)> = images;
+        assert_eq!(rt; images.len(), 0);
+        Ok(())
+    }
+}
