@@ -1,0 +1,289 @@
+#!/usr/bin/env python3
+"""Tests of wrong_bodies: its parts on texts, and the whole on a repository of one small crate. The last line is 'N passed, M failed'."""
+import importlib.machinery
+import importlib.util
+import os
+import subprocess
+import sys
+import tempfile
+import unittest
+
+sys.dont_write_bytecode = True
+RUNNER = os.path.join(os.path.dirname(os.path.realpath(__file__)), "wrong_bodies")
+loader = importlib.machinery.SourceFileLoader("wrong_bodies", RUNNER)
+runner = importlib.util.module_from_spec(importlib.util.spec_from_loader("wrong_bodies", loader))
+loader.exec_module(runner)
+
+SOURCE = """//! Small sums.
+#![tactic(auto)]
+
+ghost use Rattle.std.specs.Prelude.{◌≡◌, ◌+◌, ◌<◌};
+
+/// One more.
+pub fn one_more(x: u8) -> u16
+    ensures { result ≡ x + 1 }
+{
+    u16::from(x) + ONE
+}
+
+/// Two more.
+pub fn two_more(x: u8) -> u16
+    ensures { result ≡ x + 2 }
+{
+    one_more(x) + 1
+}
+
+/// Some number.
+pub fn some_number(x: u8) -> u16
+    ensures { result < 300 }
+{
+    u16::from(x) + 7
+}
+
+/// The other way round.
+pub fn sum(x: u8, y: u8) -> u16
+    ensures { result ≡ x + y }
+{
+    u16::from(x) + u16::from(y)
+}
+
+const ONE: u16 = 1;
+"""
+
+HARMLESS = ("    u16::from(x) + u16::from(y)", "    u16::from(y) + u16::from(x)")
+
+# what each edit puts for what, and what is said of it
+EDITS = {
+    "one_more_adds_two": ("    u16::from(x) + ONE", "    u16::from(x) + ONE + ONE", "small::one_more is refused, as it must be: no proof"),
+    "two_more_adds_one": ("    one_more(x) + 1", "    one_more(x)", "small::two_more is refused, as it must be: no proof"),
+    "one_is_two": ("const ONE: u16 = 1;", "const ONE: u16 = 2;", "small::one_more is refused, as it must be: no proof"),
+    "some_number_adds_eight": ("    u16::from(x) + 7", "    u16::from(x) + 8", "NOT REFUSED: small::some_number is still proved"),
+    "contract_is_weak": (
+        "    ensures { result ≡ x + 1 }",
+        "    ensures { x < result }",
+        "NOT REFUSED: small::one_more is still proved, and another is refused: small::two_more",
+    ),
+    "stands_beside_harmless": (*HARMLESS[:1], "    u16::from(x)", "BAD EDIT: it cannot be tried beside harmless.edit"),
+    "text_is_not_there": ("    three_more(x)", "    one_more(x)", "BAD EDIT: an 'old:' text is in src/lib.rt 0 times"),
+    "text_is_there_twice": ("ONE", "TWO", "BAD EDIT: an 'old:' text is in src/lib.rt 2 times"),
+    "brace_is_lost": ("    u16::from(x) + 7", "    { u16::from(x) + 7", "BAD EDIT: no contract was tried: src/lib.rt:"),
+    "type_is_wrong": ("    u16::from(x) + 7", "    x", "BAD EDIT: no contract was tried: src/lib.rt:"),
+    "word_of_the_contract_is_unknown": ("    ensures { result < 300 }", "    ensures { result < three_hundred }", "BAD EDIT: no contract was tried: src/lib.rt:"),
+}
+
+
+def edit_text(old, new, path="src/lib.rt"):
+    return f"file: {path}\nold: {old}\nnew: {new}\n"
+
+
+def write(path, text):
+    os.makedirs(os.path.dirname(path), exist_ok=True)
+    with open(path, "w", encoding="utf-8") as it:
+        it.write(text)
+
+
+def repository(room, edits, harmless=HARMLESS):
+    """Writes a repository of one crate with these edits."""
+    os.mkdir(f"{room}/.git")
+    write(f"{room}/crates.txt", "small:\n")
+    write(f"{room}/crates/small/src/lib.rt", SOURCE)
+    for name, (old, new, *_) in {"harmless": harmless, **edits}.items():
+        write(f"{room}/crates/small/wrong-bodies/{name}.edit", edit_text(old, new))
+
+
+def run(room, *words):
+    return subprocess.run([sys.executable, RUNNER, *words], cwd=room, capture_output=True, text=True, check=False)
+
+
+def edit_of(name, *functions, apart=()):
+    return runner.Edit(name, edit_text(name, name.upper()), set(functions), set(apart))
+
+
+class WholeRuns(unittest.TestCase):
+    def test_tells_each_edit(self):
+        with tempfile.TemporaryDirectory() as room:
+            repository(room, EDITS)
+            ran = run(room, *EDITS)
+        for name, (_, _, wanted) in EDITS.items():
+            self.assertIn(f"wrong-bodies small/{name}: {wanted}", ran.stdout)
+        self.assertEqual((ran.stdout.split("\n")[-2], ran.returncode), ("3 passed, 8 failed", 1), ran.stdout + ran.stderr)
+
+    def test_harmless_edit_must_stay_proved(self):
+        with tempfile.TemporaryDirectory() as room:
+            name = "one_more_adds_two"
+            repository(room, {name: EDITS[name]}, harmless=("    u16::from(x) + u16::from(y)", "    u16::from(x)"))
+            ran = run(room, "small")
+        self.assertIn(f"small/harmless: NOT PROVED beside {name}", ran.stdout)
+        self.assertEqual((ran.stdout.split("\n")[-2], ran.returncode), ("0 passed, 2 failed", 1), ran.stdout + ran.stderr)
+
+    def test_harmless_edit_must_be_there_and_in_a_function(self):
+        for harmless, wanted in ((None, "there is no such file"), (EDITS["one_is_two"][:2], "it stands outside the functions")):
+            with tempfile.TemporaryDirectory() as room:
+                repository(room, {"one_more_adds_two": EDITS["one_more_adds_two"]}, harmless=harmless or HARMLESS)
+                if not harmless:
+                    os.remove(f"{room}/crates/small/wrong-bodies/harmless.edit")
+                ran = run(room)
+            self.assertIn(f"small/harmless: BAD EDIT: {wanted}", ran.stdout)
+            self.assertEqual((ran.stdout.split("\n")[-2], ran.returncode), ("0 passed, 2 failed", 1), ran.stdout + ran.stderr)
+
+    def test_reads_alone(self):
+        with tempfile.TemporaryDirectory() as room:
+            repository(room, EDITS)
+            ran = run(room, "--read")
+        said = [f"wrong-bodies small/{it}: {EDITS[it][2]}, and not once" for it in ("text_is_not_there", "text_is_there_twice")]
+        self.assertEqual(ran.stdout, "\n".join([*said, "10 passed, 2 failed", ""]))
+
+    def test_unknown_word_is_told(self):
+        with tempfile.TemporaryDirectory() as room:
+            repository(room, {})
+            ran = run(room, "no_such_edit")
+        self.assertEqual((ran.stderr, ran.returncode), ("wrong_bodies: there is no crate or edit no_such_edit\n", 1))
+
+    def test_file_that_is_no_edit_is_told(self):
+        with tempfile.TemporaryDirectory() as room:
+            repository(room, {})
+            write(f"{room}/crates/small/wrong-bodies/one.edits", "")
+            ran = run(room)
+        self.assertIn("small/wrong-bodies/one.edits is no edit", ran.stderr)
+        self.assertEqual(ran.returncode, 1)
+
+
+class Functions(unittest.TestCase):
+    def test_paths_of_functions_methods_and_impls(self):
+        text = """pub(crate) const fn plain() {}
+
+pub struct Here;
+
+impl Here {
+    pub fn new() -> Here
+        ensures { result ≡ here }
+    {
+        if a {
+            b
+        }
+    }
+}
+
+impl<'a, R: Files> io::Write for LazyFile<'a, R> {
+    fn write(&mut self) {
+        one
+    }
+}
+
+impl Read for &[u8] {
+    fn read(&mut self) {}
+}
+
+impl<T> Elsewhere<T> {
+    fn far(self) {
+        two
+    }
+}
+
+fn last()
+{}
+"""
+        homes = runner.homes_of("c", {"src/there.rt": "pub enum Elsewhere<T> {\n", "src/deep/here.rt": text})
+        self.assertEqual(homes, {"Elsewhere": "c::there", "Here": "c::deep::here"})
+        found = dict(zip(text.split("\n"), runner.functions_in("c", "src/deep/here.rt", text, homes)))
+        wanted = {
+            "pub(crate) const fn plain() {}": "c::deep::here::plain",
+            "            b": "c::deep::here::Here::new",
+            "        one": "c::deep::here::LazyFileWrite::write",
+            "    fn read(&mut self) {}": "c::deep::here::RefSliceU8Read::read",
+            "        two": "c::there::Elsewhere::far",
+            "{}": "c::deep::here::last",
+            "pub struct Here;": runner.OUTSIDE,
+            "impl<T> Elsewhere<T> {": runner.OUTSIDE,
+        }
+        self.assertEqual({it: found[it] for it in wanted}, wanted)
+
+    def test_changed_functions_are_those_of_the_changed_lines(self):
+        pristine = {"src/lib.rt": "fn f() {\n    a\n}\n\nfn g() {\n    b\n}\n\nconst C: u8 = 1;\n"}
+        of = lambda old, new: runner.changed_functions("c", pristine, {"src/lib.rt": pristine["src/lib.rt"].replace(old, new)})
+        self.assertEqual(of("    a\n", "    x\n"), {"c::f"})
+        self.assertEqual(of("    b\n", "    x\n    b\n"), {"c::g"})
+        self.assertEqual(of("    b\n", ""), {"c::g"})
+        self.assertEqual(of("1", "2"), {runner.OUTSIDE})
+
+
+class Batches(unittest.TestCase):
+    pristine = {"src/lib.rt": "one two three four harm"}
+    harmless = edit_of("harm", "h")
+
+    def names(self, *edits):
+        return [it.name for it in runner.next_batch(edits, self.harmless, self.pristine)[0]]
+
+    def test_edits_of_one_function_are_apart(self):
+        self.assertEqual(self.names(edit_of("one", "f"), edit_of("two", "f"), edit_of("three", "g")), ["one", "three"])
+        self.assertEqual(self.names(edit_of("one", "h"), edit_of("two", "f")), ["two"])
+
+    def test_edit_outside_functions_is_alone(self):
+        outside = edit_of("one", runner.OUTSIDE)
+        self.assertEqual(self.names(outside, edit_of("two", "f")), ["one"])
+        self.assertEqual(self.names(edit_of("two", "f"), outside), ["two"])
+
+    def test_edit_that_waited_comes_first_and_apart(self):
+        waited = edit_of("two", "f", apart=["g"])
+        self.assertEqual(self.names(edit_of("one", "g"), waited, edit_of("three", "k")), ["two", "three"])
+
+    def test_all_edits_of_a_batch_and_the_harmless_one_are_applied(self):
+        texts = runner.next_batch([edit_of("one", "f"), edit_of("three", "g")], self.harmless, self.pristine)[1]
+        self.assertEqual(texts, {"src/lib.rt": "ONE two THREE four HARM"})
+
+    def test_edit_that_does_not_apply_beside_another_waits(self):
+        other = runner.Edit("x", edit_text("two", "one"), {"g"})
+        self.assertEqual(self.names(other, edit_of("one", "f")), ["x"])
+
+    def test_edit_of_several_pairs_and_files(self):
+        text = "file: src/lib.rt\nold: one\nnew: 1\nold: 1 two\nnew: 12\nfile: src/b.rt\nold: b\nnew: c\n"
+        texts, why = runner.apply(text, {**self.pristine, "src/b.rt": "b"}, {})
+        self.assertEqual((texts, why), ({"src/lib.rt": "12 three four harm", "src/b.rt": "c"}, None))
+
+
+class Judgements(unittest.TestCase):
+    def judged(self, said, *functions, apart=()):
+        edit = edit_of("one", *functions, apart=apart)
+        runner.judge(edit, said)
+        return edit
+
+    def test_refused_at_its_own_function_or_a_closure_of_it(self):
+        open_goal = "no proof: expected answers in ./proofs/f/Answers.antt; `search` did not prove `returns`"
+        self.assertTrue(self.judged({"c::f": open_goal}, "c::f").is_refused)
+        self.assertTrue(self.judged({"c::f": "not proved"}, "c::f").is_refused)
+        self.assertTrue(self.judged({"c::m::T::f": "proved", "c::m::fn::T::f::map": open_goal}, "c::m::T::f").is_refused)
+        self.assertTrue(self.judged({"c::f": "proved", "c::g": open_goal}, "c::f", "c::g").is_refused)
+
+    def test_proof_file_that_no_longer_fits_is_told_apart(self):
+        output = """./proofs/m/f/Answers.antt:23:38: error: `returns`: the two types differ
+./proofs/m/f/Answers.antt:24:38: error: `other` is not in scope
+./proofs/m/g/Answers.antt:3:3: error: `goal` has no `returns-then` that can be named
+fn c::m::f: not proved
+fn c::m::g: not proved
+fn c::m::h: no proof: it calls `c::m::g`, which is not proved
+"""
+        said = runner.lines_in(output)
+        self.assertEqual(said, {"c::m::f": "not proved", "c::m::g": runner.MISFIT, "c::m::h": "no proof: it calls `c::m::g`, which is not proved"})
+        self.assertTrue(self.judged(said, "c::m::g").is_refused)
+        self.assertIn(runner.MISFIT, self.judged(said, "c::m::g").why)
+
+    def test_whole_paths_are_compared(self):
+        edit = self.judged({"c::m::of": "proved", "c::n::of": "not proved", "c::m::of_word": "not proved", "c::m::fn::of_word::map": "not proved"}, "c::m::of")
+        self.assertIn("NOT REFUSED: c::m::of is still proved", edit.why)
+
+    def test_function_that_only_calls_another_waits(self):
+        said = {"c::f": "no proof: it calls `c::g`, which is not proved", "c::g": "not proved; it calls `c::h`, which is not proved", "c::h": "not proved"}
+        edit = self.judged(said, "c::f")
+        self.assertEqual((edit.why, edit.apart), ("", {"c::g", "c::h"}))
+        self.assertIn("NOT TRIED: c::f waits for c::g c::h", self.judged(said, "c::f", apart=["c::g", "c::h"]).why)
+
+    def test_function_without_a_line_or_a_goal(self):
+        self.assertIn("the check has no line of c::f", self.judged({"c::g": "not proved"}, "c::f").why)
+        self.assertIn("BAD EDIT: no goal of c::f was tried", self.judged({"c::f": "no proof: antt refuses the `ghost use` item"}, "c::f").why)
+
+
+if __name__ == "__main__":
+    ran = unittest.main(exit=False).result
+    failed = len(ran.failures) + len(ran.errors)
+    print(f"{ran.testsRun - failed} passed, {failed} failed")
+    sys.exit(1 if failed else 0)
