@@ -18,5 +18,5 @@ pub fn is_text(line: &[u8]) -> bool
 fn is_text_byte(byte: u8) -> bool
     ensures { result ≡ is_text_byte byte }
 {
-    (b' '..=b'~').contains(&byte) || byte == b'\t'
+    matches!(byte, b' '..=b'~' | b'\t')
 }
