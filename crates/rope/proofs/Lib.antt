@@ -1,3 +1,4 @@
+pub mod BankSteps
 pub mod ImageLaws
 pub mod PlaceLaws
 pub mod ReadSteps

@@ -1,3 +1,4 @@
+pub mod BankReading
 pub mod Faults
 pub mod Image
 pub mod Laws
