@@ -8,7 +8,7 @@ use yayul::assemble;
 fn fault_of(alloc: Global, source: &[u8]) -> (u32, u8) {
     match assemble(alloc, source) {
         Ok(_) => (0, 0),
-        Err(fault) => (fault.line, fault.kind.number()),
+        Err(fault) => (fault.line, fault.number),
     }
 }
 

@@ -11,8 +11,8 @@ use words::Buffer;
 use words::faulty::{FaultyReader, FaultyWriter, Trouble};
 use workshop::{Version, WorkshopFault, asm_engine, upgrade_engine};
 use yayul::assemble;
-use yayul::fault::{Fault, FaultKind};
-use yayul::program::Program;
+use yayul::Fault;
+use yayul::Program;
 
 const LISTING: &[u8] = b"    1                 SETLOC 4000
     2 02,4000 34005   CA FIVE
@@ -154,7 +154,7 @@ fn refused_sources_write_nothing(rt: HostRuntime) {
         ),
         Err(WorkshopFault::Source(Fault {
             line: 2,
-            kind: FaultKind::Undefined,
+            number: 17,
         }))
     );
     let mut broken = FaultyReader::new(FIVE_PLUS_FIVE, Some(20));

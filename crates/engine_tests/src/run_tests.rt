@@ -9,7 +9,7 @@ use std::alloc::{AllocError, Global};
 use words::Buffer;
 use words::faulty::{FaultyReader, FaultyWriter, Trouble};
 use workshop::{Summary, WorkshopFault, report, run_engine};
-use yayul::fault::{Fault, FaultKind};
+use yayul::Fault;
 
 const ONE_LINE: &[u8] = b"7 CH 010 00012\n";
 
@@ -29,8 +29,8 @@ fn run(
     run_engine(alloc, &mut source, &mut feed, steps, out)
 }
 
-fn source_fault(line: u32, kind: FaultKind) -> WorkshopFault {
-    WorkshopFault::Source(Fault { line, kind })
+fn source_fault(line: u32, number: u8) -> WorkshopFault {
+    WorkshopFault::Source(Fault { line, number })
 }
 
 fn feed_fault(line: u32) -> WorkshopFault {
@@ -98,19 +98,19 @@ fn first_faults_are_told(rt: HostRuntime) {
             b" SETLOC 4000\n CA NOSUCH\n",
             b"",
             1,
-            source_fault(2, FaultKind::Undefined),
+            source_fault(2, 17),
         ),
         (
             b" SETLOC 4000\n FROB 100\n",
             b"",
             1,
-            source_fault(2, FaultKind::UnknownOperator),
+            source_fault(2, 15),
         ),
         (
             b" SETLOC 4000\n FROB 100\n",
             b"0 RUPT 1\n",
             1,
-            source_fault(2, FaultKind::UnknownOperator),
+            source_fault(2, 15),
         ),
         (b"", b"0 RUPT 11\n", 1, feed_fault(1)),
         (
@@ -162,7 +162,7 @@ fn long_texts_are_refused(rt: HostRuntime) {
     );
     assert_eq!(rt;
         run(rt.alloc(), &longest, b"", 0, &mut out),
-        Err(source_fault(65_537, FaultKind::TooManyLines))
+        Err(source_fault(65_537, 12))
     );
     assert!(rt; run(rt.alloc(), b"", &longest, 0, &mut out).is_ok());
 }
@@ -210,7 +210,7 @@ fn source_is_told_before_the_feed_is_read(rt: HostRuntime) {
     let mut feed = FaultyReader::new(b"", Some(0));
     assert_eq!(rt;
         run_engine(rt.alloc(), &mut source, &mut feed, 4, &mut out),
-        Err(source_fault(2, FaultKind::UnknownOperator))
+        Err(source_fault(2, 15))
     );
 }
 
@@ -227,17 +227,17 @@ fn faults_are_reported(rt: HostRuntime) {
         (WorkshopFault::ReadFailed, b"agcws: E6\n", 3),
         (WorkshopFault::WriteFailed, b"agcws: E7\n", 3),
         (
-            source_fault(1, FaultKind::NotAscii),
+            source_fault(1, 10),
             b"agcws: E10 LINE 1\n",
             1,
         ),
         (
-            source_fault(9, FaultKind::TwiceDefined),
+            source_fault(9, 14),
             b"agcws: E14 LINE 9\n",
             1,
         ),
         (
-            source_fault(65_536, FaultKind::OutOfRange),
+            source_fault(65_536, 26),
             b"agcws: E26 LINE 65536\n",
             1,
         ),

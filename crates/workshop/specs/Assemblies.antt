@@ -3,7 +3,7 @@ use Rattle.std.specs.Prelude.{◌≡◌, ℕ, ◌⊎◌, List, ◌++◌, Result,
 use Rattle.words.specs.Devices.{WritesBeginning}
 use Rattle.rope.specs.Image.{image}
 use Rattle.rope.specs.declared.spelling.Version.{Version}
-use Rattle.yayul.specs.Program.{Program, rope_of}
+use Rattle.yayul.specs.Program.{Program}
 use Rattle.yayul.specs.Listing.{listing}
 use Rattle.workshop.specs.declared.fault.WorkshopFault.{WorkshopFault}
 use Rattle.workshop.specs.declared.fault.WorkshopFault.TheVariants.{NoMemory, ReadFailed, WriteFailed, Source, Feed, Rope, TooLong}
@@ -16,13 +16,13 @@ pub record Pages : Type 0 where
 
 -- the whole image and the whole listing are written
 abbrev pub WritesBoth : Version → Program → Pages → Pages → Type 0
-WritesBoth version p old new = (new.image ≡ old.image ++ image version (rope_of p)) × (new.listing ≡ old.listing ++ listing p)
+WritesBoth version p old new = (new.image ≡ old.image ++ image version p.rope) × (new.listing ≡ old.listing ++ listing p)
 
 -- a beginning of the image is written and nothing of the listing, or the whole image and a beginning of the listing
 abbrev pub WritesPart : Version → Program → Pages → Pages → Type 0
 WritesPart version p old new =
-    (WritesBeginning old.image new.image (image version (rope_of p)) × (new.listing ≡ old.listing))
-    ⊎ ((new.image ≡ old.image ++ image version (rope_of p)) × WritesBeginning old.listing new.listing (listing p))
+    (WritesBeginning old.image new.image (image version p.rope) × (new.listing ≡ old.listing))
+    ⊎ ((new.image ≡ old.image ++ image version p.rope) × WritesBeginning old.listing new.listing (listing p))
 
 -- the program of a source is written, or the fault of the source is told and nothing is written. That memory ran out or a
 -- read failed says nothing of the source, and nothing is written

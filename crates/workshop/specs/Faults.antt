@@ -1,9 +1,13 @@
 -- The faults of an engine, and how they are told.
-use Rattle.std.specs.Prelude.{ℕ, Bool, ◌==◌, ◌||◌, if◌then◌else◌, List, [], ◌++◌, codes, decimal, Option, None, Some}
-use Rattle.yayul.specs.Faults as source
-use Rattle.yayul.specs.declared.fault.Fault.{Fault}
+use Rattle.std.specs.Prelude.{ℕ, ◌==◌, if◌then◌else◌, List, [], ◌++◌, codes, decimal, Option, None, Some}
+use Rattle.yayul.specs.declared.faults.Fault.{Fault}
+use Rattle.yayul.specs.Program.{no_memory}
 use Rattle.feed.specs.Faults as feed
+use Rattle.feed.specs.declared.fault.FeedFault.{FeedFault}
+use Rattle.feed.specs.declared.fault.FeedFault.TheVariants as feed_fault
 use Rattle.rope.specs.Faults as rope
+use Rattle.rope.specs.declared.fault.RopeFault.{RopeFault}
+use Rattle.rope.specs.declared.fault.RopeFault.TheVariants as rope_fault
 use Rattle.workshop.specs.declared.fault.WorkshopFault.{WorkshopFault}
 use Rattle.workshop.specs.declared.fault.WorkshopFault.TheVariants.{NoMemory, ReadFailed, WriteFailed, Source, Feed, Rope, TooLong}
 
@@ -12,7 +16,7 @@ abbrev pub number_of : WorkshopFault → ℕ
 number_of NoMemory = 2
 number_of ReadFailed = 6
 number_of WriteFailed = 7
-number_of (Source fault) = source.number_of fault.kind
+number_of (Source fault) = fault.number
 number_of (Feed fault) = feed.number_of fault
 number_of (Rope fault) = rope.number_of fault
 number_of TooLong = 34
@@ -48,10 +52,28 @@ input_refused = 1
 abbrev pub device_failed : ℕ
 device_failed = 3
 
--- the numbers of the faults whose cause is a device or memory
-abbrev pub is_of_device : ℕ → Bool
-is_of_device number = number == 2 || number == 6 || number == 7
+-- the exit status of a program that a fault of the source ends
+abbrev pub source_status : Fault → ℕ
+source_status fault = if fault.number == no_memory.number then device_failed else input_refused
+
+-- the exit status of a program that a fault of the feed ends
+abbrev pub feed_status : FeedFault → ℕ
+feed_status feed_fault.NoMemory = device_failed
+feed_status feed_fault.ReadFailed = device_failed
+feed_status _ = input_refused
+
+-- the exit status of a program that a fault of an image ends
+abbrev pub rope_status : RopeFault → ℕ
+rope_status rope_fault.NoMemory = device_failed
+rope_status rope_fault.ReadFailed = device_failed
+rope_status _ = input_refused
 
 -- the exit status of a program that a fault ends
 abbrev pub status_of : WorkshopFault → ℕ
-status_of fault = if is_of_device (number_of fault) then device_failed else input_refused
+status_of NoMemory = device_failed
+status_of ReadFailed = device_failed
+status_of WriteFailed = device_failed
+status_of (Source fault) = source_status fault
+status_of (Feed fault) = feed_status fault
+status_of (Rope fault) = rope_status fault
+status_of TooLong = input_refused

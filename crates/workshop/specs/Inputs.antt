@@ -1,7 +1,7 @@
 -- What an engine makes of its source and its feed.
 use Rattle.std.specs.Prelude.{ℕ, nat_lt, if◌then◌else◌, List, length, Result, Ok, Err}
-use Rattle.yayul.specs.Program.{Program, program, rope_of}
-use Rattle.yayul.specs.declared.fault.Fault.{Fault}
+use Rattle.yayul.specs.Program.{Program, program}
+use Rattle.yayul.specs.declared.faults.Fault.{Fault}
 use Rattle.feed.specs.Feed.{inputs, most_bytes}
 use Rattle.feed.specs.declared.fault.FeedFault.{FeedFault}
 use Rattle.feed.specs.declared.fault.FeedFault.TheVariants as feed_fault
@@ -47,4 +47,4 @@ prepared source feed = with_feed feed (assembled source)
 
 -- what runs
 abbrev pub scenario_of : Loaded → Scenario
-scenario_of l = record { rope = rope_of l.program; inputs = l.feed }
+scenario_of l = record { rope = l.program.rope; inputs = l.feed }

@@ -12,7 +12,7 @@ use crate::inputs::read_program;
 use rope::Version;
 use std::alloc::Global;
 use words::{Read, Write};
-use yayul::program::Program;
+use yayul::Program;
 
 /// Assembles the source, and writes the rope image of 73,728 bytes, of a version, to one writer, and then the listing to the other.
 ///

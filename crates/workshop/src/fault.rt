@@ -10,7 +10,7 @@ use feed::FeedFault;
 use rope::RopeFault;
 use thiserror::Error;
 use words::{Write, push_all, push_decimal, write_all};
-use yayul::fault::{Fault, FaultKind};
+use yayul::{Fault, FaultKind};
 
 /// Why an engine has ended early.
 #[derive(Clone, Copy, PartialEq, Eq, Debug, Drop, Error)]
@@ -47,7 +47,7 @@ impl WorkshopFault {
             WorkshopFault::NoMemory => 2,
             WorkshopFault::ReadFailed => 6,
             WorkshopFault::WriteFailed => 7,
-            WorkshopFault::Source(fault) => fault.kind.number(),
+            WorkshopFault::Source(fault) => fault.number,
             WorkshopFault::Feed(fault) => fault.number(),
             WorkshopFault::Rope(fault) => fault.number(),
             WorkshopFault::TooLong => 34,
@@ -71,12 +71,7 @@ impl WorkshopFault {
     {
         match self {
             WorkshopFault::NoMemory | WorkshopFault::ReadFailed | WorkshopFault::WriteFailed => 3,
-            WorkshopFault::Source(
-                Fault {
-                    kind: FaultKind::NoMemory,
-                    ..
-                },
-            ) => 3,
+            WorkshopFault::Source(fault) if fault.number == FaultKind::NoMemory.number() => 3,
             WorkshopFault::Feed(FeedFault::NoMemory | FeedFault::ReadFailed) => 3,
             WorkshopFault::Rope(RopeFault::NoMemory | RopeFault::ReadFailed) => 3,
             WorkshopFault::Source(_) | WorkshopFault::Feed(_) | WorkshopFault::Rope(_) => 1,

@@ -13,8 +13,8 @@ use feed::{Feed, FeedFault, MOST_BYTES};
 use std::alloc::Global;
 use words::{Read, ReadFault, read_text};
 use yayul::assemble;
-use yayul::fault::FaultKind;
-use yayul::program::Program;
+use yayul::FaultKind;
+use yayul::Program;
 
 /// An assembled source and the inputs of a feed.
 #[derive(Drop)]
@@ -62,7 +62,7 @@ pub(crate) fn read_program<S: Read>(alloc: Global, source: &mut S) -> Result<Pro
     };
     match assemble(alloc, &text) {
         Ok(program) => Ok(program),
-        Err(fault) if fault.kind == FaultKind::NoMemory => Err(WorkshopFault::NoMemory),
+        Err(fault) if fault.number == FaultKind::NoMemory.number() => Err(WorkshopFault::NoMemory),
         Err(fault) => Err(WorkshopFault::Source(fault)),
     }
 }

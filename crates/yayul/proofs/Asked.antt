@@ -1,25 +1,50 @@
 -- The requests of faultless lines: their lines rise, and their places are apart.
-use Rattle.std.proofs.Common.{◌≡◌, ℕ, ◌+◌, ◌≤◌, Bool, true, false, ◌&&◌, ◌||◌, nat_lt, List, [], ◌∷◌, ◌++◌, Option, Some, None, is_none, refl, ap, sym, subst, ◌∙◌, inl, inr, arith, append_assoc, append-nil}
+use Rattle.std.proofs.Common.{◌≡◌, ℕ, ◌+◌, ◌≤◌, Bool, true, false, ◌&&◌, ◌||◌, nat_lt, List, [], ◌∷◌, ◌++◌, Option, Some, None, Result, Ok, Err, refl, ap, sym, subst, ◌∙◌, inl, inr, arith, append_assoc, append-nil}
 use Rattle.std.proofs.lemmas.Bool.{cases_lt, lt-ltb, le-ltb}
 use Rattle.std.proofs.lemmas.Bool.Decides.{nat_tests}
 use Rattle.std.proofs.lemmas.Option.{same_Some}
+use Rattle.std.specs.Prelude.{◌⊎◌, OnOk, IfErr}
 use Rattle.std.specs.List.{list_any}
+use Rattle.std.specs.Option.{option_map_or}
+use Rattle.std.specs.Result.{result_unwrap_or}
 use Rattle.rope.specs.Places.{bank_words}
-use Rattle.yayul.specs.Faults.{fault_if, standing, on_line}
-use Rattle.yayul.specs.Layout.{Layout, width, line_width, lacks_room, after_words, stands_at, is_asked_at, is_taken, is_malformed, is_twice, is_erasable, word_place, request_at, requests_at, gives, gives_faults, statement_effect, text_faults, or_else, line_effect, line_faults, after_effect, layout_after, layout_faults}
-use Rattle.yayul.specs.Requests.{AreFrom, AreBelow, AreRising, AreApart, IsNext, meets}
-use Rattle.yayul.specs.Statements.{statement_of}
-use Rattle.yayul.specs.declared.fault.Fault.{Fault}
-use Rattle.yayul.specs.declared.fault.FaultKind.{FaultKind}
-use Rattle.yayul.specs.declared.fault.FaultKind.TheVariants.{BadLabel, TwiceDefined, BadOperand, BankFull, PlaceTaken, CodeInErasable}
-use Rattle.yayul.specs.declared.layout.Location.{Location}
-use Rattle.yayul.specs.declared.layout.Location.TheVariants as location
-use Rattle.yayul.specs.declared.layout.WordRequest.{WordRequest}
-use Rattle.yayul.specs.declared.statement.Label.{Label}
-use Rattle.yayul.specs.declared.statement.Operation.{Operation}
-use Rattle.yayul.specs.declared.statement.Operation.TheVariants.{Nothing, Unknown, Setloc, Bank, Erase, Equals, Ebank, Gives}
-use Rattle.yayul.specs.declared.statement.Source.{Source}
+use Rattle.yayul.specs.Forms.{statement_of}
+use Rattle.yayul.specs.Layout.{Request, and_then, value_here, early_value, defined, asked, placed_here, fault_if, standing, on_line, Layout, width, lacks_room, after_words, stands_at, is_taken, is_malformed, is_twice, is_erasable, word_place, gives, statement_effect, text_faults, or_else, line_effect, line_faults, layout_after, layout_faults}
+use Rattle.yayul.specs.Inside.Answers.{least_kind, LeadsTo}
+use Rattle.yayul.specs.Inside.Sound.{AreFrom, AreRising, AreApart, meets}
+use Rattle.yayul.specs.declared.faults.Fault.{Fault}
+use Rattle.yayul.specs.declared.faults.FaultKind.{FaultKind}
+use Rattle.yayul.specs.declared.faults.FaultKind.TheVariants.{NoMemory, BadLabel, TwiceDefined, BankFull, PlaceTaken, CodeInErasable}
+use Rattle.yayul.specs.declared.language.Location.{Location}
+use Rattle.yayul.specs.declared.language.Location.TheVariants as location
+use Rattle.yayul.specs.declared.language.Label.{Label}
+use Rattle.yayul.specs.declared.language.Label.TheVariants.{Missing, Malformed, Named}
+use Rattle.yayul.specs.declared.language.Operation.{Operation}
+use Rattle.yayul.specs.declared.language.Operation.TheVariants.{Nothing, Unknown, Setloc, Bank, Erase, Equals, Ebank, Gives}
+use Rattle.yayul.specs.declared.language.Content.{Content}
+use Rattle.yayul.specs.declared.values.Value.{Value}
+use Rattle.yayul.specs.declared.values.Value.TheVariants.{Fixed}
+use Rattle.yayul.proofs.Least.{none_least}
 use Rattle.yayul.proofs.Taken.{or-parts}
+
+-- a request asks for a word at a place
+abbrev pub is_asked_at : List Request → Option (ℕ × ℕ) → Bool
+is_asked_at requests place = option_map_or (λ p. list_any (stands_at p.0 p.1) requests) place false
+
+-- the request for words of a content at a place
+abbrev request_for : ℕ → Layout → Content → ℕ × ℕ → Request
+request_for line s content place =
+    record { line = line; bank = place.0; offset = place.1; content = content; extracode = s.extracode; eb = s.eb }
+
+-- requests of lines below a number
+abbrev AreBelow : ℕ → List Request → Type 0
+AreBelow line [] = Unit {0}
+AreBelow line (r ∷ rs) = (r.line + 1 ≤ line) × AreBelow line rs
+
+-- what stands after one line: what stood before it, or the words of one request more, at places that no earlier line asks for
+abbrev IsNext : ℕ → List Request → List Request → Type 0
+IsNext line before after =
+    (after ≡ before) ⊎ ((r : Request) × ((after ≡ before ++ r ∷ []) × ((r.line ≡ line) × (meets before r ≡ false))))
 
 -- where no condition stands, the first does not, nor do the others
 none_stands : (b : Bool) (kind : FaultKind) (cs : List (Option FaultKind)) → standing (fault_if b kind ∷ cs) ≡ [] → (b ≡ false) × (standing cs ≡ [])
@@ -27,18 +52,16 @@ none_stands true kind cs e = absurd (let bad : kind ∷ standing cs ≡ [] = e i
 none_stands false kind cs e = (refl, e)
 
 -- a faultless line that gives words has room for them, where none stands
-free_place : (s : Layout) (label : Label) (source : Option Source) → standing (gives_faults s label source) ≡ []
-    → (lacks_room (line_width source) s.location ≡ false) × (is_taken s (line_width source) ≡ false)
-free_place s label source e =
+free_place : (line : ℕ) (s : Layout) (label : Label) (content : Content) → (gives line s label content).faults ≡ []
+    → (lacks_room (width content) s.location ≡ false) × (is_taken s (width content) ≡ false)
+free_place line s label content e =
     let last : List (Option FaultKind) = fault_if (is_erasable s.location) CodeInErasable ∷ [] in
-    let taken : List (Option FaultKind) = fault_if (is_taken s (line_width source)) PlaceTaken ∷ last in
-    let full : List (Option FaultKind) = fault_if (lacks_room (line_width source) s.location) BankFull ∷ taken in
-    let bad : List (Option FaultKind) = fault_if (is_none source) BadOperand ∷ full in
-    let a = none_stands (is_malformed label) BadLabel (fault_if (is_twice s label) TwiceDefined ∷ bad) e in
-    let b = none_stands (is_twice s label) TwiceDefined bad a.1 in
-    let c = none_stands (is_none source) BadOperand full b.1 in
-    let d = none_stands (lacks_room (line_width source) s.location) BankFull taken c.1 in
-    (d.0, (none_stands (is_taken s (line_width source)) PlaceTaken last d.1).0)
+    let taken : List (Option FaultKind) = fault_if (is_taken s (width content)) PlaceTaken ∷ last in
+    let full : List (Option FaultKind) = fault_if (lacks_room (width content) s.location) BankFull ∷ taken in
+    let a = none_stands (is_malformed label) BadLabel (fault_if (is_twice s label) TwiceDefined ∷ full) e in
+    let b = none_stands (is_twice s label) TwiceDefined full a.1 in
+    let c = none_stands (lacks_room (width content) s.location) BankFull taken b.1 in
+    (c.0, (none_stands (is_taken s (width content)) PlaceTaken last c.1).0)
 
 -- where the location has room for so many words, its bank has
 pub room_left : (l : Location) (count bank offset : ℕ) → word_place l ≡ Some (bank, offset) → lacks_room count l ≡ false → offset + count ≤ bank_words
@@ -53,11 +76,11 @@ room_left (location.Fixed b n) count bank offset here room =
     ]
 
 -- where so many words have room at a place, and none stands there, no request meets one for them
-pub meets_none : (s : Layout) (r : WordRequest) → word_place s.location ≡ Some (r.bank, r.offset) → lacks_room (width r.source) s.location ≡ false
-    → is_taken s (width r.source) ≡ false → meets s.requests r ≡ false
-meets_none s r here room free = by_location s.requests s.location (width r.source) r.bank r.offset here room free
+pub meets_none : (s : Layout) (r : Request) → word_place s.location ≡ Some (r.bank, r.offset) → lacks_room (width r.content) s.location ≡ false
+    → is_taken s (width r.content) ≡ false → meets s.requests r ≡ false
+meets_none s r here room free = by_location s.requests s.location (width r.content) r.bank r.offset here room free
   where
-    second : (rs : List WordRequest) (n count bank : ℕ) → nat_lt 0o2000 (n + count) ≡ false
+    second : (rs : List Request) (n count bank : ℕ) → nat_lt 0o2000 (n + count) ≡ false
         → (nat_lt 1 count && is_asked_at rs (word_place (location.Fixed bank (n + 1)))) ≡ false → (nat_lt 1 count && list_any (stands_at bank (n + 1)) rs) ≡ false
     second rs n count bank room free =
         elim (cases_lt 1 count) [
@@ -67,7 +90,7 @@ meets_none s r here room free = by_location s.requests s.location (width r.sourc
               rw within at free
         ]
 
-    by_location : (rs : List WordRequest) (l : Location) (count bank offset : ℕ) → word_place l ≡ Some (bank, offset) → lacks_room count l ≡ false
+    by_location : (rs : List Request) (l : Location) (count bank offset : ℕ) → word_place l ≡ Some (bank, offset) → lacks_room count l ≡ false
         → (is_asked_at rs (word_place l) || (nat_lt 1 count && is_asked_at rs (word_place (after_words 1 l)))) ≡ false
         → (list_any (stands_at bank offset) rs || (nat_lt 1 count && list_any (stands_at bank (offset + 1)) rs)) ≡ false
     by_location rs (location.Erasable n) count bank offset here room free = absurd (let bad : None ≡ Some (bank, offset) = here in cc)
@@ -83,74 +106,92 @@ meets_none s r here room free = by_location s.requests s.location (width r.sourc
               subst (λ (p : ℕ × ℕ). (list_any (stands_at p.0 p.1) rs || (nat_lt 1 count && list_any (stands_at p.0 (p.1 + 1)) rs)) ≡ false) same both
         ]
 
-asked_next : (line : ℕ) (s : Layout) (source : Source) (place : Option (ℕ × ℕ)) → word_place s.location ≡ place → lacks_room (width source) s.location ≡ false
-    → is_taken s (width source) ≡ false → IsNext line s.requests (request_at line s source place)
-asked_next line s source None here room free = tt
-asked_next line s source (Some place) here room free =
-    (refl, meets_none s (record { line = line; bank = place.0; offset = place.1; source = source; extracode = s.extracode; eb = s.eb }) here room free)
+-- the words of a content from a location on, where they may stand and none stands
+asked_next : (line : ℕ) (s : Layout) (content : Content) (place : Option (ℕ × ℕ)) → word_place s.location ≡ place → lacks_room (width content) s.location ≡ false
+    → is_taken s (width content) ≡ false → IsNext line s.requests (option_map_or (λ p. asked s (request_for line s content p)) place s).requests
+asked_next line s content None here room free = inl refl
+asked_next line s content (Some place) here room free =
+    inr (request_for line s content place, (refl, (refl, meets_none s (request_for line s content place) here room free)))
 
-gives_next : (line : ℕ) (s : Layout) (label : Label) (source : Option Source) → (gives line s label source).faults ≡ [] → IsNext line s.requests (requests_at line s source)
-gives_next line s label None e = tt
-gives_next line s label (Some source) e =
-    let free = free_place s label (Some source) e in
-    asked_next line s source (word_place s.location) refl free.0 free.1
+-- a name more leaves the location and the requests as they are
+defined_keeps : (s : Layout) (label : Label) (value : Value) → ((defined s label value).location ≡ s.location) × ((defined s label value).requests ≡ s.requests)
+defined_keeps s Missing value = (refl, refl)
+defined_keeps s Malformed value = (refl, refl)
+defined_keeps s (Named name) value = (refl, refl)
 
-statement_next : (line : ℕ) (s : Layout) (label : Label) (operation : Operation) → (statement_effect line s label operation).faults ≡ [] → IsNext line s.requests (statement_effect line s label operation).requests
-statement_next line s label Nothing e = tt
-statement_next line s label Unknown e = tt
-statement_next line s label (Setloc operand) e = tt
-statement_next line s label (Bank taken number) e = tt
-statement_next line s label (Erase count) e = tt
-statement_next line s label (Equals operand) e = tt
-statement_next line s label (Ebank operand) e = tt
-statement_next line s label (Gives source) e = gives_next line s label source e
+gives_next : (line : ℕ) (s : Layout) (label : Label) (content : Content) → (gives line s label content).faults ≡ [] → IsNext line s.requests (gives line s label content).after.requests
+gives_next line s label content e = by_label label (free_place line s label content e)
+  where
+    by_label : (l : Label) → (lacks_room (width content) s.location ≡ false) × (is_taken s (width content) ≡ false)
+        → IsNext line s.requests (placed_here line (defined s l (value_here s.location)) content).requests
+    by_label Missing free = asked_next line s content (word_place s.location) refl free.0 free.1
+    by_label Malformed free = asked_next line s content (word_place s.location) refl free.0 free.1
+    by_label (Named name) free = asked_next line (defined s (Named name) (value_here s.location)) content (word_place s.location) refl free.0 free.1
+
+label_next : (line : ℕ) (s : Layout) (label : Label) (value : Value) → IsNext line s.requests (defined s label value).requests
+label_next line s label value = inl (defined_keeps s label value).1
+
+equals_next : (line : ℕ) (s : Layout) (label : Label) (value : Result Value FaultKind) → IsNext line s.requests (result_unwrap_or (and_then (λ v. Ok (defined s label v)) value) s).requests
+equals_next line s label (Ok value) = label_next line s label value
+equals_next line s label (Err kind) = inl refl
+
+statement_next : (line : ℕ) (s : Layout) (label : Label) (operation : Operation) → (statement_effect line s label operation).faults ≡ [] → IsNext line s.requests (statement_effect line s label operation).after.requests
+statement_next line s label Nothing e = label_next line s label (value_here s.location)
+statement_next line s label Unknown e = inl refl
+statement_next line s label (Setloc operand) e = inl refl
+statement_next line s label (Bank taken number) e = inl refl
+statement_next line s label (Erase count) e = label_next line s label (value_here s.location)
+statement_next line s label (Equals operand) e = equals_next line s label (early_value s operand)
+statement_next line s label (Ebank operand) e = inl refl
+statement_next line s label (Gives None) e = inl refl
+statement_next line s label (Gives (Some content)) e = gives_next line s label content e
 
 no_others : (kinds others : List FaultKind) → or_else kinds others ≡ [] → others ≡ []
 no_others [] others e = e
 no_others (k ∷ kinds) others e = absurd (cc)
 
 -- what a faultless line asks for
-line_next : (line : ℕ) (s : Layout) (text : List ℕ) → line_faults line s text ≡ [] → IsNext line s.requests (line_effect line s text).requests
+line_next : (line : ℕ) (s : Layout) (text : List ℕ) → line_faults line s text ≡ [] → IsNext line s.requests (line_effect line s text).after.requests
 unfolding line_effect
 line_next line s text e =
     statement_next line s (statement_of text).label (statement_of text).operation (no_others (text_faults line text) (line_effect line s text).faults e)
 
-from-push : (n : ℕ) (rs : List WordRequest) (r : WordRequest) → AreFrom n rs → n ≤ r.line → AreFrom n (rs ++ r ∷ [])
+from-push : (n : ℕ) (rs : List Request) (r : Request) → AreFrom n rs → n ≤ r.line → AreFrom n (rs ++ r ∷ [])
 from-push n [] r p le = (le, tt)
 from-push n (q ∷ rs) r p le = (p.0, from-push n rs r p.1 le)
 
-rising-push : (rs : List WordRequest) (r : WordRequest) → AreRising rs → AreBelow r.line rs → AreRising (rs ++ r ∷ [])
+rising-push : (rs : List Request) (r : Request) → AreRising rs → AreBelow r.line rs → AreRising (rs ++ r ∷ [])
 rising-push [] r p below = (tt, tt)
 rising-push (q ∷ rs) r p below = (from-push (q.line + 1) rs r p.0 below.0, rising-push rs r p.1 below.1)
 
-apart-push : (before rs : List WordRequest) (r : WordRequest) → AreApart before rs → meets (before ++ rs) r ≡ false → AreApart before (rs ++ r ∷ [])
+apart-push : (before rs : List Request) (r : Request) → AreApart before rs → meets (before ++ rs) r ≡ false → AreApart before (rs ++ r ∷ [])
 apart-push before [] r p e = (ap (λ qs. meets qs r) (sym (append-nil before)) ∙ e, tt)
 apart-push before (q ∷ rs) r p e =
     (p.0, apart-push (before ++ q ∷ []) rs r p.1 (ap (λ qs. meets qs r) (append_assoc before (q ∷ []) rs) ∙ e))
 
-below-push : (n : ℕ) (rs : List WordRequest) (r : WordRequest) → AreBelow n rs → r.line ≡ n → AreBelow (n + 1) (rs ++ r ∷ [])
+below-push : (n : ℕ) (rs : List Request) (r : Request) → AreBelow n rs → r.line ≡ n → AreBelow (n + 1) (rs ++ r ∷ [])
 below-push n [] r p e = (omega arith, tt)
 below-push n (q ∷ rs) r p e = (omega (arith, p.0), below-push n rs r p.1 e)
 
-below-more : (n : ℕ) (rs : List WordRequest) → AreBelow n rs → AreBelow (n + 1) rs
+below-more : (n : ℕ) (rs : List Request) → AreBelow n rs → AreBelow (n + 1) rs
 below-more n [] p = tt
 below-more n (q ∷ rs) p = (omega (arith, p.0), below-more n rs p.1)
 
 -- what requests before a line keep
-pub record AreOrdered (line : ℕ) (rs : List WordRequest) : Type 0 where
+pub record AreOrdered (line : ℕ) (rs : List Request) : Type 0 where
   pub rising : AreRising rs
   pub apart : AreApart [] rs
   pub below : AreBelow line rs
 
-ordered-next : (line : ℕ) (rs more : List WordRequest) → AreOrdered line rs → IsNext line rs more → AreOrdered (line + 1) (rs ++ more)
-ordered-next line rs [] p next =
-    rw (append-nil rs) (record { rising = p.rising; apart = p.apart; below = below-more line rs p.below })
-ordered-next line rs (r ∷ []) p next = record {
-  rising = rising-push rs r p.rising (rw next.0 p.below);
-  apart = apart-push [] rs r p.apart next.1;
-  below = below-push line rs r p.below next.0;
-}
-ordered-next line rs (r ∷ q ∷ more) p next = absurd next
+ordered-next : (line : ℕ) (rs after : List Request) → AreOrdered line rs → IsNext line rs after → AreOrdered (line + 1) after
+ordered-next line rs after p (inl same) =
+    rw same (record { rising = p.rising; apart = p.apart; below = below-more line rs p.below })
+ordered-next line rs after p (inr (r, next)) =
+    rw next.0 (record {
+      rising = rising-push rs r p.rising (rw next.1.0 p.below);
+      apart = apart-push [] rs r p.apart next.1.1;
+      below = below-push line rs r p.below next.1.0;
+    })
 
 head_faults : (line : ℕ) (kinds : List FaultKind) (later : List Fault) → on_line line kinds ++ later ≡ [] → (kinds ≡ []) × (later ≡ [])
 head_faults line [] later e = (refl, e)
@@ -161,11 +202,36 @@ ordered_after : (texts : List (List ℕ)) (line : ℕ) (s : Layout) → AreOrder
     → AreRising (layout_after line s texts).requests × AreApart [] (layout_after line s texts).requests
 ordered_after [] line s p none = (p.rising, p.apart)
 ordered_after (text ∷ texts) line s p none =
-    let parts = head_faults line (line_faults line s text) (layout_faults (line + 1) (after_effect s (line_effect line s text)) texts) none in
-    ordered_after texts (line + 1) (after_effect s (line_effect line s text)) (ordered-next line s.requests (line_effect line s text).requests p (line_next line s text parts.0)) parts.1
+    let parts = head_faults line (line_faults line s text) (layout_faults (line + 1) (line_effect line s text).after texts) none in
+    ordered_after texts (line + 1) (line_effect line s text).after (ordered-next line s.requests (line_effect line s text).after.requests p (line_next line s text parts.0)) parts.1
 
 pub ordered : (texts : List (List ℕ)) (s t : Layout) → s.requests ≡ [] → t ≡ layout_after 1 s texts → layout_faults 1 s texts ≡ [] → AreRising t.requests × AreApart [] t.requests
 ordered texts s t e after none =
     let first : AreOrdered 1 s.requests = rw e (record { rising = tt; apart = tt; below = tt }) in
     let both = ordered_after texts 1 s first none in
     rw after both
+
+-- the value of a location where a word may stand
+here_value : (l : Location) (bank offset : ℕ) → word_place l ≡ Some (bank, offset) → value_here l ≡ Fixed bank offset
+here_value (location.Erasable n) bank offset here = absurd (let bad : None ≡ Some (bank, offset) = here in cc)
+here_value (location.Fixed b n) bank offset here =
+    elim (cases_lt n 0o2000) [
+      | inr past ↦ absurd (let bad : None ≡ Some (bank, offset) = rw (le-ltb n 0o2000 past) at here in cc)
+      | inl in_bank ↦
+          let is : ◌≡◌ {A = Option (ℕ × ℕ)} (Some (b, n)) (Some (bank, offset)) = rw (lt-ltb n 0o2000 in_bank) at here in
+          ap (λ (p : ℕ × ℕ). Fixed p.0 p.1) (same_Some (b, n) (bank, offset) is)
+    ]
+
+-- a faultless line that gives words, where its label is defined and its words are asked for
+pub gives_answers : (line : ℕ) (s d t : Layout) (label : Label) (content : Content) (bank offset : ℕ) (result : Result (Unit {0}) FaultKind)
+    → None ≡ least_kind (gives line s label content).faults → word_place s.location ≡ Some (bank, offset) → d ≡ defined s label (Fixed bank offset)
+    → OnOk result (t ≡ asked d (request_for line d content (bank, offset))) → IfErr result (λ kind. kind ≡ NoMemory) → LeadsTo (gives line s label content) t result
+gives_answers line s d t label content bank offset (Ok x) none here names asks failed =
+    let all : Layout = defined s label (value_here s.location) in
+    let same : d ≡ all = names ∙ ap (defined s label) (sym (here_value s.location bank offset here)) in
+    let place : word_place all.location ≡ Some (bank, offset) = ap word_place (defined_keeps s label (value_here s.location)).0 ∙ here in (
+      none_least (gives line s label content).faults (sym none),
+      asks ∙ ap (λ u. asked u (request_for line u content (bank, offset))) same
+          ∙ sym (ap (λ p. option_map_or (λ q. asked all (request_for line all content q)) p all) place),
+    )
+gives_answers line s d t label content bank offset (Err kind) none here names asks failed = λ known. absurd (known failed)

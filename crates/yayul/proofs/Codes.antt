@@ -1,6 +1,6 @@
 use Rattle.std.proofs.Common.{◌≡◌, ℕ, List, true, IfSome, refl}
-use Rattle.yayul.specs.Codes.{has_room}
 use Rattle.yayul.specs.Operators.{operators}
+use Rattle.yayul.specs.Inside.Codes.{has_room}
 use Rattle.agc_text.specs.Tables.{value_in}
 use Rattle.yayul.proofs.Tables.{value_in-all}
 

@@ -7,10 +7,10 @@ use Rattle.agc_text.specs.Views.{piece}
 use Rattle.agc_text.specs.declared.fields.Field.{Field}
 use Rattle.agc_text.specs.declared.fields.Line.{Line}
 use Rattle.yayul.specs.Operators.{operators}
-use Rattle.yayul.specs.Statements.{Arguments, arguments_in, operation_in, operation_of}
+use Rattle.yayul.specs.Forms.{Arguments, arguments_in, operation_in, operation_of}
+use Rattle.yayul.specs.Inside.Representation.{text_of, arguments_of, operation_by}
 use Rattle.agc_text.specs.Tables.{value_in}
-use Rattle.yayul.specs.Views.{text_of, arguments_of, operation_by}
-use Rattle.yayul.specs.declared.statement.Operation.TheVariants.{Nothing}
+use Rattle.yayul.specs.declared.language.Operation.TheVariants.{Nothing}
 
 -- the text of a field is that of its piece
 pub text_of_piece : (field : Option Field) (p : Option Piece) → option_map piece field ≡ p → text_of field ≡ option_map (λ q. q.text) p

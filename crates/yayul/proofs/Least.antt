@@ -1,11 +1,13 @@
 -- The least fault of a list that grows, and of the faults of lines in order.
 use Rattle.std.proofs.Common.{◌≡◌, ℕ, ◌+◌, ◌<◌, ◌≤◌, List, [], ◌∷◌, ◌++◌, length, take, get_or, fold, Option, Some, None, refl, ap, ◌∙◌, arith}
+use Rattle.std.specs.Prelude.{if◌then◌else◌}
 use Rattle.std.proofs.lemmas.Bool.Decides.{nat_tests}
 use Rattle.std.proofs.lemmas.List.{take_more}
-use Rattle.yayul.specs.Layout.{or_else}
-use Rattle.yayul.specs.Faults.{lesser_kind, least_kind, lesser_if, standing, lesser, least, on_line}
-use Rattle.yayul.specs.declared.fault.FaultKind.{FaultKind}
-use Rattle.yayul.specs.declared.fault.Fault.{Fault}
+use Rattle.yayul.specs.Layout.{fault_number, or_else, standing, on_line}
+use Rattle.yayul.specs.Program.{least, is_before}
+use Rattle.yayul.specs.Inside.Answers.{lesser_kind, least_kind, lesser_if}
+use Rattle.yayul.specs.declared.faults.FaultKind.{FaultKind}
+use Rattle.yayul.specs.declared.faults.Fault.{Fault}
 
 fold-one_more : {A B : Type 0} (f : B → A → B) (x : B) (xs : List A) (y : A) → fold f x (xs ++ y ∷ []) ≡ f (fold f x xs) y
 fold-one_more f x [] y = refl
@@ -15,6 +17,10 @@ standing-one_more : (cs : List (Option FaultKind)) (c : Option FaultKind) → st
 standing-one_more [] c = refl
 standing-one_more (None ∷ cs) c = standing-one_more cs c
 standing-one_more (Some k ∷ cs) c = ap (λ ks. k ∷ ks) (standing-one_more cs c)
+
+-- of two faults, the one before the other
+abbrev lesser : Fault → Fault → Fault
+lesser a b = if is_before b a then b else a
 
 -- one condition more
 least_kind-one_more : (ks : List FaultKind) (c : Option FaultKind) → least_kind (ks ++ standing (c ∷ [])) ≡ lesser_if (least_kind ks) c
@@ -32,6 +38,10 @@ least_standing-more cs i lt =
     ap (λ xs. least_kind (standing xs)) (take_more cs i None lt)
     ∙ ap least_kind (standing-one_more (take i cs) (get_or cs i None))
     ∙ least_kind-one_more (standing (take i cs)) (get_or cs i None)
+
+-- a kind of fault on a line
+abbrev pub told : ℕ → FaultKind → Fault
+told line kind = record { line = line; number = fault_number kind }
 
 -- faults on lines from a number on
 abbrev pub StandFrom : ℕ → List Fault → Type 0
@@ -51,23 +61,21 @@ fold-append f x [] ys = refl
 fold-append f x (z ∷ xs) ys = fold-append f (f x z) xs ys
 
 -- of two faults on one line
-same_line : (line : ℕ) (a b : FaultKind) → lesser (record { line = line; kind = a }) (record { line = line; kind = b }) ≡ record { line = line; kind = lesser_kind a b }
+same_line : (line : ℕ) (a b : FaultKind) → lesser (told line a) (told line b) ≡ told line (lesser_kind a b)
 same_line line a b = grind (arith, nat_tests)
 
-fold-on_line : (line : ℕ) (k : FaultKind) (ks : List FaultKind) → fold lesser (record { line = line; kind = k }) (on_line line ks) ≡ record { line = line; kind = fold lesser_kind k ks }
+fold-on_line : (line : ℕ) (k : FaultKind) (ks : List FaultKind) → fold lesser (told line k) (on_line line ks) ≡ told line (fold lesser_kind k ks)
 fold-on_line line k [] = refl
 fold-on_line line k (j ∷ ks) = ap (λ f. fold lesser f (on_line line ks)) (same_line line k j) ∙ fold-on_line line (lesser_kind k j) ks
 
 -- the least fault of a line with faults, where all others stand on later lines
 pub least_here : (line : ℕ) (ks : List FaultKind) (k : FaultKind) (later : List Fault) → least_kind ks ≡ Some k → StandFrom (line + 1) later
-    → least (on_line line ks ++ later) ≡ Some (record { line = line; kind = k })
+    → least (on_line line ks ++ later) ≡ Some (told line k)
 least_here line [] k later e p = absurd (let bad : None ≡ Some k = e in cc)
 least_here line (j ∷ ks) k later e p =
     let same : fold lesser_kind j ks ≡ k = cc in
-    let first : fold lesser (record { line = line; kind = j }) (on_line line ks) ≡ record { line = line; kind = k } =
-    fold-on_line line j ks ∙ ap (λ x. record { line = line; kind = x }) same in
-    ap (λ x. Some x) (fold-append lesser (record { line = line; kind = j }) (on_line line ks) later ∙ ap (λ f. fold lesser f later) first
-    ∙ fold-later (record { line = line; kind = k }) later p)
+    let first : fold lesser (told line j) (on_line line ks) ≡ told line k = fold-on_line line j ks ∙ ap (told line) same in
+    ap (λ x. Some x) (fold-append lesser (told line j) (on_line line ks) later ∙ ap (λ f. fold lesser f later) first ∙ fold-later (told line k) later p)
 
 pub StandFrom-append : (line : ℕ) (fs gs : List Fault) → StandFrom line fs → StandFrom line gs → StandFrom line (fs ++ gs)
 StandFrom-append line [] gs p q = q

@@ -1,59 +1,61 @@
 -- The layout faults of lines in order.
-use Rattle.std.proofs.Common.{◌≡◌, ◌≢◌, ℕ, ◌+◌, Bool, true, false, not, nat_lt, ◌==◌, length, List, [], ◌∷◌, ◌++◌, Some, None, Ok, Err, ap, sym, ◌∙◌, append_assoc, arith}
+use Rattle.std.proofs.Common.{◌≡◌, ◌≢◌, ℕ, ◌+◌, Bool, true, false, not, nat_lt, ◌==◌, length, List, [], ◌∷◌, ◌++◌, map, Some, None, Ok, Err, inl, inr, ap, sym, ◌∙◌, append_assoc, arith}
+use Rattle.std.proofs.lemmas.List.{map-append}
 use Rattle.std.specs.List.{list_all}
 use Rattle.std.proofs.lemmas.Bool.{eq-eqb}
-use Rattle.yayul.specs.Faults.{least_kind, least, on_line, standing, fault_if, IsTold}
-use Rattle.yayul.specs.declared.fault.FaultKind.TheVariants.{NoMemory, NotAscii, LongLine, TooManyLines}
-use Rattle.yayul.specs.declared.fault.Fault.{Fault}
-use Rattle.yayul.specs.Marks.{mark_of, marks_of}
-use Rattle.yayul.specs.Passes.{LeadsTo, LineLeadsTo}
-use Rattle.yayul.specs.Statements.{statement_of}
-use Rattle.yayul.specs.declared.statement.Statement.{Statement}
+use Rattle.yayul.specs.Forms.{statement_of}
+use Rattle.yayul.specs.Layout.{on_line, standing, fault_if, Layout, or_else, text_faults, statement_effect, line_faults, line_effect, layout_after, layout_faults}
+use Rattle.yayul.specs.Program.{least}
+use Rattle.yayul.specs.Listing.{Shown, shown}
+use Rattle.yayul.specs.Inside.Representation.{shown_by_mark, lines_show}
+use Rattle.yayul.specs.Inside.Answers.{Tells, TellsOn, least_kind, LeadsTo, LineLeadsTo}
+use Rattle.yayul.specs.declared.faults.FaultKind.TheVariants.{NoMemory, NotAscii, LongLine, TooManyLines}
+use Rattle.yayul.specs.declared.faults.Fault.{Fault}
+use Rattle.yayul.specs.declared.language.Statement.{Statement}
 use Rattle.agc_text.specs.Bytes.{line_length, is_text_byte}
-use Rattle.yayul.specs.Layout.{Layout, or_else, line_count, text_faults, statement_effect, line_faults, line_effect, after_effect, layout_after, layout_faults}
-use Rattle.yayul.specs.declared.fault.FaultKind.{FaultKind}
+use Rattle.yayul.specs.declared.faults.FaultKind.{FaultKind}
 use Rattle.yayul.specs.declared.mark.Mark.{Mark}
-use Rattle.yayul.proofs.Least.{StandFrom, StandFrom-append, StandFrom-later, StandFrom-on_line, least_here, least-or_else, or_else-none}
+use Rattle.yayul.proofs.Least.{told, StandFrom, StandFrom-append, StandFrom-later, StandFrom-on_line, least_here, least-or_else, or_else-none}
 
 pub layout_faults-from : (line : ℕ) (s : Layout) (texts : List (List ℕ)) → StandFrom line (layout_faults line s texts)
 layout_faults-from line s [] = tt
 layout_faults-from line s (text ∷ texts) =
-    StandFrom-append line (on_line line (line_faults line s text)) (layout_faults (line + 1) (after_effect s (line_effect line s text)) texts)
+    StandFrom-append line (on_line line (line_faults line s text)) (layout_faults (line + 1) (line_effect line s text).after texts)
     (StandFrom-on_line line line (line_faults line s text) (omega arith))
-    (StandFrom-later line (line + 1) (layout_faults (line + 1) (after_effect s (line_effect line s text)) texts) (omega arith)
-    (layout_faults-from (line + 1) (after_effect s (line_effect line s text)) texts))
+    (StandFrom-later line (line + 1) (layout_faults (line + 1) (line_effect line s text).after texts) (omega arith)
+    (layout_faults-from (line + 1) (line_effect line s text).after texts))
 
 -- a line without a fault is passed over
 pub faultless_line : (line : ℕ) (s : Layout) (text : List ℕ) (texts : List (List ℕ)) → line_faults line s text ≡ []
-    → layout_faults line s (text ∷ texts) ≡ layout_faults (line + 1) (after_effect s (line_effect line s text)) texts
+    → layout_faults line s (text ∷ texts) ≡ layout_faults (line + 1) (line_effect line s text).after texts
 faultless_line line s text texts e =
-    ap (λ ks. on_line line ks ++ layout_faults (line + 1) (after_effect s (line_effect line s text)) texts) e
+    ap (λ ks. on_line line ks ++ layout_faults (line + 1) (line_effect line s text).after texts) e
 
 -- a line with a fault has the least
 pub faulty_line : (line : ℕ) (s : Layout) (text : List ℕ) (texts : List (List ℕ)) (k : FaultKind) → least_kind (line_faults line s text) ≡ Some k
-    → least (layout_faults line s (text ∷ texts)) ≡ Some (record { line = line; kind = k })
+    → least (layout_faults line s (text ∷ texts)) ≡ Some (told line k)
 faulty_line line s text texts k e =
-    least_here line (line_faults line s text) k (layout_faults (line + 1) (after_effect s (line_effect line s text)) texts) e
-    (layout_faults-from (line + 1) (after_effect s (line_effect line s text)) texts)
+    least_here line (line_faults line s text) k (layout_faults (line + 1) (line_effect line s text).after texts) e
+    (layout_faults-from (line + 1) (line_effect line s text).after texts)
 
 -- a fault of a line's bytes, length or number is told
 pub line_told : (line : ℕ) (s : Layout) (text : List ℕ) (k : FaultKind) → least_kind (text_faults line text) ≡ Some k → least_kind (line_faults line s text) ≡ Some k
 line_told line s text k e = least-or_else (text_faults line text) (line_effect line s text).faults k e
 
 -- a line without such a fault does what it says, and shows it
-pub line_taken : (line : ℕ) (s : Layout) (text : List ℕ) (said : Statement) (t : Layout) (shown : Mark) → least_kind (text_faults line text) ≡ None → said ≡ statement_of text
-    → shown ≡ mark_of s.location said → LeadsTo s (statement_effect line s said.label said.operation) t (Ok tt) → LineLeadsTo line s text t (Ok shown)
+pub line_taken : (line : ℕ) (s : Layout) (text : List ℕ) (said : Statement) (t : Layout) (mark : Mark) → least_kind (text_faults line text) ≡ None → said ≡ statement_of text
+    → shown_by_mark mark ≡ shown s.location said → LeadsTo (statement_effect line s said.label said.operation) t (Ok tt) → LineLeadsTo line s text t (Ok mark)
 unfolding line_effect
-line_taken line s text said t shown none e m p =
-    let q : LeadsTo s (line_effect line s text) t (Ok tt) = rw e at p in
-    (or_else-none (text_faults line text) (line_effect line s text).faults none ∙ q.0, (q.1, m ∙ ap (mark_of s.location) e))
+line_taken line s text said t mark none e m p =
+    let q : LeadsTo (line_effect line s text) t (Ok tt) = rw e at p in
+    (or_else-none (text_faults line text) (line_effect line s text).faults none ∙ q.0, (q.1, m ∙ ap (shown s.location) e))
 
 -- what such a line says is told, where it has a fault
 pub line_refused : (line : ℕ) (s : Layout) (text : List ℕ) (said : Statement) (t : Layout) (kind : FaultKind) → least_kind (text_faults line text) ≡ None → said ≡ statement_of text
-    → LeadsTo s (statement_effect line s said.label said.operation) t (Err kind) → LineLeadsTo line s text t (Err kind)
+    → LeadsTo (statement_effect line s said.label said.operation) t (Err kind) → LineLeadsTo line s text t (Err kind)
 unfolding line_effect
 line_refused line s text said t kind none e p =
-    let q : LeadsTo s (line_effect line s text) t (Err kind) = rw e at p in
+    let q : LeadsTo (line_effect line s text) t (Err kind) = rw e at p in
     λ known. ap least_kind (or_else-none (text_faults line text) (line_effect line s text).faults none) ∙ q known
 
 -- where the third of three faults stands, there are some
@@ -66,39 +68,33 @@ third false false false others e h = cc
 -- a line without a fault is none after the last
 pub few_lines : (line : ℕ) (s : Layout) (text : List ℕ) → line_faults line s text ≡ [] → line ≢ 65537
 few_lines line s text e same =
-    third (not (list_all is_text_byte text)) (nat_lt line_length (length text)) (line == line_count + 1) (line_effect line s text).faults (eq-eqb line 65537 same) e
+    third (not (list_all is_text_byte text)) (nat_lt line_length (length text)) (line == 65537) (line_effect line s text).faults (eq-eqb line 65537 same) e
 
 -- a faultless line before others
 pub faults_passed : (line : ℕ) (s t : Layout) (text : List ℕ) (here after : List (List ℕ)) → here ≡ text ∷ after → line_faults line s text ≡ []
-    → t ≡ after_effect s (line_effect line s text) → layout_faults line s here ≡ layout_faults (line + 1) t after
+    → t ≡ (line_effect line s text).after → layout_faults line s here ≡ layout_faults (line + 1) t after
 faults_passed line s t text here after e none next =
     ap (layout_faults line s) e ∙ faultless_line line s text after none ∙ ap (λ u. layout_faults (line + 1) u after) (sym next)
 
 pub layout_passed : (line : ℕ) (s t : Layout) (text : List ℕ) (here after : List (List ℕ)) → here ≡ text ∷ after
-    → t ≡ after_effect s (line_effect line s text) → layout_after line s here ≡ layout_after (line + 1) t after
+    → t ≡ (line_effect line s text).after → layout_after line s here ≡ layout_after (line + 1) t after
 layout_passed line s t text here after e next =
     ap (layout_after line s) e ∙ ap (λ u. layout_after (line + 1) u after) (sym next)
 
 -- what the lines show, where one is passed
-pub marks_passed : (line : ℕ) (s t : Layout) (text : List ℕ) (here after : List (List ℕ)) (shown : Mark) (all marks more : List Mark) → here ≡ text ∷ after
-    → t ≡ after_effect s (line_effect line s text) → shown ≡ mark_of s.location (statement_of text) → more ≡ marks ++ shown ∷ []
-    → all ≡ marks ++ marks_of line s here → all ≡ more ++ marks_of (line + 1) t after
-marks_passed line s t text here after shown all marks more e next is pushed so_far =
-    so_far ∙ ap (λ texts. marks ++ marks_of line s texts) e
-    ∙ ap (λ (m : Mark). marks ++ m ∷ marks_of (line + 1) (after_effect s (line_effect line s text)) after) (sym is)
-    ∙ ap (λ u. marks ++ shown ∷ marks_of (line + 1) u after) (sym next)
-    ∙ sym (append_assoc marks (shown ∷ []) (marks_of (line + 1) t after))
-    ∙ ap (λ ms. ms ++ marks_of (line + 1) t after) (sym pushed)
+pub shown_passed : (line : ℕ) (s t : Layout) (text : List ℕ) (here after : List (List ℕ)) (mark : Mark) (all : List Shown) (marks more : List Mark) → here ≡ text ∷ after
+    → t ≡ (line_effect line s text).after → shown_by_mark mark ≡ shown s.location (statement_of text) → more ≡ marks ++ mark ∷ []
+    → all ≡ map shown_by_mark marks ++ lines_show line s here → all ≡ map shown_by_mark more ++ lines_show (line + 1) t after
+shown_passed line s t text here after mark all marks more e next is pushed so_far =
+    so_far ∙ ap (λ texts. map shown_by_mark marks ++ lines_show line s texts) e
+    ∙ ap (λ (m : Shown). map shown_by_mark marks ++ m ∷ lines_show (line + 1) (line_effect line s text).after after) (sym is)
+    ∙ ap (λ u. map shown_by_mark marks ++ shown_by_mark mark ∷ lines_show (line + 1) u after) (sym next)
+    ∙ sym (append_assoc (map shown_by_mark marks) (shown_by_mark mark ∷ []) (lines_show (line + 1) t after))
+    ∙ ap (λ ms. ms ++ lines_show (line + 1) t after) (sym (ap (map shown_by_mark) pushed ∙ map-append shown_by_mark marks (mark ∷ [])))
 
 -- a refused line refuses the source
 pub told_on : (all : List Fault) (line : ℕ) (s : Layout) (text : List ℕ) (here after : List (List ℕ)) (kind : FaultKind) (fault : Fault) → all ≡ layout_faults line s here
-    → here ≡ text ∷ after → (kind ≢ NoMemory → least_kind (line_faults line s text) ≡ Some kind)
-    → fault.kind ≡ kind → (kind ≢ NoMemory → fault.line ≡ line) → (kind ≡ NoMemory → fault.line ≡ 0) → IsTold (least all ≡ Some fault) fault
-told_on all line s text here after kind fault same e told same_kind same_line no_line = (
-  λ known.
-      let known_kind : kind ≢ NoMemory = λ bad. known (same_kind ∙ bad) in
-      let is : record { line = line; kind = kind } ≡ fault =
-      ap (λ (n : ℕ). record { line = n; kind = kind }) (sym (same_line known_kind)) ∙ ap (λ (k : FaultKind). record { line = fault.line; kind = k }) (sym same_kind) in
-      ap least same ∙ ap (λ texts. least (layout_faults line s texts)) e ∙ faulty_line line s text after kind (told known_kind) ∙ ap (λ f. Some f) is,
-  λ bad. no_line (sym same_kind ∙ bad),
-)
+    → here ≡ text ∷ after → (kind ≢ NoMemory → least_kind (line_faults line s text) ≡ Some kind) → TellsOn line kind fault → Tells (least all) fault
+told_on all line s text here after kind fault same e told_kind (inl none) = inl none
+told_on all line s text here after kind fault same e told_kind (inr is) =
+    inr (ap least same ∙ ap (λ texts. least (layout_faults line s texts)) e ∙ faulty_line line s text after kind (told_kind is.0) ∙ ap (λ f. Some f) (sym is.1))

@@ -1,5 +1,5 @@
 -- The listings of small sources, by the definitions alone.
-use Rattle.std.proofs.Common.{◌≡◌, ℕ, List, [], ◌∷◌, ◌++◌, Result, Ok, Err, refl}
+use Rattle.std.proofs.Common.{◌≡◌, ℕ, List, [], ◌∷◌, ◌++◌, Result, Ok, Err, None, refl}
 use Rattle.std.specs.Fmt.{digits}
 use Rattle.std.specs.Prelude.{codes}
 use Rattle.agc_text.specs.Fields.{runs}
@@ -7,16 +7,14 @@ use Rattle.agc_text.specs.Lines.{lines}
 use Rattle.rope.specs.Places.{Words, word_at}
 use Rattle.space.specs.Places.{window, fb_of}
 use Rattle.words.specs.Numerals.{octal_text}
-use Rattle.yayul.specs.Layout.{start, line_effect}
-use Rattle.yayul.specs.Listing.{listing, line_rows, number_column, word_columns, place_text, symbol_row, symbols_head}
-use Rattle.yayul.specs.Marks.{marks_of}
 use Rattle.yayul.specs.Operators.{operators}
-use Rattle.yayul.specs.Program.{program, Program}
-use Rattle.yayul.specs.Statements.{statement_of}
+use Rattle.yayul.specs.Forms.{statement_of}
+use Rattle.yayul.specs.Layout.{start, line_effect}
 use Rattle.yayul.specs.Words.{request_words, request_faults}
-use Rattle.yayul.specs.declared.fault.Fault.{Fault}
-use Rattle.yayul.specs.declared.mark.Mark.{Mark}
-use Rattle.yayul.specs.declared.mark.Mark.TheVariants.{Nothing, Word, Words as Pair}
+use Rattle.yayul.specs.Program.{program, Program}
+use Rattle.yayul.specs.Listing.{Shown, nothing, listing, line_rows, number_column, word_columns, place_text, symbol_row, symbols_head}
+use Rattle.yayul.specs.declared.faults.Fault.{Fault}
+use Rattle.yayul.specs.Inside.Representation.{lines_show}
 
 abbrev lf : List ℕ
 lf = 10 ∷ []
@@ -31,35 +29,42 @@ abbrev listed : Result Program Fault → List ℕ
 listed (Ok p) = listing p
 listed (Err fault) = []
 
--- what the lines of a source show
-abbrev shown : List (List ℕ) → List Mark
-shown texts = marks_of 1 start texts
+-- one word at a place, or two
+abbrev word : ℕ → ℕ → Shown
+word bank offset = record { place = None; words = (bank, offset) ∷ [] }
 
-five_plus_five_shows : shown (codes " SETLOC 4000" ∷ codes " CA FIVE" ∷ codes " AD FIVE" ∷ codes " EXTEND" ∷ codes " WRITE 10" ∷ codes " TCF 4000" ∷ codes "FIVE OCT 5" ∷ []) ≡ Nothing ∷ Word 2 0 ∷ Word 2 1 ∷ Word 2 2 ∷ Word 2 3 ∷ Word 2 4 ∷ Word 2 5 ∷ []
+abbrev pair : ℕ → ℕ → ℕ → Shown
+pair bank offset second = record { place = None; words = (bank, offset) ∷ (bank, second) ∷ [] }
+
+-- what the lines of a source show
+abbrev shows : List (List ℕ) → List Shown
+shows texts = lines_show 1 start texts
+
+five_plus_five_shows : shows (codes " SETLOC 4000" ∷ codes " CA FIVE" ∷ codes " AD FIVE" ∷ codes " EXTEND" ∷ codes " WRITE 10" ∷ codes " TCF 4000" ∷ codes "FIVE OCT 5" ∷ []) ≡ nothing ∷ word 2 0 ∷ word 2 1 ∷ word 2 2 ∷ word 2 3 ∷ word 2 4 ∷ word 2 5 ∷ []
 unfolding runs operators statement_of line_effect
 five_plus_five_shows = refl
 
-bank_five_shows : shown (codes " BANK 5" ∷ codes " OCT 1" ∷ codes " SETLOC 4000" ∷ codes " BANK 5" ∷ codes " OCT 2" ∷ []) ≡ Nothing ∷ Word 5 0 ∷ Nothing ∷ Nothing ∷ Word 5 1 ∷ []
+bank_five_shows : shows (codes " BANK 5" ∷ codes " OCT 1" ∷ codes " SETLOC 4000" ∷ codes " BANK 5" ∷ codes " OCT 2" ∷ []) ≡ nothing ∷ word 5 0 ∷ nothing ∷ nothing ∷ word 5 1 ∷ []
 unfolding runs operators statement_of line_effect
 bank_five_shows = refl
 
-second_row_of_five_plus_five : (words : Words) → word_at words 2 0 ≡ 0o34005 → line_rows 2 words (codes " CA FIVE") (Word 2 0) ≡ codes "    2 02,4000 34005   CA FIVE" ++ lf
+second_row_of_five_plus_five : (words : Words) → word_at words 2 0 ≡ 0o34005 → line_rows 2 words (codes " CA FIVE") (word 2 0) ≡ codes "    2 02,4000 34005   CA FIVE" ++ lf
 unfolding line_rows number_column word_columns place_text window octal_text digits
 second_row_of_five_plus_five words e = rw e refl
 
-last_row_of_five_plus_five : (words : Words) → word_at words 2 5 ≡ 0o00005 → line_rows 7 words (codes "FIVE OCT 5") (Word 2 5) ≡ codes "    7 02,4005 00005  FIVE OCT 5" ++ lf
+last_row_of_five_plus_five : (words : Words) → word_at words 2 5 ≡ 0o00005 → line_rows 7 words (codes "FIVE OCT 5") (word 2 5) ≡ codes "    7 02,4005 00005  FIVE OCT 5" ++ lf
 unfolding line_rows number_column word_columns place_text window octal_text digits
 last_row_of_five_plus_five words e = rw e refl
 
-last_row_of_bank_five : (words : Words) → word_at words 5 1 ≡ 0o00002 → line_rows 5 words (codes " OCT 2") (Word 5 1) ≡ codes "    5 05,2001 00002   OCT 2" ++ lf
+last_row_of_bank_five : (words : Words) → word_at words 5 1 ≡ 0o00002 → line_rows 5 words (codes " OCT 2") (word 5 1) ≡ codes "    5 05,2001 00002   OCT 2" ++ lf
 unfolding line_rows number_column word_columns place_text window octal_text digits
 last_row_of_bank_five words e = rw e refl
 
-last_row_of_bank_three : (words : Words) → word_at words 3 1023 ≡ 0o77777 → line_rows 65536 words (codes " OCT 77777") (Word 3 1023) ≡ codes "65536 03,7777 77777   OCT 77777" ++ lf
+last_row_of_bank_three : (words : Words) → word_at words 3 1023 ≡ 0o77777 → line_rows 65536 words (codes " OCT 77777") (word 3 1023) ≡ codes "65536 03,7777 77777   OCT 77777" ++ lf
 unfolding line_rows number_column word_columns place_text window octal_text digits
 last_row_of_bank_three words e = rw e refl
 
-two_rows_of_two_words : (words : Words) → word_at words 2 4 ≡ 0o02000 → word_at words 2 5 ≡ 0o66100 → line_rows 9 words (codes "TARG 2CADR FAR") (Pair 2 4 5) ≡ source (codes "    9 02,4004 02000  TARG 2CADR FAR" ∷ codes "    9 02,4005 66100" ∷ [])
+two_rows_of_two_words : (words : Words) → word_at words 2 4 ≡ 0o02000 → word_at words 2 5 ≡ 0o66100 → line_rows 9 words (codes "TARG 2CADR FAR") (pair 2 4 5) ≡ source (codes "    9 02,4004 02000  TARG 2CADR FAR" ∷ codes "    9 02,4005 66100" ∷ [])
 unfolding line_rows number_column word_columns place_text window octal_text digits
 two_rows_of_two_words words e f = rw (e, f) refl
 

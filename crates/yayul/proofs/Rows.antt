@@ -5,13 +5,13 @@ use Rattle.agc_text.specs.Fields.{runs}
 use Rattle.agc_text.specs.Lines.{lines}
 use Rattle.space.specs.Places.{window, fb_of, sup_of}
 use Rattle.yayul.specs.Operators.{operators}
-use Rattle.yayul.specs.Statements.{statement_of}
-use Rattle.yayul.specs.Layout.{start, line_effect, layout_after}
+use Rattle.yayul.specs.Forms.{statement_of}
+use Rattle.yayul.specs.Layout.{fault_number, start, line_effect, layout_after}
 use Rattle.yayul.specs.Words.{request_words, request_faults}
 use Rattle.yayul.specs.Program.{program, image_of}
-use Rattle.yayul.specs.declared.fault.Fault.{Fault}
-use Rattle.yayul.specs.declared.fault.FaultKind.{FaultKind}
-use Rattle.yayul.specs.declared.fault.FaultKind.TheVariants as kind
+use Rattle.yayul.specs.declared.faults.Fault.{Fault}
+use Rattle.yayul.specs.declared.faults.FaultKind.{FaultKind}
+use Rattle.yayul.specs.declared.faults.FaultKind.TheVariants as kind
 
 abbrev lf : List ℕ
 lf = 10 ∷ []
@@ -22,7 +22,7 @@ source [] = []
 source (line ∷ rest) = line ++ lf ++ source rest
 
 abbrev fault : ℕ → FaultKind → Fault
-fault line kind = record { line = line; kind = kind }
+fault line kind = record { line = line; number = fault_number kind }
 
 undefined : program (source (codes " SETLOC 4000" ∷ codes " CA NOSUCH" ∷ [])) ≡ Err (fault 2 kind.Undefined)
 unfolding program runs operators statement_of line_effect request_words request_faults lines window fb_of

@@ -7,11 +7,9 @@ use Rattle.std.proofs.lemmas.Bool.Decides.{nat_tests}
 use Rattle.std.proofs.lemmas.List.Elements.{All-head, All-tail}
 use Rattle.rope.specs.Places.{Words, banks, bank_words, Placed, no_words, with_word, with_words, slot_at, stands}
 use Rattle.rope.proofs.PlaceLaws.{slot_at-with_word, slot_at-no_words, with_words-append}
-use Rattle.yayul.specs.Layout.{width, stands_at}
-use Rattle.yayul.specs.Placing.{placed_from}
-use Rattle.yayul.specs.Requests.{meets}
-use Rattle.yayul.specs.Sound.{zeros_at, taken_by, AreWithin}
-use Rattle.yayul.specs.declared.layout.WordRequest.{WordRequest}
+use Rattle.yayul.specs.Layout.{Request, width, stands_at}
+use Rattle.yayul.specs.Program.{placed_from}
+use Rattle.yayul.specs.Inside.Sound.{meets, zeros_at, taken_by, AreWithin}
 
 is_some-or : (b : Bool) (word : ℕ) (slot : Option ℕ) → is_some (cond b (Some word) slot) ≡ (b || is_some slot)
 is_some-or true word slot = refl
@@ -46,11 +44,11 @@ among-more : (same : Bool) (first offset count : ℕ)
 among-more same first offset count = grind (arith, nat_tests)
 
 -- a request that meets none shares neither place
-pub meets_not : (others : List WordRequest) (r : WordRequest) → meets others r ≡ false
-    → (list_any (stands_at r.bank r.offset) others ≡ false) × (1 < width r.source → list_any (stands_at r.bank (r.offset + 1)) others ≡ false)
+pub meets_not : (others : List Request) (r : Request) → meets others r ≡ false
+    → (list_any (stands_at r.bank r.offset) others ≡ false) × (1 < width r.content → list_any (stands_at r.bank (r.offset + 1)) others ≡ false)
 meets_not others r e =
-    let parts = or-parts (list_any (stands_at r.bank r.offset) others) (nat_lt 1 (width r.source) && list_any (stands_at r.bank (r.offset + 1)) others) e in
-    (parts.0, λ two. rw (lt-ltb 1 (width r.source) two) at parts.1)
+    let parts = or-parts (list_any (stands_at r.bank r.offset) others) (nat_lt 1 (width r.content) && list_any (stands_at r.bank (r.offset + 1)) others) e in
+    (parts.0, λ two. rw (lt-ltb 1 (width r.content) two) at parts.1)
 
 -- words stand where some were put from a place on, or where they stood before
 pub stands-placed_from : (ws : List ℕ) (words : Words) (b o bank offset : ℕ) → b < banks → o + length ws ≤ bank_words
@@ -65,38 +63,60 @@ stands-placed_from (w ∷ ws) words b o bank offset in_banks room =
     ∙ ap (λ x. x || stands words bank offset) (among-more (bank == b) o offset (length ws))
 
 -- words stand where requests put as many as they ask for, or where they stood before
-pub stands-with_words : (f : WordRequest → List ℕ) → ((r : WordRequest) → length (f r) ≡ width r.source) → (rs : List WordRequest) (words : Words) (bank offset : ℕ) → AreWithin rs
+pub stands-with_words : (f : Request → List ℕ) → ((r : Request) → length (f r) ≡ width r.content) → (rs : List Request) (words : Words) (bank offset : ℕ) → AreWithin rs
     → stands (with_words words (flat_map (λ r. placed_from r.bank r.offset (f r)) rs)) bank offset ≡ (list_any (stands_at bank offset) rs || stands words bank offset)
 stands-with_words f wide [] words bank offset within = refl
 stands-with_words f wide (r ∷ rs) words bank offset within =
-    let here : (r.bank < banks) × (r.offset + width r.source ≤ bank_words) = All-head (λ q. (q.bank < banks) × (q.offset + width q.source ≤ bank_words)) r rs within in
-    let rest : AreWithin rs = All-tail (λ q. (q.bank < banks) × (q.offset + width q.source ≤ bank_words)) r rs within in
+    let here : (r.bank < banks) × (r.offset + width r.content ≤ bank_words) = All-head (λ q. (q.bank < banks) × (q.offset + width q.content ≤ bank_words)) r rs within in
+    let rest : AreWithin rs = All-tail (λ q. (q.bank < banks) × (q.offset + width q.content ≤ bank_words)) r rs within in
     ap (λ ws. stands ws bank offset) (with_words-append words (placed_from r.bank r.offset (f r)) (flat_map (λ r. placed_from r.bank r.offset (f r)) rs))
     ∙ stands-with_words f wide rs (with_words words (placed_from r.bank r.offset (f r))) bank offset rest
     ∙ ap (λ x. list_any (stands_at bank offset) rs || x) (stands-placed_from (f r) words r.bank r.offset bank offset here.0 (rw (wide r) here.1))
     ∙ ap (λ n. list_any (stands_at bank offset) rs || ((bank == r.bank && (nat_le r.offset offset && nat_lt offset (r.offset + n))) || stands words bank offset)) (wide r)
     ∙ or-swap (list_any (stands_at bank offset) rs) (stands_at bank offset r) (stands words bank offset)
 
+-- an offset among fewer is among more
+among-fewer : (same : Bool) (first offset few many : ℕ) → few ≤ many
+    → (same && (nat_le first offset && nat_lt offset (first + many))) ≡ false → (same && (nat_le first offset && nat_lt offset (first + few))) ≡ false
+among-fewer same first offset few many le e = grind (arith, nat_tests)
+
+-- no word stands where requests ask for none and none stood before, where they put no more than they ask for
+pub stands-nowhere : (f : Request → List ℕ) → ((r : Request) → length (f r) ≤ width r.content) → (rs : List Request) (words : Words) (bank offset : ℕ) → AreWithin rs
+    → list_any (stands_at bank offset) rs ≡ false → stands words bank offset ≡ false
+    → stands (with_words words (flat_map (λ r. placed_from r.bank r.offset (f r)) rs)) bank offset ≡ false
+stands-nowhere f few [] words bank offset within none free = free
+stands-nowhere f few (r ∷ rs) words bank offset within none free =
+    let here : (r.bank < banks) × (r.offset + width r.content ≤ bank_words) = All-head (λ q. (q.bank < banks) × (q.offset + width q.content ≤ bank_words)) r rs within in
+    let rest : AreWithin rs = All-tail (λ q. (q.bank < banks) × (q.offset + width q.content ≤ bank_words)) r rs within in
+    let parts = or-parts (stands_at bank offset r) (list_any (stands_at bank offset) rs) none in
+    let fits : length (f r) ≤ width r.content = few r in
+    let not_here : (bank == r.bank && (nat_le r.offset offset && nat_lt offset (r.offset + length (f r)))) ≡ false =
+    among-fewer (bank == r.bank) r.offset offset (length (f r)) (width r.content) fits parts.0 in
+    let placed : stands (with_words words (placed_from r.bank r.offset (f r))) bank offset ≡ false =
+    stands-placed_from (f r) words r.bank r.offset bank offset here.0 (omega (arith, here.1, fits)) ∙ ap (λ x. x || stands words bank offset) not_here ∙ free in
+    ap (λ ws. stands ws bank offset) (with_words-append words (placed_from r.bank r.offset (f r)) (flat_map (λ r. placed_from r.bank r.offset (f r)) rs))
+    ∙ stands-nowhere f few rs (with_words words (placed_from r.bank r.offset (f r))) bank offset rest parts.1 placed
+
 pub length-zeros : (n : ℕ) → length {A = ℕ} (replicate n 0) ≡ n
 length-zeros zero = refl
 length-zeros (suc n) = ap suc (length-zeros n)
 
 -- a place is taken where a request asks for its word
-pub stands-taken_by : (rs : List WordRequest) (bank offset : ℕ) → AreWithin rs → stands (taken_by rs) bank offset ≡ list_any (stands_at bank offset) rs
+pub stands-taken_by : (rs : List Request) (bank offset : ℕ) → AreWithin rs → stands (taken_by rs) bank offset ≡ list_any (stands_at bank offset) rs
 unfolding taken_by
 stands-taken_by rs bank offset within =
-    stands-with_words (λ r. replicate (width r.source) 0) (λ r. length-zeros (width r.source)) rs no_words bank offset within
+    stands-with_words (λ r. replicate (width r.content) 0) (λ r. length-zeros (width r.content)) rs no_words bank offset within
     ∙ ap (λ slot. list_any (stands_at bank offset) rs || is_some slot) (slot_at-no_words bank offset)
     ∙ or-false (list_any (stands_at bank offset) rs)
 
 -- one more is mapped to a list
-pub with_words-more : (words : Words) (f : WordRequest → List Placed) (rs : List WordRequest) (r : WordRequest)
+pub with_words-more : (words : Words) (f : Request → List Placed) (rs : List Request) (r : Request)
     → with_words words (flat_map f (rs ++ r ∷ [])) ≡ with_words (with_words words (flat_map f rs)) (f r)
 with_words-more words f rs r =
     ap (with_words words) (sym (flat_map_more f [] rs r)) ∙ with_words-append words (flat_map f rs) (f r)
 
 -- one request more takes its places more
-pub taken_by-push : (rs : List WordRequest) (r : WordRequest) → taken_by (rs ++ r ∷ []) ≡ with_words (taken_by rs) (zeros_at r)
+pub taken_by-push : (rs : List Request) (r : Request) → taken_by (rs ++ r ∷ []) ≡ with_words (taken_by rs) (zeros_at r)
 unfolding taken_by
 taken_by-push rs r = with_words-more no_words zeros_at rs r
 

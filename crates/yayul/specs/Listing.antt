@@ -1,33 +1,54 @@
 -- The listing of a program: a row for each line of its source, and its symbols.
-use Rattle.std.specs.Prelude.{ℕ, ◌+◌, ◌-◌, ◌/◌, List, [], ◌∷◌, ◌++◌, length, replicate, codes, decimal}
+use Rattle.std.specs.Prelude.{ℕ, ◌+◌, ◌-◌, ◌/◌, nat_lt, List, [], ◌∷◌, ◌++◌, length, replicate, drop, slice_get, codes, decimal, Option, None, Some, if◌then◌else◌}
 use Rattle.std.specs.List.{flat_map}
+use Rattle.std.specs.Option.{option_map_or}
 use Rattle.agc_text.specs.Lines.{lines}
 use Rattle.rope.specs.Places.{Words, word_at}
 use Rattle.space.specs.Places.{window}
 use Rattle.space.specs.declared.place.Linear.{Linear}
 use Rattle.space.specs.declared.place.Linear.TheVariants as linear
 use Rattle.words.specs.Numerals.{octal_text}
+use Rattle.yayul.specs.Forms.{statement_of}
+use Rattle.yayul.specs.Layout.{Layout, start, width, is_missing, line_effect}
 use Rattle.yayul.specs.Program.{Program}
-use Rattle.yayul.specs.declared.mark.Mark.{Mark}
-use Rattle.yayul.specs.declared.mark.Mark.TheVariants as mark
-use Rattle.yayul.specs.declared.value.Value.{Value}
-use Rattle.yayul.specs.declared.value.Value.TheVariants.{Num, Erasable, Fixed}
+use Rattle.yayul.specs.Language.{Erasable, Erase, Fixed, Gives, Label, Location, Nothing, Num, Operation, Statement, Value}
 
--- the byte of a blank
-abbrev pub blank : ℕ
-blank = 0o40
+-- what a line shows beside its number and its text: a place without a word, or the banks and offsets of its words
+pub record Shown : Type 0 where
+  pub place : Option Linear
+  pub words : List (ℕ × ℕ)
+
+abbrev pub nothing : Shown
+nothing = record { place = None; words = [] }
+
+-- the place at a location, unless that stands past an end
+abbrev pub place_here : Location → Option Linear
+place_here (Location.Erasable n) = if nat_lt n 0o4000 then Some (linear.Erasable n) else None
+place_here (Location.Fixed bank n) = if nat_lt n 0o2000 then Some (linear.Fixed bank n) else None
+
+-- a place that a bank has
+abbrev pub place_in : ℕ → ℕ → List (ℕ × ℕ)
+place_in bank n = if nat_lt n 0o2000 then (bank, n) ∷ [] else []
+
+-- the places of one or two words from a location on
+abbrev pub words_from : ℕ → Location → List (ℕ × ℕ)
+words_from count (Location.Erasable n) = []
+words_from count (Location.Fixed bank n) = place_in bank n ++ (if nat_lt 1 count then place_in bank (n + 1) else [])
+
+-- a line shows the place of its words, of what ERASE passes, or of a label alone
+abbrev pub shown_by : Location → Label → Operation → Shown
+shown_by here label Nothing = if is_missing label then nothing else record { place = place_here here; words = [] }
+shown_by here label (Erase count) = record { place = place_here here; words = [] }
+shown_by here label (Gives (Some content)) = record { place = None; words = words_from (width content) here }
+shown_by here label _ = nothing
+
+-- what a statement shows, which stands at a location
+abbrev pub shown : Location → Statement → Shown
+shown here said = shown_by here said.label said.operation
 
 -- so many blanks
 abbrev pub blanks : ℕ → List ℕ
-blanks n = replicate n blank
-
--- a text with blanks before it, in so many places
-abbrev pub right_in : ℕ → List ℕ → List ℕ
-right_in places text = blanks (places - length text) ++ text
-
--- a text with blanks after it, in so many places
-abbrev pub left_in : ℕ → List ℕ → List ℕ
-left_in places text = text ++ blanks (places - length text)
+blanks n = replicate n 0o40
 
 -- the bank of a place, that of an erasable one after an E
 abbrev pub bank_text : Linear → List ℕ
@@ -38,21 +59,22 @@ bank_text (linear.Fixed bank offset) = octal_text 2 bank
 unfoldable pub place_text : Linear → List ℕ
 place_text place = bank_text place ++ codes "," ++ octal_text 4 (window place)
 
--- the number of a line in decimal, and a blank
+-- the number of a line in decimal, right in 5 places, and a blank
 unfoldable pub number_column : ℕ → List ℕ
-number_column number = right_in 5 (decimal number) ++ codes " "
+number_column number = (blanks (5 - length (decimal number)) ++ decimal number) ++ codes " "
 
 -- a place of fixed memory, and the word that stands there
 unfoldable pub word_columns : Words → ℕ → ℕ → List ℕ
 word_columns words bank offset = place_text (linear.Fixed bank offset) ++ codes " " ++ octal_text 5 (word_at words bank offset)
 
--- the columns of the place, 7 bytes, and of the word, 5 bytes, with a blank between them
-abbrev pub mark_columns : Words → Mark → List ℕ
-mark_columns words mark.Nothing = blanks 13
-mark_columns words (mark.Erasable n) = place_text (linear.Erasable n) ++ blanks 6
-mark_columns words (mark.Fixed bank offset) = place_text (linear.Fixed bank offset) ++ blanks 6
-mark_columns words (mark.Word bank offset) = word_columns words bank offset
-mark_columns words (mark.Words bank offset second) = word_columns words bank offset
+-- a place without a word, or blanks
+abbrev pub place_columns : Option Linear → List ℕ
+place_columns None = blanks 13
+place_columns (Some place) = place_text place ++ blanks 6
+
+-- the columns of the place, 7 bytes, and of the first word, 5 bytes, with a blank between them
+abbrev pub columns : Words → Shown → List ℕ
+columns words shown = option_map_or (λ p. word_columns words p.0 p.1) (slice_get shown.words 0) (place_columns shown.place)
 
 -- the blanks before a text, where one stands
 abbrev pub gap : List ℕ → List ℕ
@@ -60,26 +82,23 @@ gap [] = []
 gap (byte ∷ rest) = codes "  "
 
 -- what stands on a row before the text of its line
-abbrev pub row_front : ℕ → Words → Mark → List ℕ → List ℕ
-row_front number words shown text = number_column number ++ mark_columns words shown ++ gap text
+abbrev pub row_front : ℕ → Words → Shown → List ℕ → List ℕ
+row_front number words shown text = number_column number ++ columns words shown ++ gap text
 
--- the row of a second word, which has the number of its line and no text
-abbrev pub second_row : ℕ → Words → Mark → List ℕ
-second_row number words mark.Nothing = []
-second_row number words (mark.Erasable n) = []
-second_row number words (mark.Fixed bank offset) = []
-second_row number words (mark.Word bank offset) = []
-second_row number words (mark.Words bank offset second) = number_column number ++ word_columns words bank second ++ codes "\n"
+-- the row of a further word, which has the number of its line and no text
+abbrev pub further_row : ℕ → Words → ℕ × ℕ → List ℕ
+further_row number words place = number_column number ++ word_columns words place.0 place.1 ++ codes "\n"
 
 -- the rows of a line
-unfoldable pub line_rows : ℕ → Words → List ℕ → Mark → List ℕ
-line_rows number words text shown = (row_front number words shown text ++ text ++ codes "\n") ++ second_row number words shown
+unfoldable pub line_rows : ℕ → Words → List ℕ → Shown → List ℕ
+line_rows number words text shown =
+    (row_front number words shown text ++ text ++ codes "\n") ++ flat_map (further_row number words) (drop 1 shown.words)
 
--- the rows of some lines, the first of them with a number, and each with what it shows
-abbrev pub rows : ℕ → Words → List (List ℕ) → List Mark → List ℕ
-rows number words [] marks = []
-rows number words (text ∷ texts) [] = []
-rows number words (text ∷ texts) (shown ∷ marks) = line_rows number words text shown ++ rows (number + 1) words texts marks
+-- the rows of some lines, the first of them with a number and what stands before it
+abbrev pub rows : ℕ → Layout → Words → List (List ℕ) → List ℕ
+rows line s words [] = []
+rows line s words (text ∷ texts) =
+    line_rows line words text (shown s.location (statement_of text)) ++ rows (line + 1) (line_effect line s text).after words texts
 
 -- the value of a symbol: a number, an erasable place, or a bank and an offset
 abbrev pub value_text : Value → List ℕ
@@ -87,9 +106,9 @@ value_text (Num n) = codes "NUM " ++ octal_text 5 n
 value_text (Erasable n) = codes "ERASABLE " ++ octal_text 4 n
 value_text (Fixed bank offset) = codes "FIXED " ++ octal_text 2 bank ++ codes "," ++ octal_text 4 offset
 
--- the row of a symbol
+-- the row of a symbol, its name left in 8 places
 unfoldable pub symbol_row : List ℕ × Value → List ℕ
-symbol_row symbol = left_in 8 symbol.0 ++ codes " " ++ value_text symbol.1 ++ codes "\n"
+symbol_row symbol = (symbol.0 ++ blanks (8 - length symbol.0)) ++ codes " " ++ value_text symbol.1 ++ codes "\n"
 
 -- the row before the symbols, which tells how many there are
 unfoldable pub symbols_head : List (List ℕ × Value) → List ℕ
@@ -101,4 +120,4 @@ symbol_rows symbols = symbols_head symbols ++ flat_map symbol_row symbols
 
 -- the listing of a program
 unfoldable pub listing : Program → List ℕ
-listing p = rows 1 p.rope (lines p.source) p.marks ++ symbol_rows p.symbols
+listing p = rows 1 start p.rope (lines p.source) ++ symbol_rows p.symbols

@@ -1,20 +1,11 @@
--- The operators of the source language.
-use Rattle.std.specs.Prelude.{ℕ, List, [], ◌∷◌, codes, map}
-use Rattle.std.specs.Borrow.{Bor}
-use Rattle.yayul.specs.declared.operator.Operator.{Operator}
-use Rattle.yayul.specs.declared.operator.Operator.TheVariants.{Setloc, Bank, Erase, Equals, Ebank, Octal, Decimal, FarAddress, Plain, Addressed, ToNext}
-use Rattle.yayul.specs.declared.operator.AddressedCode.{AddressedCode}
-use Rattle.yayul.specs.declared.operator.Banks.TheVariants.{All, TwoOrThree}
-use Rattle.yayul.specs.declared.operator.Bits.{Bits}
-use Rattle.yayul.specs.declared.operator.Bits.TheVariants.{Nine, Ten, Twelve}
-use Rattle.yayul.specs.declared.operator.Extracode.{Extracode}
-use Rattle.yayul.specs.declared.operator.Extracode.TheVariants.{No, Yes, Either}
-use Rattle.yayul.specs.declared.operator.Takes.{Takes}
-use Rattle.yayul.specs.declared.operator.Takes.TheVariants.{Address, Pair, FixedAddress, Channel, ErasablePlace, FixedPlace}
+-- The operators of the source language: a row for each.
+use Rattle.std.specs.Prelude.{ℕ, ◌==◌, ◌||◌, Bool, true, false, nat_lt, List, [], ◌∷◌, codes, if◌then◌else◌}
+use Rattle.rope.specs.Places.{banks}
+use Rattle.yayul.specs.Language.{Address, AddressedCode, All, BankRange, Bits, Channel, Either, ErasablePlace, Extracode, FixedAddress, FixedPlace, Nine, No, Operator, Pair, Takes, Ten, Twelve, TwoOrThree, Yes}
 
 -- an instruction without an operand: its code, and whether it is an extracode
 abbrev pub plain : ℕ → Extracode → Operator
-plain code extracode = Plain (record { code = code; extracode = extracode })
+plain code extracode = Operator.Plain (record { code = code; extracode = extracode; extends = false })
 
 -- a code with a field: the least code, the bits of an address or a channel, whether it is an extracode, and what the field holds
 abbrev pub code : ℕ → Bits → Extracode → Takes → AddressedCode
@@ -22,33 +13,25 @@ code least bits extracode takes = record { least = least; bits = bits; extracode
 
 -- a word made of an operand
 abbrev pub addressed : ℕ → Bits → Extracode → Takes → Operator
-addressed least bits extracode takes = Addressed (code least bits extracode takes)
+addressed least bits extracode takes = Operator.Addressed (code least bits extracode takes)
 
--- a constant of an address or a place, which is the whole word
-abbrev pub constant : Takes → Operator
-constant takes = addressed 0 Twelve No takes
-
--- a word made of the next location
-abbrev pub to_next : ℕ → Bits → Extracode → Takes → Operator
-to_next least bits extracode takes = ToNext (code least bits extracode takes)
-
--- each operator by its name
+-- each operator by its name; EXTEND puts extracode in force
 unfoldable pub operators : List (List ℕ × Operator)
 operators =
-    (codes "SETLOC", Setloc)
-    ∷ (codes "BANK", Bank All)
-    ∷ (codes "BLOCK", Bank TwoOrThree)
-    ∷ (codes "ERASE", Erase)
-    ∷ (codes "EQUALS", Equals)
-    ∷ (codes "=", Equals)
-    ∷ (codes "EBANK=", Ebank)
-    ∷ (codes "OCT", Octal)
-    ∷ (codes "DEC", Decimal)
-    ∷ (codes "ADRES", constant Address)
-    ∷ (codes "ECADR", constant ErasablePlace)
-    ∷ (codes "CADR", constant FixedPlace)
-    ∷ (codes "FCADR", constant FixedPlace)
-    ∷ (codes "2CADR", FarAddress)
+    (codes "SETLOC", Operator.Setloc)
+    ∷ (codes "BANK", Operator.Bank All)
+    ∷ (codes "BLOCK", Operator.Bank TwoOrThree)
+    ∷ (codes "ERASE", Operator.Erase)
+    ∷ (codes "EQUALS", Operator.Equals)
+    ∷ (codes "=", Operator.Equals)
+    ∷ (codes "EBANK=", Operator.Ebank)
+    ∷ (codes "OCT", Operator.Octal)
+    ∷ (codes "DEC", Operator.Decimal)
+    ∷ (codes "ADRES", addressed 0 Twelve No Address)
+    ∷ (codes "ECADR", addressed 0 Twelve No ErasablePlace)
+    ∷ (codes "CADR", addressed 0 Twelve No FixedPlace)
+    ∷ (codes "FCADR", addressed 0 Twelve No FixedPlace)
+    ∷ (codes "2CADR", Operator.FarAddress)
     ∷ (codes "TC", addressed 0o0 Twelve No Address)
     ∷ (codes "TCR", addressed 0o0 Twelve No Address)
     ∷ (codes "CCS", addressed 0o10000 Ten No Address)
@@ -89,7 +72,7 @@ operators =
     ∷ (codes "MP", addressed 0o70000 Twelve Yes Address)
     ∷ (codes "RELINT", plain 0o3 No)
     ∷ (codes "INHINT", plain 0o4 No)
-    ∷ (codes "EXTEND", plain 0o6 No)
+    ∷ (codes "EXTEND", Operator.Plain (record { code = 0o6; extracode = No; extends = true }))
     ∷ (codes "RESUME", plain 0o50017 No)
     ∷ (codes "XXALQ", plain 0o0 No)
     ∷ (codes "XLQ", plain 0o1 No)
@@ -105,5 +88,36 @@ operators =
     ∷ (codes "ZQ", plain 0o22007 Yes)
     ∷ (codes "DCOM", plain 0o40001 Yes)
     ∷ (codes "SQUARE", plain 0o70000 Yes)
-    ∷ (codes "NOOP", to_next 0o10000 Twelve No FixedAddress)
+    ∷ (codes "NOOP", Operator.ToNext (code 0o10000 Twelve No FixedAddress))
     ∷ []
+
+-- a bank that BANK or BLOCK takes
+abbrev pub is_bank : BankRange → ℕ → Bool
+is_bank All n = nat_lt n banks
+is_bank TwoOrThree n = n == 2 || n == 3
+
+-- how many numbers some bits tell apart
+abbrev pub field_size : Bits → ℕ
+field_size Nine = 0o1000
+field_size Ten = 0o2000
+field_size Twelve = 0o10000
+
+-- the bits of a field where extracode is in force or is not; a code of both tables has 12 under extracode
+abbrev pub bits_under : Extracode → Bits → Bool → Bits
+bits_under Either bits extracode = if extracode then Twelve else bits
+bits_under _ bits extracode = bits
+
+-- an extracode, which has to be in force
+abbrev pub needs_extend : Extracode → Bool
+needs_extend Yes = true
+needs_extend _ = false
+
+-- no extracode, which must not be in force
+abbrev pub is_barred : Extracode → Bool
+is_barred No = true
+is_barred _ = false
+
+-- a code of both tables keeps extracode in force
+abbrev pub stays_extended : Extracode → Bool
+stays_extended Either = true
+stays_extended _ = false

@@ -38,6 +38,26 @@ impl FixedBank {
         }
     }
 
+    // Bank 2, whose words stand at 04000.
+    pub(crate) fn two() -> FixedBank
+        ensures { result ≡ 2 }
+    {
+        match Bank::try_new(2) {
+            Some(bank) => FixedBank { bank },
+            None => unreachable!(),
+        }
+    }
+
+    // Bank 3, whose words stand at 06000.
+    pub(crate) fn three() -> FixedBank
+        ensures { result ≡ 3 }
+    {
+        match Bank::try_new(3) {
+            Some(bank) => FixedBank { bank },
+            None => unreachable!(),
+        }
+    }
+
     /// The bank as one that a program may select.
     pub fn bank(self) -> Bank
         ensures value { result ≡ self }

@@ -4,9 +4,9 @@ ghost use Rattle.std.specs.Prelude.{◌≡◌, ◌==◌, ◌≤◌, ◌<◌, ◌
 ghost use Rattle.std.specs.List.{position_or_len};
 ghost use Rattle.std.specs.Option.{option_map};
 ghost use Rattle.agc_text.specs.Digits.{sized};
-ghost use Rattle.yayul.specs.Decimals.{point, greatest_magnitude, most_decimals, scaled, before_point, whole_in, fraction_in, magnitude_in, decimal_in};
-ghost use Rattle.yayul.specs.Names.{up_to};
+ghost use Rattle.yayul.specs.Forms.{point, at_most, greatest_magnitude, scaled, before_point, whole_in, fraction_in, magnitude_in, complemented, decimal_in};
 
+use crate::language::Numeral;
 use agc_text::{Number, decimal, decimal_value};
 use words::Word;
 
@@ -16,23 +16,30 @@ const GREATEST_MAGNITUDE: u16 = 0o37777;
 /// The most decimals of a fraction.
 const MOST_DECIMALS: usize = 9;
 
-// A decimal constant: where the text has the form of one, its word, where its magnitude has one.
-pub(crate) fn decimal_in(text: &[u8]) -> Option<Option<Word>>
+// The word of a decimal constant.
+pub(crate) fn decimal_in(text: &[u8]) -> Numeral
     ensures { result ≡ decimal_in text.now }
 {
     match text {
         [b'+', magnitude @ ..] => magnitude_in(magnitude),
-        [b'-', magnitude @ ..] => match magnitude_in(magnitude) {
-            Some(Some(word)) => Some(Some(word.neg())),
-            Some(None) => Some(None),
-            None => None,
-        },
+        [b'-', magnitude @ ..] => complemented(magnitude_in(magnitude)),
         _ => magnitude_in(text),
     }
 }
 
+// The complement of a word.
+fn complemented(number: Numeral) -> Numeral
+    ensures { result ≡ complemented number }
+{
+    match number {
+        Numeral::Is(word) => Numeral::Is(word.neg()),
+        Numeral::TooLarge => Numeral::TooLarge,
+        Numeral::NoForm => Numeral::NoForm,
+    }
+}
+
 // Digits; or a fraction: digits or none, a point and 1 to 9 digits.
-fn magnitude_in(text: &[u8]) -> Option<Option<Word>>
+fn magnitude_in(text: &[u8]) -> Numeral
     ensures { result ≡ magnitude_in text.now }
 {
     let whole = before_point(text);
@@ -40,8 +47,8 @@ fn magnitude_in(text: &[u8]) -> Option<Option<Word>>
         return fraction_in(whole, &text[whole.len() + 1..]);
     }
     match decimal_value(text) {
-        Some(number) => Some(magnitude_of(number)),
-        None => None,
+        Some(number) => magnitude_of(number),
+        None => Numeral::NoForm,
     }
 }
 
@@ -66,28 +73,29 @@ fn point_place(text: &[u8]) -> usize
 }
 
 // The number as a word, where it is one of a plus sign.
-fn magnitude_of(number: Number) -> Option<Word>
-    ensures { (n : ℕ) → number ≡ sized n → result ≡ up_to greatest_magnitude n }
+fn magnitude_of(number: Number) -> Numeral
+    ensures { (n : ℕ) → number ≡ sized n → result ≡ at_most greatest_magnitude n }
 {
     match number {
         Number::Small(number) => match u16::try_from(number) {
-            Ok(number) if number <= GREATEST_MAGNITUDE => Some(Word::of_low_bits(number)),
-            _ => None,
+            Ok(number) if number <= GREATEST_MAGNITUDE => Numeral::Is(Word::of_low_bits(number)),
+            _ => Numeral::TooLarge,
         },
-        Number::Large => None,
+        Number::Large => Numeral::TooLarge,
     }
 }
 
 // A fraction of its digits before and after the point.
-fn fraction_in(whole: &[u8], decimals: &[u8]) -> Option<Option<Word>>
+fn fraction_in(whole: &[u8], decimals: &[u8]) -> Numeral
     ensures { result ≡ fraction_in whole.now decimals.now }
 {
-    let is_zero = is_zero(whole)?;
-    let number = decimal(decimals, MOST_DECIMALS)?;
-    if is_zero {
-        Some(scaled(number, unit_of(decimals.len())))
-    } else {
-        Some(None)
+    let Some(number) = decimal(decimals, MOST_DECIMALS) else {
+        return Numeral::NoForm;
+    };
+    match is_zero(whole) {
+        Some(true) => scaled(number, unit_of(decimals.len())),
+        Some(false) => Numeral::TooLarge,
+        None => Numeral::NoForm,
     }
 }
 
@@ -106,7 +114,7 @@ fn is_zero(whole: &[u8]) -> Option<bool>
 
 // How many units of so many decimals there are in 1.
 fn unit_of(count: usize) -> u64
-    requires { count ≤ most_decimals }
+    requires { count ≤ 9 }
     ensures value { result ≡ 10 ^ count }
     ensures some { 1 ≤ result }
     ensures few { result ≤ 10 ^ 9 }
@@ -126,15 +134,17 @@ fn unit_of(count: usize) -> u64
 }
 
 // The fraction that so many units of 1 are, times 2^14, to the nearest.
-fn scaled(number: u64, unit: u64) -> Option<Word>
+fn scaled(number: u64, unit: u64) -> Numeral
     requires number { number < 10 ^ 9 }
     requires some { 1 ≤ unit }
     requires few { unit ≤ 10 ^ 9 }
-    ensures { result ≡ up_to greatest_magnitude (scaled number unit) }
+    ensures { result ≡ at_most greatest_magnitude (scaled number unit) }
 {
     let magnitude = (number * 0o100000 + unit) / (2 * unit);
     match u16::try_from(magnitude) {
-        Ok(magnitude) if magnitude <= GREATEST_MAGNITUDE => Some(Word::of_low_bits(magnitude)),
-        _ => None,
+        Ok(magnitude) if magnitude <= GREATEST_MAGNITUDE => Numeral::Is(Word::of_low_bits(
+            magnitude,
+        )),
+        _ => Numeral::TooLarge,
     }
 }

@@ -1,21 +1,21 @@
 //! Codes whose words have 15 bits.
 
 ghost use Rattle.std.specs.Prelude.{◌≡◌, ◌≤◌};
-ghost use Rattle.yayul.specs.Codes.{greatest_code, greatest_with_field};
+ghost use Rattle.yayul.specs.Inside.Codes.{greatest_code, greatest_with_field};
 
-use crate::operator::{AddressedCode, PlainCode};
+use crate::language::{AddressedCode, PlainCode};
 use std::marker::Model;
 
 /// An instruction without an operand, whose code has 15 bits.
 #[derive(Clone, Copy, Drop)]
-pub struct PlainInstruction {
+pub(crate) struct PlainInstruction {
     code: PlainCode,
 }
 
 impl Model for PlainInstruction {
     ghost use Rattle.std.specs.Prelude.{◌≤◌};
-    ghost use Rattle.yayul.specs.Codes.{greatest_code};
-    ghost use Rattle.yayul.specs.declared.operator.PlainCode.{PlainCode as Code};
+    ghost use Rattle.yayul.specs.Inside.Codes.{greatest_code};
+    ghost use Rattle.yayul.specs.declared.language.PlainCode.{PlainCode as Code};
 
     ghost Value = { Code };
 
@@ -35,7 +35,7 @@ impl PlainInstruction {
     }
 
     /// Its code.
-    pub fn code(self) -> PlainCode
+    pub(crate) fn code(self) -> PlainCode
         ensures value { result ≡ self }
         ensures fits { result.code ≤ greatest_code }
     {
@@ -45,14 +45,14 @@ impl PlainInstruction {
 
 /// A code with a field, which has 15 bits with any field added.
 #[derive(Clone, Copy, Drop)]
-pub struct AddressedInstruction {
+pub(crate) struct AddressedInstruction {
     code: AddressedCode,
 }
 
 impl Model for AddressedInstruction {
     ghost use Rattle.std.specs.Prelude.{◌≤◌};
-    ghost use Rattle.yayul.specs.Codes.{greatest_code, greatest_with_field};
-    ghost use Rattle.yayul.specs.declared.operator.AddressedCode.{AddressedCode as Code};
+    ghost use Rattle.yayul.specs.Inside.Codes.{greatest_code, greatest_with_field};
+    ghost use Rattle.yayul.specs.declared.language.AddressedCode.{AddressedCode as Code};
 
     ghost Value = { Code };
 
@@ -72,7 +72,7 @@ impl AddressedInstruction {
     }
 
     /// Its code.
-    pub fn code(self) -> AddressedCode
+    pub(crate) fn code(self) -> AddressedCode
         ensures value { result ≡ self }
         ensures fits { greatest_with_field result ≤ greatest_code }
     {

@@ -1,24 +1,33 @@
-//! The assembler.
+//! The assembler: from the bytes of a source to its words in their places, its symbols and its listing.
+//!
+//! [`assemble`] answers a [`Program`], or the least [`Fault`] of the source.
 #![tactic(auto)]
 
-pub mod bank;
+mod assembled;
+mod assembly;
+mod bank;
 mod decimal;
-pub mod fault;
-pub mod instruction;
-mod laid_out;
-mod lay_out;
-pub mod layout;
+mod faults;
+mod instruction;
+mod language;
+mod layout;
+mod line;
 mod listing;
+mod location;
 mod mark;
-pub mod name;
+mod name;
 mod number;
-pub mod operand;
-pub mod operator;
-mod passes;
-pub mod program;
-pub mod statement;
-pub mod symbols;
-pub mod value;
+mod operand;
+mod operator;
+mod request;
+mod statement;
+mod symbol_table;
+mod values;
 mod word;
 
-pub use passes::assemble;
+pub use assembled::Program;
+pub use assembly::assemble;
+pub use bank::FixedBank;
+pub use faults::{Fault, FaultKind};
+pub use symbol_table::Symbols;
+pub use values::Value;

@@ -1,17 +1,18 @@
 //! The listing of a program: a row for each line of its source, and its symbols. No memory is taken.
 
-ghost use Rattle.std.specs.Prelude.{◌≡◌, ◌+◌, ◌<◌, ◌≤◌, ◌++◌, ℕ, List, length, true, codes, decimal};
+ghost use Rattle.std.specs.Prelude.{◌≡◌, ◌+◌, ◌<◌, ◌≤◌, ◌++◌, ℕ, List, length, true, codes, decimal, map, drop};
 ghost use Rattle.std.specs.List.{flat_map};
 ghost use Rattle.agc_text.specs.Lines.{lines};
 ghost use Rattle.arrayvec.specs.ArrayVec.{array_vec_len};
 ghost use Rattle.space.specs.declared.place.Linear.TheVariants as linear;
 ghost use Rattle.words.specs.Devices.{Writes, failures_after};
-ghost use Rattle.yayul.specs.Listing.{blanks, right_in, bank_text, place_text, number_column, word_columns, mark_columns, gap, row_front, second_row, line_rows, rows, value_text, symbol_row, symbols_head, symbol_rows};
+ghost use Rattle.yayul.specs.Listing.{blanks, bank_text, place_text, number_column, word_columns, columns, gap, row_front, further_row, line_rows, value_text, symbol_row, symbols_head, symbol_rows};
+ghost use Rattle.yayul.specs.Inside.Representation.{shown_by_mark, rows_of};
 
 use crate::mark::Mark;
 use crate::name::NAME_LENGTH;
-use crate::symbols::Symbols;
-use crate::value::Value;
+use crate::symbol_table::Symbols;
+use crate::values::Value;
 use agc_text::next_line;
 use arrayvec::ArrayVec;
 use rope::Rope;
@@ -46,7 +47,7 @@ pub(crate) fn write_rows<W: Write>(
     marks: &[Mark],
     writer: &mut W,
 ) -> Result<(), WriteFailed>
-    ensures written { W.told ≡ true → Writes (W.written writer.old) (W.written writer.new) (rows 1 rope.now (lines source.now) marks.now) result }
+    ensures written { W.told ≡ true → Writes (W.written writer.old) (W.written writer.new) (rows_of 1 rope.now (lines source.now) (map shown_by_mark marks.now)) result }
     ensures failures { W.failures writer.new ≡ failures_after (W.failures writer.old) result }
 {
     let mut rest = source;
@@ -72,12 +73,12 @@ fn write_line<W: Write>(
     mark: &Mark,
     writer: &mut W,
 ) -> Result<(), WriteFailed>
-    ensures written { W.told ≡ true → Writes (W.written writer.old) (W.written writer.new) (line_rows number rope.now text.now mark.now) result }
+    ensures written { W.told ≡ true → Writes (W.written writer.old) (W.written writer.new) (line_rows number rope.now text.now (shown_by_mark mark.now)) result }
     ensures failures { W.failures writer.new ≡ failures_after (W.failures writer.old) result }
 {
     let front = row_front(number, rope, mark, text);
     match write_first_row(front.as_slice(), text, writer) {
-        Ok(()) => write_second_row(number, rope, mark, writer),
+        Ok(()) => write_further_rows(number, rope, mark, writer),
         Err(failed) => Err(failed),
     }
 }
@@ -105,13 +106,13 @@ fn write_ended<W: Write>(text: &[u8], writer: &mut W) -> Result<(), WriteFailed>
 }
 
 // Writes the row of a second word, where there is one.
-fn write_second_row<W: Write>(
+fn write_further_rows<W: Write>(
     number: u64,
     rope: &Rope,
     mark: &Mark,
     writer: &mut W,
 ) -> Result<(), WriteFailed>
-    ensures written { W.told ≡ true → Writes (W.written writer.old) (W.written writer.new) (second_row number rope.now mark.now) result }
+    ensures written { W.told ≡ true → Writes (W.written writer.old) (W.written writer.new) (flat_map (further_row number rope.now) (drop 1 (shown_by_mark mark.now).words)) result }
     ensures failures { W.failures writer.new ≡ failures_after (W.failures writer.old) result }
 {
     match mark {
@@ -127,7 +128,7 @@ fn write_second_row<W: Write>(
 
 // What stands on a row before the text of its line.
 fn row_front(number: u64, rope: &Rope, mark: &Mark, text: &[u8]) -> ArrayVec<u8, FRONT>
-    ensures { result.items ≡ row_front number rope.now mark.now text.now }
+    ensures { result.items ≡ row_front number rope.now (shown_by_mark mark.now) text.now }
 {
     let mut line = number_column(number);
     push_mark(&mut line, rope, mark);
@@ -155,7 +156,7 @@ fn number_column(number: u64) -> ArrayVec<u8, FRONT>
 // Appends the columns of a place and a word.
 fn push_mark(line: &mut ArrayVec<u8, FRONT>, rope: &Rope, mark: &Mark)
     requires { array_vec_len line.old ≤ 21 }
-    ensures items { line.new.items ≡ line.old.items ++ mark_columns rope.now mark.now }
+    ensures items { line.new.items ≡ line.old.items ++ columns rope.now (shown_by_mark mark.now) }
     ensures len { array_vec_len line.new ≡ array_vec_len line.old + 13 }
 {
     match mark {

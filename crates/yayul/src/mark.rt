@@ -1,10 +1,10 @@
 //! What the listing shows beside the number and the text of a line.
 
-ghost use Rattle.std.specs.Prelude.{◌≡◌, [], ◌∷◌, ◌++◌, OnOk};
-ghost use Rattle.yayul.specs.Marks.{place_mark, second_offset, source_mark, mark_of};
+ghost use Rattle.std.specs.Prelude.{◌≡◌, [], ◌∷◌, ◌++◌, OnOk, None};
+ghost use Rattle.yayul.specs.Listing.{place_here, words_from, shown};
+ghost use Rattle.yayul.specs.Inside.Representation.{shown_by_mark};
 
-use crate::layout::Location;
-use crate::statement::{Operation, Source, Statement};
+use crate::language::{Content, Location, Operation, Statement};
 use space::numbers::{Bank, Eras, Offset};
 use std::alloc::{AllocError, Global};
 use std::marker::Model;
@@ -27,12 +27,13 @@ pub(crate) enum Mark {
 impl Mark {
     /// What a statement shows, which stands at a location.
     pub(crate) fn of(here: Location, statement: &Statement) -> Mark
-        ensures { result ≡ mark_of here statement.now }
+        ensures { shown_by_mark result ≡ shown here statement.now }
     {
         match &statement.operation {
             Operation::Nothing if statement.label.is_missing() => Mark::Nothing,
             Operation::Nothing | Operation::Erase(_) => Mark::of_place(here),
-            Operation::Gives(source) => Mark::of_source(here, source),
+            Operation::Gives(Some(content)) => Mark::of_words(here, content.width()),
+            Operation::Gives(None) => Mark::Nothing,
             Operation::Unknown
             | Operation::Setloc(_)
             | Operation::Bank(..)
@@ -43,7 +44,7 @@ impl Mark {
 
     // The place at a location alone, unless that stands past an end.
     fn of_place(here: Location) -> Mark
-        ensures { result ≡ place_mark here }
+        ensures { shown_by_mark result ≡ record { place = place_here here; words = [] } }
     {
         match here {
             Location::Erasable(number) => match Eras::try_new(number) {
@@ -57,19 +58,16 @@ impl Mark {
         }
     }
 
-    // The words of a source at a location, where they may stand.
-    fn of_source(here: Location, source: &Option<Source>) -> Mark
-        ensures { result ≡ source_mark here source.now }
+    // One or two words from a location on, where they may stand.
+    fn of_words(here: Location, count: usize) -> Mark
+        ensures { shown_by_mark result ≡ record { place = None; words = words_from count here } }
     {
-        match (source, here.word_place()) {
-            (Some(source), Some(place)) => {
-                let bank = place.0.bank();
-                match second_offset(source.width(), place.1) {
-                    Some(second) => Mark::Words(bank, place.1, second),
-                    None => Mark::Word(bank, place.1),
-                }
-            }
-            _ => Mark::Nothing,
+        match here.word_place() {
+            Some((bank, first)) => match Offset::try_new(first.number() + 1) {
+                Some(second) if count > 1 => Mark::Words(bank.bank(), first, second),
+                _ => Mark::Word(bank.bank(), first),
+            },
+            None => Mark::Nothing,
         }
     }
 }
@@ -112,16 +110,5 @@ impl Marks {
         ensures { result.now ≡ self.now }
     {
         &self.marks
-    }
-}
-
-// The offset of a second word, where there is one in the bank.
-fn second_offset(count: usize, offset: Offset) -> Option<Offset>
-    ensures { result ≡ second_offset count offset }
-{
-    if count > 1 {
-        Offset::try_new(offset.number() + 1)
-    } else {
-        None
     }
 }

@@ -2,19 +2,19 @@
 
 ghost use Rattle.std.specs.Prelude.{◌≡◌, ◌==◌, ◌≤◌, length, if◌then◌else◌, Some, None};
 ghost use Rattle.std.specs.List.{list_any};
-ghost use Rattle.yayul.specs.Names.{is_name, dollar_sign};
+ghost use Rattle.yayul.specs.Forms.{is_name, dollar_sign};
 
 use crate::number::{begins_with_sign, is_digits};
-use crate::symbols::key_of;
+use crate::symbol_table::key_of;
 use arrayvec::ArrayVec;
 use std::marker::Model;
 
 /// The most characters of a name.
-pub const NAME_LENGTH: usize = 8;
+pub(crate) const NAME_LENGTH: usize = 8;
 
 /// The name of a symbol: 1 to 8 characters in the form of a label.
 #[derive(Drop)]
-pub struct Name {
+pub(crate) struct Name {
     bytes: ArrayVec<u8, NAME_LENGTH>,
 }
 
@@ -28,7 +28,7 @@ impl Model for Name {
 
 impl Name {
     /// The name of these characters, where they have the form of one.
-    pub fn of(text: &[u8]) -> Option<Name>
+    pub(crate) fn of(text: &[u8]) -> Option<Name>
         ensures { result ≡ (if is_name text.now then Some text.now else None) }
     {
         if is_name(text) {
@@ -41,7 +41,7 @@ impl Name {
     }
 
     /// Its characters.
-    pub fn as_slice(&self) -> &[u8]
+    pub(crate) fn as_slice(&self) -> &[u8]
         ensures value { result.now ≡ self.now }
         ensures fits { length result.now ≤ NAME_LENGTH }
     {

@@ -3,28 +3,32 @@
 ghost use Rattle.std.specs.Prelude.{◌≡◌, ◌==◌, ◌-◌, ℕ, length, slice_get, take};
 ghost use Rattle.std.specs.Option.{option_map};
 ghost use Rattle.agc_text.specs.Digits.{digits_value, sized};
-ghost use Rattle.yayul.specs.Names.{is_sign, first_is, is_marked_decimal, without_last, number_value, number_in, is_digits, up_to, greatest_number};
+ghost use Rattle.yayul.specs.Forms.{is_sign, first_is, is_marked_decimal, number_value, number_in, octal_in, at_most, is_digits, greatest_number};
 
+use crate::language::Numeral;
 use agc_text::{Number, decimal_value, octal_value};
 use words::Word;
 
-// A number: where the text has the form of one, its value, where that is at most 077777.
-pub(crate) fn number_in(text: &[u8]) -> Option<Option<Word>>
+/// The greatest number of a source.
+const GREATEST_NUMBER: u16 = 0o77777;
+
+// A number, which is at most 077777.
+pub(crate) fn number_in(text: &[u8]) -> Numeral
     ensures { result ≡ number_in text.now }
 {
     match number_value(text) {
-        Some(number) => Some(word_of(number)),
-        None => None,
+        Some(number) => numeral_of(number),
+        None => Numeral::NoForm,
     }
 }
 
-// A number of octal digits alone: where the text has that form, its value, where that is at most 077777.
-pub(crate) fn octal_in(text: &[u8]) -> Option<Option<Word>>
-    ensures { result ≡ option_map (up_to greatest_number) (digits_value 8 text.now) }
+// A number of octal digits alone, which is at most 077777.
+pub(crate) fn octal_in(text: &[u8]) -> Numeral
+    ensures { result ≡ octal_in text.now }
 {
     match octal_value(text) {
-        Some(number) => Some(word_of(number)),
-        None => None,
+        Some(number) => numeral_of(number),
+        None => Numeral::NoForm,
     }
 }
 
@@ -70,20 +74,20 @@ fn is_marked_decimal(text: &[u8]) -> bool
 }
 
 fn without_last(text: &[u8]) -> &[u8]
-    ensures { result.now ≡ without_last text.now }
+    ensures { result.now ≡ take (length text.now - 1) text.now }
 {
     &text[..text.len().saturating_sub(1)]
 }
 
 // The number as a word, where it is at most 077777.
-fn word_of(number: Number) -> Option<Word>
-    ensures { (n : ℕ) → number ≡ sized n → result ≡ up_to greatest_number n }
+fn numeral_of(number: Number) -> Numeral
+    ensures { (n : ℕ) → number ≡ sized n → result ≡ at_most greatest_number n }
 {
     match number {
         Number::Small(number) => match u16::try_from(number) {
-            Ok(number) => Word::try_from_u16(number).ok(),
-            Err(_) => None,
+            Ok(number) if number <= GREATEST_NUMBER => Numeral::Is(Word::of_low_bits(number)),
+            _ => Numeral::TooLarge,
         },
-        Number::Large => None,
+        Number::Large => Numeral::TooLarge,
     }
 }

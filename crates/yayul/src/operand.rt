@@ -3,36 +3,12 @@
 ghost use Rattle.std.specs.Prelude.{◌≡◌};
 ghost use Rattle.std.specs.Option.{option_map};
 ghost use Rattle.std.specs.Borrow.{Bor};
-ghost use Rattle.yayul.specs.Operands.{shift_in, term_in, operand_of};
+ghost use Rattle.yayul.specs.Forms.{shift_in, term_in, operand_of};
 
+use crate::language::{Numeral, Operand, Shift, Term};
 use crate::name::Name;
 use crate::number::{begins_with_sign, number_in};
 use words::Word;
-
-/// What an operand names, before it is moved.
-#[derive(Drop)]
-pub enum Term {
-    /// A number, if it is at most 077777.
-    Number(Option<Word>),
-    /// A symbol.
-    Named(Name),
-    /// The location before the line.
-    Here,
-}
-
-/// So many places on or back, if the number is at most 077777.
-#[derive(Clone, Copy, Drop)]
-pub enum Shift {
-    On(Option<Word>),
-    Back(Option<Word>),
-}
-
-/// An operand: what it names, moved.
-#[derive(Drop)]
-pub struct Operand {
-    pub term: Term,
-    pub shift: Shift,
-}
 
 // An operand and an offset, where they have the form of one: a signed number alone, or a term, with
 // an offset or none.
@@ -42,7 +18,7 @@ pub(crate) fn operand_of(text: &[u8], offset: Option<&[u8]>) -> Option<Operand>
     let (term, shift) = match offset {
         Some(offset) => (term_in(text)?, shift_in(offset)?),
         None if begins_with_sign(text) => (Term::Here, shift_in(text)?),
-        None => (term_in(text)?, Shift::On(Some(Word::ZERO))),
+        None => (term_in(text)?, Shift::Plus(Some(Word::ZERO))),
     };
     Some(Operand { term, shift })
 }
@@ -54,8 +30,9 @@ fn term_in(text: &[u8]) -> Option<Term>
     match Name::of(text) {
         Some(name) => Some(Term::Named(name)),
         None => match number_in(text) {
-            Some(number) => Some(Term::Number(number)),
-            None => None,
+            Numeral::Is(number) => Some(Term::Number(Some(number))),
+            Numeral::TooLarge => Some(Term::Number(None)),
+            Numeral::NoForm => None,
         },
     }
 }
@@ -65,8 +42,16 @@ fn shift_in(text: &[u8]) -> Option<Shift>
     ensures { result ≡ shift_in text.now }
 {
     match text {
-        [b'+', number @ ..] => number_in(number).map(Shift::On),
-        [b'-', number @ ..] => number_in(number).map(Shift::Back),
+        [b'+', number @ ..] => match number_in(number) {
+            Numeral::Is(number) => Some(Shift::Plus(Some(number))),
+            Numeral::TooLarge => Some(Shift::Plus(None)),
+            Numeral::NoForm => None,
+        },
+        [b'-', number @ ..] => match number_in(number) {
+            Numeral::Is(number) => Some(Shift::Minus(Some(number))),
+            Numeral::TooLarge => Some(Shift::Minus(None)),
+            Numeral::NoForm => None,
+        },
         _ => None,
     }
 }

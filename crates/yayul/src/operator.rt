@@ -2,25 +2,12 @@
 
 ghost use Rattle.std.specs.Prelude.{◌≡◌, ◌≤◌, true, IfSome};
 ghost use Rattle.std.specs.Option.{SomeIff};
-ghost use Rattle.yayul.specs.Codes.{has_room};
-ghost use Rattle.yayul.specs.Layout.{is_bank};
-ghost use Rattle.agc_text.specs.Tables.{named};
-ghost use Rattle.yayul.specs.Operators.{operators};
-ghost use Rattle.agc_text.specs.Tables.{value_in};
-ghost use Rattle.yayul.specs.Words.{field_size, needs_extend, is_barred};
+ghost use Rattle.agc_text.specs.Tables.{named, value_in};
+ghost use Rattle.yayul.specs.Operators.{operators, is_bank, field_size, bits_under, needs_extend, is_barred};
+ghost use Rattle.yayul.specs.Inside.Codes.{has_room};
 
 use crate::bank::FixedBank;
-
-/// Whether an instruction is an extracode.
-#[derive(Clone, Copy, Drop)]
-pub enum Extracode {
-    /// A basic code, which extracode in force bars.
-    No,
-    /// A code that needs extracode in force.
-    Yes,
-    /// A code with and without extracode in force. Under extracode its field has 12 bits, and extracode stays in force.
-    Either,
-}
+use crate::language::{AddressedCode, BankRange, Bits, Extracode, Operator, PlainCode, Takes};
 
 impl Extracode {
     /// Whether extracode has to be in force.
@@ -46,18 +33,17 @@ impl Extracode {
     }
 }
 
-/// How many bits an address or a channel's number has.
-#[derive(Clone, Copy, Drop)]
-pub enum Bits {
-    /// A channel's number.
-    Nine,
-    /// An address below 02000.
-    Ten,
-    /// An address.
-    Twelve,
-}
-
 impl Bits {
+    /// The bits of a field; a code of both tables has 12 under extracode.
+    pub(crate) fn under(self, extracode: Extracode, in_force: bool) -> Bits
+        ensures { result ≡ bits_under extracode self in_force }
+    {
+        match extracode {
+            Extracode::Either if in_force => Bits::Twelve,
+            _ => self,
+        }
+    }
+
     /// How many numbers so many bits tell apart.
     pub(crate) fn size(self) -> u16
         ensures value { result ≡ field_size self }
@@ -72,86 +58,17 @@ impl Bits {
     }
 }
 
-/// What the field of a code holds.
-#[derive(Clone, Copy, Drop)]
-pub enum Takes {
-    /// An address of so many bits.
-    Address,
-    /// The address, of so many bits, of the first of two words; the field holds the next address, in the same bits.
-    Pair,
-    /// An address of fixed memory: from 02000 on.
-    FixedAddress,
-    /// A channel's number of so many bits.
-    Channel,
-    /// The number of an erasable place.
-    ErasablePlace,
-    /// A fixed place: the bank as FB holds it, and the offset.
-    FixedPlace,
-}
-
-/// An instruction without an operand: its code.
-#[derive(Clone, Copy, Drop)]
-pub struct PlainCode {
-    pub code: u16,
-    pub extracode: Extracode,
-}
-
-/// A code with a field: the least code, to which the field is added.
-#[derive(Clone, Copy, Drop)]
-pub struct AddressedCode {
-    pub least: u16,
-    pub bits: Bits,
-    pub extracode: Extracode,
-    pub takes: Takes,
-}
-
-/// The banks that an operator takes.
-#[derive(Clone, Copy, Drop)]
-pub enum Banks {
-    /// All banks of fixed memory.
-    All,
-    /// Banks 2 and 3.
-    TwoOrThree,
-}
-
-impl Banks {
+impl BankRange {
     /// The number as a bank, where the operator takes it.
     pub(crate) fn bank(self, number: u16) -> Option<FixedBank>
         ensures { SomeIff result (is_bank self number ≡ true) number }
     {
         match self {
-            Banks::All => FixedBank::try_new(number),
-            Banks::TwoOrThree if number == 2 || number == 3 => FixedBank::try_new(number),
-            Banks::TwoOrThree => None,
+            BankRange::All => FixedBank::try_new(number),
+            BankRange::TwoOrThree if number == 2 || number == 3 => FixedBank::try_new(number),
+            BankRange::TwoOrThree => None,
         }
     }
-}
-
-/// What an operator does.
-#[derive(Clone, Copy, Drop)]
-pub enum Operator {
-    /// Moves the location.
-    Setloc,
-    /// Moves the location past the words of a bank.
-    Bank(Banks),
-    /// Passes erasable words.
-    Erase,
-    /// Gives its label the value of an operand.
-    Equals,
-    /// Sets the erasable bank of 2CADR.
-    Ebank,
-    /// Gives a word of octal digits.
-    Octal,
-    /// Gives the word of a decimal constant.
-    Decimal,
-    /// Gives the address of a fixed place, and a word of what selects it.
-    FarAddress,
-    /// Gives the word of an instruction without an operand.
-    Plain(PlainCode),
-    /// Gives the word of a code with an operand in its field.
-    Addressed(AddressedCode),
-    /// Gives the word of a code with the next location in its field.
-    ToNext(AddressedCode),
 }
 
 // An instruction without an operand: its code, and whether it is an extracode.
@@ -160,6 +77,18 @@ macro_rules! plain {
         Operator::Plain(PlainCode {
             code: $code,
             extracode: Extracode::$extracode,
+            extends: false,
+        })
+    };
+}
+
+// A basic instruction without an operand that puts extracode in force.
+macro_rules! extend {
+    ($code:literal) => {
+        Operator::Plain(PlainCode {
+            code: $code,
+            extracode: Extracode::No,
+            extends: true,
         })
     };
 }
@@ -198,8 +127,8 @@ macro_rules! to_next {
 /// Each operator by its name.
 const OPERATORS: [(&str, Operator); 71] = [
     ("SETLOC", Operator::Setloc),
-    ("BANK", Operator::Bank(Banks::All)),
-    ("BLOCK", Operator::Bank(Banks::TwoOrThree)),
+    ("BANK", Operator::Bank(BankRange::All)),
+    ("BLOCK", Operator::Bank(BankRange::TwoOrThree)),
     ("ERASE", Operator::Erase),
     ("EQUALS", Operator::Equals),
     ("=", Operator::Equals),
@@ -251,7 +180,7 @@ const OPERATORS: [(&str, Operator); 71] = [
     ("MP", addressed!(0o70000, Twelve, Yes, Address)),
     ("RELINT", plain!(0o3, No)),
     ("INHINT", plain!(0o4, No)),
-    ("EXTEND", plain!(0o6, No)),
+    ("EXTEND", extend!(0o6)),
     ("RESUME", plain!(0o50017, No)),
     ("XXALQ", plain!(0o0, No)),
     ("XLQ", plain!(0o1, No)),

@@ -1,34 +1,24 @@
 //! What a line of the source says, whatever stands before it.
 
 ghost use Rattle.std.specs.Prelude.{◌≡◌, ◌≤◌, true, IfSome};
-ghost use Rattle.yayul.specs.Codes.{has_room};
+ghost use Rattle.yayul.specs.Forms.{with_form, label_in, operand_in, alone, number_in, octal_in, decimal_in, count_in, erased_in, next_location, operation_of, statement_of};
 ghost use Rattle.yayul.specs.Layout.{is_malformed, is_missing, width, extends};
-ghost use Rattle.yayul.specs.Statements.{label_in, operand_in, octal_in, decimal_source, bank_in, count_in, erased_in, next_location, operation_of, statement_of};
-ghost use Rattle.yayul.specs.Views.{text_of, arguments_of, operation_by};
 ghost use Rattle.yayul.specs.Words.{extracode_of};
+ghost use Rattle.yayul.specs.Inside.Codes.{has_room};
+ghost use Rattle.yayul.specs.Inside.Representation.{text_of, arguments_of, operation_by};
+ghost use Rattle.yayul.specs.declared.language.Content.TheVariants as content;
 
 use crate::decimal::decimal_in;
 use crate::instruction::{AddressedInstruction, PlainInstruction};
+use crate::language::{
+    Content, Extracode, Label, Numeral, Operand, Operation, Operator, Shift, Statement, Term,
+};
 use crate::name::Name;
 use crate::number::{number_in, octal_in};
-use crate::operand::{Operand, Shift, Term, operand_of};
-use crate::operator::{Banks, Extracode, Operator, operator_of};
+use crate::operand::operand_of;
+use crate::operator::operator_of;
 use agc_text::{Field, Line};
 use words::Word;
-
-/// The code of EXTEND.
-const EXTEND_CODE: u16 = 0o6;
-
-/// The label of a line.
-#[derive(Drop)]
-pub enum Label {
-    /// None stands.
-    Missing,
-    /// A field that has no name's form.
-    Malformed,
-    /// A name.
-    Named(Name),
-}
 
 impl Label {
     /// Whether a label stands that has no name's form.
@@ -46,20 +36,7 @@ impl Label {
     }
 }
 
-/// What the words of a line are made of.
-#[derive(Drop)]
-pub enum Source {
-    /// A constant, if it is in its range.
-    Constant(Option<Word>),
-    /// An instruction without an operand.
-    Plain(PlainInstruction),
-    /// A code and the operand of its field.
-    Addressed(AddressedInstruction, Operand),
-    /// Two words: the address of a fixed place, and what selects it.
-    FarAddress(Operand),
-}
-
-impl Source {
+impl Content {
     /// How many words it gives.
     pub(crate) fn width(&self) -> usize
         ensures value { result ≡ width self.now }
@@ -67,10 +44,10 @@ impl Source {
         ensures few { result ≤ 2 }
     {
         match self {
-            Source::Constant(_) => 1,
-            Source::Plain(_) => 1,
-            Source::Addressed(..) => 1,
-            Source::FarAddress(_) => 2,
+            Content::Constant(_) => 1,
+            Content::Plain(_) => 1,
+            Content::Addressed(..) => 1,
+            Content::FarAddress(_) => 2,
         }
     }
 
@@ -79,10 +56,10 @@ impl Source {
         ensures { result ≡ extracode_of self.now }
     {
         match self {
-            Source::Constant(_) => Extracode::No,
-            Source::Plain(plain) => plain.code().extracode,
-            Source::Addressed(addressed, _) => addressed.code().extracode,
-            Source::FarAddress(_) => Extracode::No,
+            Content::Constant(_) => Extracode::No,
+            Content::Plain(plain) => plain.code().extracode,
+            Content::Addressed(addressed, _) => addressed.code().extracode,
+            Content::FarAddress(_) => Extracode::No,
         }
     }
 
@@ -91,42 +68,14 @@ impl Source {
         ensures { result ≡ extends self.now extracode }
     {
         match self {
-            Source::Constant(_) => false,
-            Source::Plain(plain) => plain.code().code == EXTEND_CODE,
-            Source::Addressed(addressed, _) => {
+            Content::Constant(_) => false,
+            Content::Plain(plain) => plain.code().extends,
+            Content::Addressed(addressed, _) => {
                 extracode && matches!(addressed.code().extracode, Extracode::Either)
             }
-            Source::FarAddress(_) => false,
+            Content::FarAddress(_) => false,
         }
     }
-}
-
-/// What the fields besides the label say. An operand or a source that stands is of its form, and no further field stands.
-#[derive(Drop)]
-pub enum Operation {
-    /// No operator stands.
-    Nothing,
-    /// The operator is not in the language.
-    Unknown,
-    /// The location becomes that of an operand.
-    Setloc(Option<Operand>),
-    /// The location stands past the words of a bank, if its number is at most 077777.
-    Bank(Banks, Option<Option<Word>>),
-    /// So many erasable words and one are passed, if the count is at most 077777.
-    Erase(Option<Option<Word>>),
-    /// The label has the value of an operand.
-    Equals(Option<Operand>),
-    /// The erasable bank of 2CADR becomes that of an operand.
-    Ebank(Option<Operand>),
-    /// Words stand from the location on.
-    Gives(Option<Source>),
-}
-
-/// What a line says.
-#[derive(Drop)]
-pub struct Statement {
-    pub label: Label,
-    pub operation: Operation,
 }
 
 // What a line says.
@@ -175,22 +124,22 @@ fn operation_of(operator: Option<Operator>, line: &Line<'_>) -> Operation
         Some(Operator::Erase) => Operation::Erase(erased_in(line)),
         Some(Operator::Equals) => Operation::Equals(operand_in(line)),
         Some(Operator::Ebank) => Operation::Ebank(operand_in(line)),
-        Some(Operator::Octal) => Operation::Gives(octal_source(line)),
-        Some(Operator::Decimal) => Operation::Gives(decimal_source(line)),
+        Some(Operator::Octal) => Operation::Gives(constant_of(octal_alone(line))),
+        Some(Operator::Decimal) => Operation::Gives(constant_of(decimal_alone(line))),
         Some(Operator::FarAddress) => Operation::Gives(match operand_in(line) {
-            Some(operand) => Some(Source::FarAddress(operand)),
+            Some(operand) => Some(Content::FarAddress(operand)),
             None => None,
         }),
         Some(Operator::Plain(code)) => Operation::Gives(match line.operand {
-            None => Some(Source::Plain(PlainInstruction::new(code))),
+            None => Some(Content::Plain(PlainInstruction::new(code))),
             Some(_) => None,
         }),
         Some(Operator::Addressed(code)) => Operation::Gives(match operand_in(line) {
-            Some(operand) => Some(Source::Addressed(AddressedInstruction::new(code), operand)),
+            Some(operand) => Some(Content::Addressed(AddressedInstruction::new(code), operand)),
             None => None,
         }),
         Some(Operator::ToNext(code)) => Operation::Gives(match line.operand {
-            None => Some(Source::Addressed(AddressedInstruction::new(code), next_location())),
+            None => Some(Content::Addressed(AddressedInstruction::new(code), next_location())),
             Some(_) => None,
         }),
     }
@@ -202,7 +151,7 @@ fn next_location() -> Operand
 {
     Operand {
         term: Term::Here,
-        shift: Shift::On(Some(Word::of_low_bits(1))),
+        shift: Shift::Plus(Some(Word::of_low_bits(1))),
     }
 }
 
@@ -217,64 +166,64 @@ fn operand_in(line: &Line<'_>) -> Option<Operand>
     operand_of(operand.text, line.offset.map(|field| field.text))
 }
 
-// A number alone.
-fn bank_in(line: &Line<'_>) -> Option<Option<Word>>
-    ensures { result ≡ bank_in (arguments_of line.now) }
+// A constant, where it has a number's form.
+fn constant_of(number: Numeral) -> Option<Content>
+    ensures { result ≡ with_form content.Constant number }
 {
-    if line.offset.is_some() {
-        return None;
+    match number {
+        Numeral::Is(number) => Some(Content::Constant(Some(number))),
+        Numeral::TooLarge => Some(Content::Constant(None)),
+        Numeral::NoForm => None,
     }
-    let operand = line.operand?;
-    number_in(operand.text)
+}
+
+// A number alone.
+fn bank_in(line: &Line<'_>) -> Numeral
+    ensures { result ≡ alone number_in (arguments_of line.now) }
+{
+    match (line.operand, line.offset) {
+        (Some(operand), None) => number_in(operand.text),
+        _ => Numeral::NoForm,
+    }
 }
 
 // How many words ERASE passes besides one: nothing, or a plus sign and a number alone.
-fn erased_in(line: &Line<'_>) -> Option<Option<Word>>
+fn erased_in(line: &Line<'_>) -> Numeral
     ensures { result ≡ erased_in (arguments_of line.now) }
 {
-    if line.offset.is_some() {
-        return None;
-    }
-    match line.operand {
-        Some(operand) => count_in(operand.text),
-        None => Some(Some(Word::ZERO)),
+    match (line.operand, line.offset) {
+        (Some(operand), None) => count_in(operand.text),
+        (None, None) => Numeral::Is(Word::ZERO),
+        _ => Numeral::NoForm,
     }
 }
 
 // A plus sign and a number.
-fn count_in(text: &[u8]) -> Option<Option<Word>>
+fn count_in(text: &[u8]) -> Numeral
     ensures { result ≡ count_in text.now }
 {
     match text {
         [b'+', number @ ..] => number_in(number),
-        _ => None,
+        _ => Numeral::NoForm,
     }
 }
 
 // The octal digits, where no further field stands.
-fn octal_source(line: &Line<'_>) -> Option<Source>
-    ensures { result ≡ octal_in (arguments_of line.now) }
+fn octal_alone(line: &Line<'_>) -> Numeral
+    ensures { result ≡ alone octal_in (arguments_of line.now) }
 {
-    if line.offset.is_some() {
-        return None;
-    }
-    let operand = line.operand?;
-    match octal_in(operand.text) {
-        Some(number) => Some(Source::Constant(number)),
-        None => None,
+    match (line.operand, line.offset) {
+        (Some(operand), None) => octal_in(operand.text),
+        _ => Numeral::NoForm,
     }
 }
 
 // The decimal constant, where no further field stands.
-fn decimal_source(line: &Line<'_>) -> Option<Source>
-    ensures { result ≡ decimal_source (arguments_of line.now) }
+fn decimal_alone(line: &Line<'_>) -> Numeral
+    ensures { result ≡ alone decimal_in (arguments_of line.now) }
 {
-    if line.offset.is_some() {
-        return None;
-    }
-    let operand = line.operand?;
-    match decimal_in(operand.text) {
-        Some(number) => Some(Source::Constant(number)),
-        None => None,
+    match (line.operand, line.offset) {
+        (Some(operand), None) => decimal_in(operand.text),
+        _ => Numeral::NoForm,
     }
 }

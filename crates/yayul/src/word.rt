@@ -1,23 +1,22 @@
-//! The words that a source gives.
+//! The words that a line gives.
 
-ghost use Rattle.std.specs.Prelude.{◌≡◌, ◌+◌, ◌<◌, ◌≤◌, false, length, replicate, nat_le, IfOk, ok_or};
+ghost use Rattle.std.specs.Prelude.{◌≡◌, ◌+◌, ◌<◌, ◌≤◌, false, length, replicate, nat_le, IfOk, Ok};
+ghost use Rattle.std.specs.Result.{result_map_both};
 ghost use Rattle.rope.specs.Places.{bank_words, stands, with_words};
-ghost use Rattle.yayul.specs.Codes.{greatest_code, greatest_field};
-ghost use Rattle.yayul.specs.Layout.{width, location_at, fixed_place};
-ghost use Rattle.yayul.specs.Operands.{value_of};
-ghost use Rattle.yayul.specs.Placing.{placed_from};
-ghost use Rattle.yayul.specs.Words.{accepted, address_of, address_below, bits_under, channel_in, complete_address, complete_place, bank_word, far_address, field_of, request_words, words_in};
+ghost use Rattle.yayul.specs.Layout.{width, value_of, and_then};
+ghost use Rattle.yayul.specs.Words.{accepted, addressed_word, address_of, address_below, channel_in, complete_address, fixed_place, bank_word, far_address, field_of, request_words};
+ghost use Rattle.yayul.specs.Program.{placed_from};
+ghost use Rattle.yayul.specs.Inside.Codes.{greatest_code, greatest_field, greatest_with_field};
+ghost use Rattle.yayul.specs.Inside.Representation.{request_of, words_in};
 
 use crate::bank::{ErasableBank, FixedBank};
-use crate::fault::FaultKind;
-use crate::layout::{Location, WordRequest};
-use crate::operand::Operand;
-use crate::operator::{Bits, Extracode, Takes};
-use crate::statement::Source;
-use crate::symbols::Symbols;
-use crate::value::{Value, erasable_place, location_at, value_of};
+use crate::faults::FaultKind;
+use crate::language::{AddressedCode, Content, Location, Operand, Takes};
+use crate::request::WordRequest;
+use crate::symbol_table::Symbols;
+use crate::values::{Value, erasable_place, location_at, value_of};
 use rope::Rope;
-use space::numbers::{Addr12, Offset};
+use space::numbers::Offset;
 use space::place::Linear;
 use space::resolve::{banks_of, window};
 use words::Word;
@@ -35,16 +34,16 @@ pub(crate) enum LineWords {
     Two(Word, Word),
 }
 
-impl Source {
+impl Content {
     // As many words of zero as it gives.
     pub(crate) fn zeros(&self) -> LineWords
         ensures { words_in result ≡ replicate (width self.now) 0 }
     {
         match self {
-            Source::Constant(_) => LineWords::One(Word::ZERO),
-            Source::Plain(_) => LineWords::One(Word::ZERO),
-            Source::Addressed(..) => LineWords::One(Word::ZERO),
-            Source::FarAddress(_) => LineWords::Two(Word::ZERO, Word::ZERO),
+            Content::Constant(_) => LineWords::One(Word::ZERO),
+            Content::Plain(_) => LineWords::One(Word::ZERO),
+            Content::Addressed(..) => LineWords::One(Word::ZERO),
+            Content::FarAddress(_) => LineWords::Two(Word::ZERO, Word::ZERO),
         }
     }
 }
@@ -70,26 +69,38 @@ pub(crate) fn put_words(rope: &mut Rope, bank: FixedBank, offset: Offset, words:
 
 // The words of a request.
 #[tactic(auto, unfolding(crate::specs::Words::request_words))]
-pub(crate) fn source_words(symbols: &Symbols, request: &WordRequest) -> Result<LineWords, FaultKind>
-    ensures { result ≡ request_words symbols.now request.now }
+pub(crate) fn content_words(
+    symbols: &Symbols,
+    request: &WordRequest,
+) -> Result<LineWords, FaultKind>
+    ensures { result_map_both words_in (λ kind. kind) result ≡ request_words symbols.now (request_of request.now) }
 {
-    match &request.source {
-        Source::Constant(number) => Ok(LineWords::One(number.ok_or(FaultKind::OutOfRange)?)),
-        Source::Plain(instruction) => {
+    match &request.content {
+        Content::Constant(number) => Ok(LineWords::One(number.ok_or(FaultKind::OutOfRange)?)),
+        Content::Plain(instruction) => {
             Ok(LineWords::One(Word::of_low_bits(instruction.code().code)))
         }
-        Source::Addressed(instruction, operand) => {
+        Content::Addressed(instruction, operand) => {
             let value = known_value(symbols, request, operand)?;
-            let code = instruction.code();
-            let bits = bits_under(code.extracode, code.bits, request.extracode);
-            let field = field_of(code.takes, bits.size(), value)?;
-            Ok(LineWords::One(Word::of_low_bits(code.least + field)))
+            addressed_word(instruction.code(), request.extracode, value)
         }
-        Source::FarAddress(operand) => {
+        Content::FarAddress(operand) => {
             let value = known_value(symbols, request, operand)?;
             let place = fixed_place(value)?;
             Ok(far_address(request.eb, place.0, place.1))
         }
+    }
+}
+
+// The word of a code and a value in its field, where extracode is in force or is not.
+fn addressed_word(code: AddressedCode, in_force: bool, value: Value) -> Result<LineWords, FaultKind>
+    requires { greatest_with_field code ≤ greatest_code }
+    ensures { result_map_both words_in (λ kind. kind) result ≡ addressed_word code in_force value }
+{
+    let bits = code.bits.under(code.extracode, in_force);
+    match field_of(code.takes, bits.size(), value) {
+        Ok(field) => Ok(LineWords::One(Word::of_low_bits(code.least + field))),
+        Err(kind) => Err(kind),
     }
 }
 
@@ -107,7 +118,7 @@ fn known_value(
 
 // The address of a fixed place, and what selects it, with an erasable bank.
 fn far_address(eb: ErasableBank, bank: FixedBank, offset: Offset) -> LineWords
-    ensures { result ≡ far_address eb bank offset }
+    ensures { words_in result ≡ far_address eb bank offset }
 {
     let address = window(Linear::Fixed(bank.bank(), offset));
     LineWords::Two(
@@ -124,16 +135,6 @@ fn bank_word(eb: ErasableBank, bank: FixedBank, offset: Offset) -> Word
     let banks = banks_of(Linear::Fixed(bank.bank(), offset));
     let superbank = if banks.sup { SUPERBANK_BIT } else { 0 };
     Word::of_low_bits(banks.fb * BANK_WORDS + superbank + eb.number())
-}
-
-// The bits of a field; a code of both tables has 12 under extracode.
-fn bits_under(extracode: Extracode, bits: Bits, in_force: bool) -> Bits
-    ensures { result ≡ bits_under extracode bits in_force }
-{
-    match extracode {
-        Extracode::Either if in_force => Bits::Twelve,
-        _ => bits,
-    }
 }
 
 // What a value gives to a field of so many places.
@@ -161,7 +162,7 @@ fn address_below(size: u16, value: Value) -> Result<u16, FaultKind>
     ensures value { result ≡ address_below size value }
     ensures range { IfOk result (λ address. address < 0o10000) }
 {
-    let address = known_address(value)?;
+    let address = address_of(value)?;
     if address < size {
         Ok(address)
     } else {
@@ -171,10 +172,10 @@ fn address_below(size: u16, value: Value) -> Result<u16, FaultKind>
 
 // An address of fixed memory.
 fn fixed_address(value: Value) -> Result<u16, FaultKind>
-    ensures value { result ≡ accepted (λ a. nat_le 0o2000 a) (address_of value) }
+    ensures value { result ≡ and_then (accepted (λ a. nat_le 0o2000 a)) (address_of value) }
     ensures range { IfOk result (λ address. address < 0o10000) }
 {
-    let address = known_address(value)?;
+    let address = address_of(value)?;
     if address < 0o2000 {
         Err(FaultKind::WrongKindOfAddress)
     } else {
@@ -184,7 +185,7 @@ fn fixed_address(value: Value) -> Result<u16, FaultKind>
 
 // The fixed place that a value names, in one word.
 fn complete_place(value: Value) -> Result<u16, FaultKind>
-    ensures value { result ≡ complete_place (fixed_place (location_at value)) }
+    ensures value { result ≡ and_then (λ place. Ok (complete_address place.0 place.1)) (fixed_place value) }
     ensures range { IfOk result (λ place. place ≤ greatest_code) }
 {
     let place = fixed_place(value)?;
@@ -193,14 +194,14 @@ fn complete_place(value: Value) -> Result<u16, FaultKind>
 
 // The fixed place that a value names.
 fn fixed_place(value: Value) -> Result<(FixedBank, Offset), FaultKind>
-    ensures { result ≡ fixed_place (location_at value) }
+    ensures { result ≡ fixed_place value }
 {
     match location_at(value) {
-        Some(location) => match location.word_place() {
+        Ok(location) => match location.word_place() {
             Some(place) => Ok(place),
             None => Err(FaultKind::WrongKindOfAddress),
         },
-        None => Err(FaultKind::OutOfRange),
+        Err(kind) => Err(kind),
     }
 }
 
@@ -214,24 +215,16 @@ fn complete_address(bank: FixedBank, offset: Offset) -> u16
     banks.fb * BANK_WORDS + offset.number()
 }
 
-fn known_address(value: Value) -> Result<u16, FaultKind>
-    ensures value { result ≡ ok_or (address_of value) FaultKind.OutOfRange }
+// The address of a value: a number below 010000 is its own, and a place has its window.
+fn address_of(value: Value) -> Result<u16, FaultKind>
+    ensures value { result ≡ address_of value }
     ensures range { IfOk result (λ address. address < 0o10000) }
 {
-    match address_of(value) {
-        Some(address) => Ok(address.number()),
-        None => Err(FaultKind::OutOfRange),
-    }
-}
-
-// The address of a value: a number below 010000 is its own, and a place has its window.
-fn address_of(value: Value) -> Option<Addr12>
-    ensures { result ≡ address_of value }
-{
     match value {
-        Value::Num(number) => Addr12::try_new(number.to_u16()),
-        Value::Erasable(place) => Some(window(Linear::Erasable(place))),
-        Value::Fixed(bank, offset) => Some(window(Linear::Fixed(bank.bank(), offset))),
+        Value::Num(number) if number.to_u16() < 0o10000 => Ok(number.to_u16()),
+        Value::Num(_) => Err(FaultKind::OutOfRange),
+        Value::Erasable(place) => Ok(window(Linear::Erasable(place)).number()),
+        Value::Fixed(bank, offset) => Ok(window(Linear::Fixed(bank.bank(), offset)).number()),
     }
 }
 

@@ -3,4 +3,4 @@ use Rattle.yayul.proofs.Decimals.{few_decimals}
 use Rattle.yayul.proofs.decimal.fraction_in.Goals as goal
 
 pub scaled-requires-clause-number : goal.scaled-requires-clause-number
-scaled-requires-clause-number c = (few_decimals c.args.decimals.now c.in_ok-number.number (sym c.decimal.ensures.value ∙ c.in_ok-number.was)).0
+scaled-requires-clause-number c = (few_decimals c.args.decimals.now c.in-Some.number (sym c.decimal.ensures.value ∙ c.in-Some.is)).0

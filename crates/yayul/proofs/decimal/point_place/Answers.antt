@@ -1,6 +1,6 @@
 use Rattle.std.proofs.Common.{eqb, arith, sym, rules}
 use Rattle.std.proofs.lemmas.List.Sums.{position_or_len_is}
-use Rattle.yayul.specs.Decimals.{point}
+use Rattle.yayul.specs.Forms.{point}
 use Rattle.yayul.proofs.decimal.point_place.Goals as goal
 
 pub returns : goal.returns

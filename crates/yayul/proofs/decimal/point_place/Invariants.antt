@@ -1,5 +1,5 @@
 use Rattle.std.proofs.Common.{◌≡◌, ℕ, ◌<◌, get_or, false, eqb}
-use Rattle.yayul.specs.Decimals.{point}
+use Rattle.yayul.specs.Forms.{point}
 use Rattle.yayul.proofs.decimal.point_place.Given as goal
 
 abbrev pub invariant-loop-i : goal.invariant-loop-i

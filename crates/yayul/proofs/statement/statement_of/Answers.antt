@@ -1,6 +1,6 @@
 use Rattle.std.proofs.Common.{ap, ◌∙◌}
 use Rattle.agc_text.specs.Fields.{fields, label_of, others_of}
-use Rattle.yayul.specs.Statements.{label_in, statement_of}
+use Rattle.yayul.specs.Forms.{label_in, statement_of}
 use Rattle.yayul.proofs.Fields.{text_of_piece, operation_by-pieces}
 use Rattle.yayul.proofs.statement.statement_of.Goals as goal
 

@@ -1,7 +1,7 @@
 use Rattle.std.proofs.Common.{◌≡◌, ◌+◌, ◌<◌, length, is_some, inr, ap, ◌∙◌, arith}
 use Rattle.rope.specs.Places.{stands}
 use Rattle.rope.proofs.PlaceLaws.{slot_at-with_word_other}
-use Rattle.yayul.specs.Words.{words_in}
+use Rattle.yayul.specs.Inside.Representation.{words_in}
 use Rattle.yayul.proofs.word.put_words.Goals as goal
 
 pub put-requires-in-Two-2-clause-free : goal.put-requires-in-Two-2-clause-free

@@ -1,0 +1,5 @@
+-- What only contracts of private functions cite. No public contract stands on these files.
+pub mod Codes
+pub mod Representation
+pub mod Sound
+pub mod Answers

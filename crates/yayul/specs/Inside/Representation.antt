@@ -1,0 +1,81 @@
+-- How the definitions see what the code holds.
+use Rattle.std.specs.Prelude.{ℕ, ◌+◌, List, [], ◌∷◌, ◌++◌, Option, None, Some, refl}
+use Rattle.std.specs.Coded.{Coded, code_by, coded×, coded_ℕ, coded_list}
+use Rattle.std.specs.FinMap as map
+use Rattle.std.specs.Option.{option_map, option_map_or}
+use Rattle.agc_text.specs.Tables.{value_in}
+use Rattle.agc_text.specs.declared.fields.Field.{Field}
+use Rattle.agc_text.specs.declared.fields.Line.{Line}
+use Rattle.rope.specs.Places.{Words}
+use Rattle.space.specs.declared.place.Linear.TheVariants as linear
+use Rattle.yayul.specs.Forms.{Arguments, operation_of}
+use Rattle.yayul.specs.Layout.{Request, Layout, line_effect}
+use Rattle.yayul.specs.Listing.{Shown, nothing, line_rows, shown}
+use Rattle.yayul.specs.Forms.{statement_of}
+use Rattle.yayul.specs.Operators.{operators}
+use Rattle.yayul.specs.Program.{Program}
+use Rattle.yayul.specs.contracts.values.Value as value
+use Rattle.yayul.specs.declared.language.Operation.{Operation}
+use Rattle.yayul.specs.declared.language.Operation.TheVariants.{Nothing}
+use Rattle.yayul.specs.declared.mark.Mark.{Mark}
+use Rattle.yayul.specs.declared.mark.Mark.TheVariants as mark
+use Rattle.yayul.specs.declared.request.WordRequest.{WordRequest}
+use Rattle.yayul.specs.declared.values.Point.{Point}
+use Rattle.yayul.specs.declared.values.Point.TheVariants as point
+use Rattle.yayul.specs.declared.values.Value.{Value}
+use Rattle.yayul.specs.declared.values.Value.TheVariants.{Num, Erasable, Fixed}
+use Rattle.yayul.specs.declared.word.LineWords.{LineWords}
+use Rattle.yayul.specs.declared.word.LineWords.TheVariants.{One, Two}
+
+-- the text of a field, where it stands
+abbrev pub text_of : Option Field → Option (List ℕ)
+text_of field = option_map (λ f. f.text.now) field
+
+-- the fields after the operator
+abbrev pub arguments_of : Line → Arguments
+arguments_of l = record { operand = text_of l.operand; offset = text_of l.offset; more = l.more }
+
+-- what the fields besides the label say
+abbrev pub operation_by : Line → Operation
+operation_by l = option_map_or (λ f. operation_of (value_in operators f.text.now) (arguments_of l)) l.operator Nothing
+
+-- the value of a kind and a number, which may be past the last of its kind
+abbrev pub value_at : Point → Value
+value_at (point.Num n) = Num n
+value_at (point.Erasable n) = Erasable n
+value_at (point.Fixed bank n) = Fixed bank n
+
+-- a request as it is stored
+abbrev pub request_of : WordRequest → Request
+request_of r = record { line = r.line; bank = r.bank; offset = r.offset; content = r.content; extracode = r.extracode; eb = r.eb }
+
+-- one or two words, in order
+abbrev pub words_in : LineWords → List ℕ
+words_in (One word) = word ∷ []
+words_in (Two first second) = first ∷ second ∷ []
+
+-- what a mark shows
+abbrev pub shown_by_mark : Mark → Shown
+shown_by_mark mark.Nothing = nothing
+shown_by_mark (mark.Erasable n) = record { place = Some (linear.Erasable n); words = [] }
+shown_by_mark (mark.Fixed bank n) = record { place = Some (linear.Fixed bank n); words = [] }
+shown_by_mark (mark.Word bank n) = record { place = None; words = (bank, n) ∷ [] }
+shown_by_mark (mark.Words bank n second) = record { place = None; words = (bank, n) ∷ (bank, second) ∷ [] }
+
+-- what each of some lines shows, the first of them with a number and what stands before it
+abbrev pub lines_show : ℕ → Layout → List (List ℕ) → List Shown
+lines_show line s [] = []
+lines_show line s (text ∷ texts) = shown s.location (statement_of text) ∷ lines_show (line + 1) (line_effect line s text).after texts
+
+-- the rows of some lines, the first of them with a number, and each with what it shows
+abbrev pub rows_of : ℕ → Words → List (List ℕ) → List Shown → List ℕ
+rows_of line words [] shows = []
+rows_of line words (text ∷ texts) [] = []
+rows_of line words (text ∷ texts) (shown ∷ shows) = line_rows line words text shown ++ rows_of (line + 1) words texts shows
+
+-- a program is stored as its fields, paired
+abbrev pub program_code : Coded Program
+program_code =
+    code_by (Words × (List (List ℕ × Value) × List ℕ))
+    (coded× (map.code coded_ℕ coded_ℕ) (coded× (coded_list (coded× (coded_list coded_ℕ) value.the_row.coded)) (coded_list coded_ℕ)))
+    (λ p. (p.rope, (p.symbols, p.source))) (λ p. record { rope = p.0; symbols = p.1.0; source = p.1.1 }) (λ _. refl)

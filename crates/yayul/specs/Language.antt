@@ -1,0 +1,30 @@
+-- The kinds of things that the definitions tell apart: the types of src/language.rt, with the faults and values of src/faults.rt and src/values.rt.
+pub use Rattle.yayul.specs.declared.language.AddressedCode.{AddressedCode}
+pub use Rattle.yayul.specs.declared.language.BankRange.{BankRange}
+pub use Rattle.yayul.specs.declared.language.BankRange.TheVariants.{All, TwoOrThree}
+pub use Rattle.yayul.specs.declared.language.Bits.{Bits}
+pub use Rattle.yayul.specs.declared.language.Bits.TheVariants.{Nine, Ten, Twelve}
+pub use Rattle.yayul.specs.declared.language.Content.{Content}
+pub use Rattle.yayul.specs.declared.language.Content.TheVariants.{Constant, Plain, Addressed, FarAddress}
+pub use Rattle.yayul.specs.declared.language.Extracode.{Extracode}
+pub use Rattle.yayul.specs.declared.language.Extracode.TheVariants.{No, Yes, Either}
+pub use Rattle.yayul.specs.declared.language.Label.{Label}
+pub use Rattle.yayul.specs.declared.language.Label.TheVariants.{Missing, Malformed, Named}
+pub use Rattle.yayul.specs.declared.language.Location.{Location}
+pub use Rattle.yayul.specs.declared.language.Numeral.{Numeral}
+pub use Rattle.yayul.specs.declared.language.Numeral.TheVariants.{NoForm, TooLarge, Is}
+pub use Rattle.yayul.specs.declared.language.Operand.{Operand}
+pub use Rattle.yayul.specs.declared.language.Operation.{Operation}
+pub use Rattle.yayul.specs.declared.language.Operation.TheVariants.{Nothing, Unknown, Setloc, Bank, Erase, Equals, Ebank, Gives}
+pub use Rattle.yayul.specs.declared.language.Operator.{Operator}
+pub use Rattle.yayul.specs.declared.language.Shift.{Shift}
+pub use Rattle.yayul.specs.declared.language.Shift.TheVariants.{Plus, Minus}
+pub use Rattle.yayul.specs.declared.language.Statement.{Statement}
+pub use Rattle.yayul.specs.declared.language.Takes.{Takes}
+pub use Rattle.yayul.specs.declared.language.Takes.TheVariants.{Address, Pair, FixedAddress, Channel, ErasablePlace, FixedPlace}
+pub use Rattle.yayul.specs.declared.language.Term.{Term}
+pub use Rattle.yayul.specs.declared.faults.Fault.{Fault}
+pub use Rattle.yayul.specs.declared.faults.FaultKind.{FaultKind}
+pub use Rattle.yayul.specs.declared.faults.FaultKind.TheVariants.{NoMemory, NotAscii, LongLine, TooManyLines, BadLabel, TwiceDefined, UnknownOperator, BadOperand, Undefined, UsedTooEarly, BadBank, BankFull, PlaceTaken, CodeInErasable, NeedsExtend, NotExtracode, WrongKindOfAddress, OutOfRange}
+pub use Rattle.yayul.specs.declared.values.Value.{Value}
+pub use Rattle.yayul.specs.declared.values.Value.TheVariants.{Num, Erasable, Fixed}

@@ -1,0 +1,93 @@
+//! Assembled sources.
+
+ghost use Rattle.std.specs.Prelude.{◌≡◌, true, map};
+ghost use Rattle.agc_text.specs.Lines.{lines};
+ghost use Rattle.words.specs.Devices.{Writes, failures_after};
+ghost use Rattle.yayul.specs.Layout.{start};
+ghost use Rattle.yayul.specs.Listing.{listing};
+ghost use Rattle.yayul.specs.Inside.Representation.{shown_by_mark, lines_show};
+ghost use Rattle.agc_text.specs.Tables.{value_in};
+
+use crate::listing::{write_rows, write_symbols};
+use crate::mark::Marks;
+use crate::symbol_table::Symbols;
+use crate::values::Value;
+use rope::Rope;
+use std::marker::Model;
+use words::{Write, WriteFailed};
+
+/// An assembled source: its words in their places, its symbols, and its text.
+#[derive(Drop)]
+pub struct Program {
+    rope: Rope,
+    symbols: Symbols,
+    source: Vec<u8>,
+    // What the listing shows beside each line.
+    marks: Marks,
+}
+
+impl Model for Program {
+    ghost use Rattle.std.specs.Prelude.{◌≡◌, map};
+    ghost use Rattle.agc_text.specs.Lines.{lines};
+    ghost use Rattle.yayul.specs.Layout.{start};
+    ghost use Rattle.yayul.specs.Program.{Program as Assembled};
+    ghost use Rattle.yayul.specs.Inside.Representation.{program_code, shown_by_mark, lines_show};
+
+    ghost Value = { Assembled };
+
+    ghost coded = { program_code };
+
+    ghost view = { λ p. record { rope = p.rope; symbols = p.symbols; source = p.source.items } };
+
+    ghost invariant = { λ p. map shown_by_mark p.marks ≡ lines_show 1 start (lines p.source.items) };
+}
+
+impl Program {
+    pub(crate) fn new(rope: Rope, symbols: Symbols, source: Vec<u8>, marks: Marks) -> Program
+        requires { map shown_by_mark marks ≡ lines_show 1 start (lines source.items) }
+        ensures { result ≡ record { rope = rope; symbols = symbols; source = source.items } }
+    {
+        Program {
+            rope,
+            symbols,
+            source,
+            marks,
+        }
+    }
+
+    /// The value of a symbol, where it is defined.
+    pub fn symbol(&self, name: &[u8]) -> Option<Value>
+        ensures { result ≡ value_in self.now.symbols name.now }
+    {
+        self.symbols.symbol(name)
+    }
+
+    /// The words in their places.
+    pub fn rope(&self) -> &Rope
+        ensures { result.now ≡ self.now.rope }
+    {
+        &self.rope
+    }
+
+    /// The words in their places, and the symbols.
+    pub fn split(self) -> (Rope, Symbols)
+        ensures rope { result.0 ≡ self.rope }
+        ensures symbols { result.1 ≡ self.symbols }
+    {
+        (self.rope, self.symbols)
+    }
+
+    /// Writes the listing: a row for each line of the source, with its number, its place, its word and its text, and then the
+    /// symbols in order of definition. No memory is taken.
+    ///
+    /// After a failure a beginning of it was written.
+    pub fn list<W: Write>(&self, writer: &mut W) -> Result<(), WriteFailed>
+        ensures written { W.told ≡ true → Writes (W.written writer.old) (W.written writer.new) (listing self.now) result }
+        ensures failures { W.failures writer.new ≡ failures_after (W.failures writer.old) result }
+    {
+        match write_rows(&self.rope, &self.source, self.marks.as_slice(), writer) {
+            Ok(()) => write_symbols(&self.symbols, writer),
+            Err(failed) => Err(failed),
+        }
+    }
+}

@@ -1,0 +1,134 @@
+//! What is wrong with a source.
+
+ghost use Rattle.std.specs.Prelude.{◌≡◌};
+ghost use Rattle.yayul.specs.Layout.{fault_number, fault_if, standing};
+ghost use Rattle.yayul.specs.Inside.Answers.{least_kind, lesser_if};
+
+use thiserror::Error;
+
+/// The faults of a source, each with the number that it is told by.
+#[derive(Clone, Copy, PartialEq, Eq, Debug, Drop, Error)]
+pub enum FaultKind {
+    /// A growth of memory was refused; nothing is said of the source.
+    #[error("E2")]
+    NoMemory,
+    /// A byte other than 040 to 0176 octal, tab and line feed.
+    #[error("E10")]
+    NotAscii,
+    /// More than 120 bytes without a line feed.
+    #[error("E11")]
+    LongLine,
+    /// A line 65,537.
+    #[error("E12")]
+    TooManyLines,
+    /// A label without a label's form, or missing, or not taken.
+    #[error("E13")]
+    BadLabel,
+    /// A label that stands on an earlier line.
+    #[error("E14")]
+    TwiceDefined,
+    /// An operator that the language does not have.
+    #[error("E15")]
+    UnknownOperator,
+    /// An operand that is missing, not taken or without an operand's form, or a fourth field.
+    #[error("E16")]
+    BadOperand,
+    /// A symbol that no line defines.
+    #[error("E17")]
+    Undefined,
+    /// A symbol that no earlier line defines, where the location or a symbol depends on it.
+    #[error("E18")]
+    UsedTooEarly,
+    /// A bank outside its operator's range.
+    #[error("E19")]
+    BadBank,
+    /// A word, a label's location or an ERASE beyond the end of its bank.
+    #[error("E20")]
+    BankFull,
+    /// A word stands there already.
+    #[error("E21")]
+    PlaceTaken,
+    /// A word at an erasable location.
+    #[error("E22")]
+    CodeInErasable,
+    /// An extracode where extracode is not in force.
+    #[error("E23")]
+    NeedsExtend,
+    /// A word that is no extracode where extracode is in force.
+    #[error("E24")]
+    NotExtracode,
+    /// A value of a kind, or an address, that the operator does not take.
+    #[error("E25")]
+    WrongKindOfAddress,
+    /// A number above 077777, or a value out of its range, or without an address or a place.
+    #[error("E26")]
+    OutOfRange,
+}
+
+impl FaultKind {
+    /// The number that the fault is told by.
+    pub fn number(self) -> u8
+        ensures { result ≡ fault_number self }
+    {
+        match self {
+            FaultKind::NoMemory => 2,
+            FaultKind::NotAscii => 10,
+            FaultKind::LongLine => 11,
+            FaultKind::TooManyLines => 12,
+            FaultKind::BadLabel => 13,
+            FaultKind::TwiceDefined => 14,
+            FaultKind::UnknownOperator => 15,
+            FaultKind::BadOperand => 16,
+            FaultKind::Undefined => 17,
+            FaultKind::UsedTooEarly => 18,
+            FaultKind::BadBank => 19,
+            FaultKind::BankFull => 20,
+            FaultKind::PlaceTaken => 21,
+            FaultKind::CodeInErasable => 22,
+            FaultKind::NeedsExtend => 23,
+            FaultKind::NotExtracode => 24,
+            FaultKind::WrongKindOfAddress => 25,
+            FaultKind::OutOfRange => 26,
+        }
+    }
+}
+
+impl FaultKind {
+    /// The fault, where its condition holds.
+    pub(crate) fn when(self, condition: bool) -> Option<FaultKind>
+        ensures { result ≡ fault_if condition self }
+    {
+        if condition { Some(self) } else { None }
+    }
+}
+
+/// The fault with the least number of those that stand.
+pub(crate) fn least_fault(conditions: &[Option<FaultKind>]) -> Option<FaultKind>
+    ensures { result ≡ least_kind (standing conditions.now) }
+{
+    let mut least = None;
+    for condition in conditions {
+        least = lesser_fault(least, *condition);
+    }
+    least
+}
+
+fn lesser_fault(least: Option<FaultKind>, other: Option<FaultKind>) -> Option<FaultKind>
+    ensures { result ≡ lesser_if least other }
+{
+    match (least, other) {
+        (Some(kind), Some(next)) if next.number() < kind.number() => Some(next),
+        (Some(kind), _) => Some(kind),
+        (None, next) => next,
+    }
+}
+
+/// A fault of a source, and the line that it stands on.
+#[derive(Clone, Copy, PartialEq, Eq, Debug, Drop, Error)]
+#[error("E{number} LINE {line}")]
+pub struct Fault {
+    /// The line, counted from 1; 0 where memory ran out.
+    pub line: u32,
+    /// What is wrong: the number of a [`FaultKind`], 2 where memory ran out.
+    pub number: u8,
+}

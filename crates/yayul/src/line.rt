@@ -1,0 +1,425 @@
+//! What each line does to the layout: the symbols of a source, and the words that its lines ask for.
+
+ghost use Rattle.std.specs.Prelude.{◌≡◌, ◌<◌, ◌≤◌, ◌+◌, ◌∷◌, [], false, ◌++◌, ◌&&◌, not, IfOk, IfErr, OnOk, Some};
+ghost use Rattle.std.specs.List.{list_all};
+ghost use Rattle.std.specs.Result.{result_err};
+ghost use Rattle.yayul.specs.Layout.{fault_number, fault_if, standing, start, word_place, width, lacks_room, is_missing, is_twice, is_taken_at, is_taken, defined, asked, label_faults, label_alone, refused, bare_faults, bank, bank_end, bank_target, relocated, setloc, and_then, location_at, erasable_place, early_value, valued, equals, ebank, erase, gives, statement_effect, text_faults};
+ghost use Rattle.yayul.specs.declared.faults.FaultKind.TheVariants.{BankFull};
+ghost use Rattle.yayul.specs.Inside.Answers.{layout_of, least_kind, LeadsTo, LineLeadsTo};
+ghost use Rattle.yayul.specs.Inside.Representation.{request_of};
+ghost use Rattle.yayul.specs.Inside.Sound.{IsLocation};
+
+use crate::bank::{ErasableBank, FixedBank};
+use crate::faults::{FaultKind, least_fault};
+use crate::language::{
+    BankRange, Content, Label, Location, Numeral, Operand, Operation, Statement,
+};
+use crate::layout::{BANKS, Layout};
+use crate::mark::Mark;
+use crate::request::WordRequest;
+use crate::statement::statement_of;
+use crate::symbol_table::Symbols;
+use crate::values::{Value, erasable_place, location_at, value_of};
+use crate::word::put_words;
+use agc_text::{LINE_LENGTH, is_text};
+use rope::Rope;
+use std::alloc::Global;
+
+/// The most lines of a source.
+const LINE_COUNT: u32 = 65_536;
+
+impl Layout {
+    /// What stands before the first line.
+    pub(crate) fn start(alloc: Global) -> Result<Layout, FaultKind>
+        ensures start { IfOk result (λ l. layout_of l ≡ start) }
+        ensures err { IfErr result (λ kind. kind ≡ FaultKind.NoMemory) }
+    {
+        match Rope::empty(alloc) {
+            Ok(taken) => Ok(Layout {
+                location: Location::Fixed(FixedBank::two(), 0),
+                symbols: Symbols::new(alloc),
+                taken,
+                requests: Vec::new(alloc),
+                extracode: false,
+                eb: ErasableBank::of_place(0),
+                ends: [0; BANKS],
+            }),
+            Err(_) => Err(FaultKind::NoMemory),
+        }
+    }
+
+    /// Lays out a line, which has this number, and answers what it shows in the listing.
+    pub(crate) fn line(&mut self, line: u32, text: &[u8]) -> Result<Mark, FaultKind>
+        ensures { LineLeadsTo line (layout_of self.old) text.now (layout_of self.new) result }
+    {
+        if let Some(kind) = text_fault(line, text) {
+            return Err(kind);
+        }
+        let statement = statement_of(text);
+        let mark = Mark::of(self.location, &statement);
+        let Statement { label, operation } = statement;
+        match self.operation(line, &label, operation) {
+            Ok(()) => Ok(mark),
+            Err(kind) => Err(kind),
+        }
+    }
+
+    // Does what a line's fields say.
+    fn operation(&mut self, line: u32, label: &Label, operation: Operation) -> Result<(), FaultKind>
+        ensures { LeadsTo (statement_effect line (layout_of self.old) label.now operation) (layout_of self.new) result }
+    {
+        match operation {
+            Operation::Nothing => self.label_alone(label),
+            Operation::Unknown => Err(self.refused(label, FaultKind::UnknownOperator)),
+            Operation::Setloc(operand) => self.setloc(label, operand),
+            Operation::Bank(range, number) => self.bank(label, range, number),
+            Operation::Erase(count) => self.erase(label, count),
+            Operation::Equals(operand) => self.equals(label, operand),
+            Operation::Ebank(operand) => self.ebank(label, operand),
+            Operation::Gives(Some(content)) => self.give(line, label, content),
+            Operation::Gives(None) => Err(self.refused(label, FaultKind::BadOperand)),
+        }
+    }
+
+    // A line with a label alone, or without a field.
+    fn label_alone(&mut self, label: &Label) -> Result<(), FaultKind>
+        ensures { LeadsTo (label_alone (layout_of self.old) label.now) (layout_of self.new) result }
+    {
+        match (self.label_fault(label), self.location.value()) {
+            (Some(kind), _) => Err(kind),
+            (None, Some(value)) => self.define(label, value),
+            (None, None) => Ok(()),
+        }
+    }
+
+    // The least fault of a line with a label alone, or without a field.
+    fn label_fault(&self, label: &Label) -> Option<FaultKind>
+        ensures { result ≡ least_kind (label_alone (layout_of self.now) label.now).faults }
+    {
+        least_fault(&[
+            FaultKind::BadLabel.when(label.is_malformed()),
+            FaultKind::TwiceDefined.when(self.is_twice(label)),
+            FaultKind::BankFull.when(self.lacks_place(label)),
+        ])
+    }
+
+    // Whether a label stands where no word may.
+    fn lacks_place(&self, label: &Label) -> bool
+        ensures { result ≡ (not (is_missing label.now) && lacks_room 1 self.now.location) }
+    {
+        !label.is_missing() && self.location.is_past_end()
+    }
+
+    // The least fault of a line that may have a label, and has a fault of its own: of a greater kind than those of labels.
+    fn refused(&self, label: &Label, kind: FaultKind) -> FaultKind
+        requires { 14 < fault_number kind }
+        ensures { least_kind (refused (layout_of self.now) label.now kind).faults ≡ Some result }
+    {
+        if label.is_malformed() {
+            FaultKind::BadLabel
+        } else if self.is_twice(label) {
+            FaultKind::TwiceDefined
+        } else {
+            kind
+        }
+    }
+
+    // SETLOC: the location becomes that of the operand.
+    fn setloc(&mut self, label: &Label, operand: Option<Operand>) -> Result<(), FaultKind>
+        ensures { LeadsTo (setloc (layout_of self.old) label.now operand) (layout_of self.new) result }
+    {
+        let target = self.target_of(&operand);
+        self.relocate(label, target)
+    }
+
+    // BANK and BLOCK: the location stands past the words of a bank.
+    fn bank(&mut self, label: &Label, range: BankRange, number: Numeral) -> Result<(), FaultKind>
+        ensures { LeadsTo (bank (layout_of self.old) label.now range number) (layout_of self.new) result }
+    {
+        let target = self.bank_target(range, number);
+        self.relocate(label, target)
+    }
+
+    // Moves the location to a target.
+    fn relocate(
+        &mut self,
+        label: &Label,
+        target: Result<Location, FaultKind>,
+    ) -> Result<(), FaultKind>
+        requires { IfOk target IsLocation }
+        ensures { LeadsTo (relocated (layout_of self.old) label.now target) (layout_of self.new) result }
+    {
+        match (bare_fault(label, &target), target) {
+            (Some(kind), _) => Err(kind),
+            (None, Ok(location)) => {
+                self.location = location;
+                Ok(())
+            }
+            (None, Err(_)) => unreachable!(),
+        }
+    }
+
+    // The location past the words of a bank that the operator takes.
+    fn bank_target(&self, range: BankRange, number: Numeral) -> Result<Location, FaultKind>
+        ensures value { result ≡ bank_target (layout_of self.now) range number }
+        ensures located { IfOk result IsLocation }
+    {
+        match number {
+            Numeral::Is(number) => match range.bank(number.to_u16()) {
+                Some(bank) => Ok(self.past_bank(bank)),
+                None => Err(FaultKind::BadBank),
+            },
+            Numeral::TooLarge => Err(FaultKind::BadBank),
+            Numeral::NoForm => Err(FaultKind::BadOperand),
+        }
+    }
+
+    // The location past the words of a bank.
+    fn past_bank(&self, bank: FixedBank) -> Location
+        ensures value { result ≡ Location.Fixed bank (bank_end (layout_of self.now).requests bank) }
+        ensures located { IsLocation result }
+    {
+        Location::Fixed(bank, self.ends[usize::from(bank.bank().number())])
+    }
+
+    // The location that an operand names.
+    fn target_of(&self, operand: &Option<Operand>) -> Result<Location, FaultKind>
+        ensures value { result ≡ and_then location_at (early_value (layout_of self.now) operand.now) }
+        ensures located { IfOk result IsLocation }
+    {
+        match self.value_of(operand) {
+            Ok(value) => location_at(value),
+            Err(kind) => Err(kind),
+        }
+    }
+
+    // The value of an operand, its symbols those of earlier lines.
+    fn value_of(&self, operand: &Option<Operand>) -> Result<Value, FaultKind>
+        ensures { result ≡ early_value (layout_of self.now) operand.now }
+    {
+        match operand {
+            Some(operand) => value_of(
+                FaultKind::UsedTooEarly,
+                &self.symbols,
+                self.location,
+                operand,
+            ),
+            None => Err(FaultKind::BadOperand),
+        }
+    }
+
+    // EQUALS and =: the label has the value of the operand.
+    fn equals(&mut self, label: &Label, operand: Option<Operand>) -> Result<(), FaultKind>
+        ensures { LeadsTo (equals (layout_of self.old) label.now operand) (layout_of self.new) result }
+    {
+        let value = self.value_of(&operand);
+        match (self.equals_fault(label, &value), value) {
+            (Some(kind), _) => Err(kind),
+            (None, Ok(value)) => self.define(label, value),
+            (None, Err(_)) => unreachable!(),
+        }
+    }
+
+    // The least fault of EQUALS and =.
+    fn equals_fault(&self, label: &Label, value: &Result<Value, FaultKind>) -> Option<FaultKind>
+        ensures { result ≡ least_kind (valued (layout_of self.now) label.now value.now).faults }
+    {
+        least_fault(&[
+            FaultKind::BadLabel.when(label.is_missing() || label.is_malformed()),
+            FaultKind::TwiceDefined.when(self.is_twice(label)),
+            fault_of(value),
+        ])
+    }
+
+    // EBANK=: the erasable bank of 2CADR becomes that of the operand's place.
+    fn ebank(&mut self, label: &Label, operand: Option<Operand>) -> Result<(), FaultKind>
+        ensures { LeadsTo (ebank (layout_of self.old) label.now operand) (layout_of self.new) result }
+    {
+        let place = self.erasable_of(&operand);
+        match (bare_fault(label, &place), place) {
+            (Some(kind), _) => Err(kind),
+            (None, Ok(place)) => {
+                self.eb = ErasableBank::of_place(place);
+                Ok(())
+            }
+            (None, Err(_)) => unreachable!(),
+        }
+    }
+
+    // The erasable place that an operand names.
+    fn erasable_of(&self, operand: &Option<Operand>) -> Result<u16, FaultKind>
+        ensures value { result ≡ and_then erasable_place (early_value (layout_of self.now) operand.now) }
+        ensures range { IfOk result (λ place. place < 0o4000) }
+    {
+        match self.value_of(operand) {
+            Ok(value) => erasable_place(value),
+            Err(kind) => Err(kind),
+        }
+    }
+
+    // ERASE: passes erasable words.
+    fn erase(&mut self, label: &Label, count: Numeral) -> Result<(), FaultKind>
+        ensures { LeadsTo (erase (layout_of self.old) label.now count) (layout_of self.new) result }
+    {
+        let end = self.location.erased_to(count);
+        match (self.erase_fault(label, &end), self.location.value(), end) {
+            (Some(kind), _, _) => Err(kind),
+            (None, Some(value), Ok(end)) => match self.define(label, value) {
+                Ok(()) => {
+                    self.location = end;
+                    Ok(())
+                }
+                Err(kind) => Err(kind),
+            },
+            (None, _, _) => unreachable!(),
+        }
+    }
+
+    // The least fault of ERASE, which comes to an end.
+    fn erase_fault(&self, label: &Label, end: &Result<Location, FaultKind>) -> Option<FaultKind>
+        ensures { result ≡ least_kind (standing (label_faults (layout_of self.now) label.now ++ fault_if (not (is_missing label.now) && lacks_room 1 self.now.location) BankFull ∷ result_err end.now ∷ [])) }
+    {
+        least_fault(&[
+            FaultKind::BadLabel.when(label.is_malformed()),
+            FaultKind::TwiceDefined.when(self.is_twice(label)),
+            FaultKind::BankFull.when(self.lacks_place(label)),
+            fault_of(end),
+        ])
+    }
+
+    // A line that gives words.
+    fn give(&mut self, line: u32, label: &Label, content: Content) -> Result<(), FaultKind>
+        ensures { LeadsTo (gives line (layout_of self.old) label.now content) (layout_of self.new) result }
+    {
+        match (self.give_fault(label, &content), self.location.word_place()) {
+            (Some(kind), _) => Err(kind),
+            (None, Some(place)) => match self.define(label, Value::Fixed(place.0, place.1)) {
+                Ok(()) => self.ask(WordRequest {
+                    line,
+                    bank: place.0,
+                    offset: place.1,
+                    content,
+                    extracode: self.extracode,
+                    eb: self.eb,
+                }),
+                Err(kind) => Err(kind),
+            },
+            (None, None) => unreachable!(),
+        }
+    }
+
+    // The least fault of a line that gives words.
+    fn give_fault(&self, label: &Label, content: &Content) -> Option<FaultKind>
+        ensures { result ≡ least_kind (gives 0 (layout_of self.now) label.now content.now).faults }
+    {
+        let width = content.width();
+        least_fault(&[
+            FaultKind::BadLabel.when(label.is_malformed()),
+            FaultKind::TwiceDefined.when(self.is_twice(label)),
+            FaultKind::BankFull.when(self.location.lacks_room(width)),
+            FaultKind::PlaceTaken.when(self.is_taken(width)),
+            FaultKind::CodeInErasable.when(self.location.is_erasable()),
+        ])
+    }
+
+    // Asks for words from the location on, and moves past them.
+    fn ask(&mut self, request: WordRequest) -> Result<(), FaultKind>
+        requires here { word_place self.old.location ≡ Some (request.bank, request.offset) }
+        requires room { lacks_room (width request.content) self.old.location ≡ false }
+        requires free { is_taken (layout_of self.old) (width request.content) ≡ false }
+        ensures ok { OnOk result (layout_of self.new ≡ asked (layout_of self.old) (request_of request)) }
+        ensures err { IfErr result (λ kind. kind ≡ FaultKind.NoMemory) }
+    {
+        let bank = request.bank;
+        let offset = request.offset;
+        let extracode = request.content.extends(self.extracode);
+        let zeros = request.content.zeros();
+        let end = offset.number() + request.content.width() as u16;
+        match self.requests.push(request) {
+            Ok(()) => {
+                put_words(&mut self.taken, bank, offset, zeros);
+                let i = usize::from(bank.bank().number());
+                self.ends[i] = self.ends[i].max(end);
+                self.location = Location::Fixed(bank, end);
+                self.extracode = extracode;
+                Ok(())
+            }
+            Err(_) => Err(FaultKind::NoMemory),
+        }
+    }
+
+    // Gives a name its value.
+    fn define(&mut self, label: &Label, value: Value) -> Result<(), FaultKind>
+        requires { is_twice (layout_of self.old) label.now ≡ false }
+        ensures ok { OnOk result (layout_of self.new ≡ defined (layout_of self.old) label.now value) }
+        ensures err { IfErr result (λ kind. kind ≡ FaultKind.NoMemory) }
+    {
+        match label {
+            Label::Named(name) => match self.symbols.define(name, value) {
+                Ok(()) => Ok(()),
+                Err(_) => Err(FaultKind::NoMemory),
+            },
+            Label::Missing => Ok(()),
+            Label::Malformed => Ok(()),
+        }
+    }
+
+    // Whether a label stands on an earlier line.
+    fn is_twice(&self, label: &Label) -> bool
+        ensures { result ≡ is_twice (layout_of self.now) label.now }
+    {
+        match label {
+            Label::Named(name) => self.symbols.symbol(name.as_slice()).is_some(),
+            Label::Missing => false,
+            Label::Malformed => false,
+        }
+    }
+
+    // Whether a word stands already where the first of so many would, or the second where there are two.
+    fn is_taken(&self, count: usize) -> bool
+        ensures { result ≡ is_taken (layout_of self.now) count }
+    {
+        self.is_taken_at(self.location)
+            || (count > 1 && self.is_taken_at(self.location.after_word()))
+    }
+
+    // Whether a word stands at a location already.
+    fn is_taken_at(&self, here: Location) -> bool
+        ensures { result ≡ is_taken_at (layout_of self.now) here }
+    {
+        match here.word_place() {
+            Some(place) => self.taken.has(place.0.bank(), place.1),
+            None => false,
+        }
+    }
+}
+
+// The least fault of a line that takes no label and comes to something.
+fn bare_fault<T>(label: &Label, outcome: &Result<T, FaultKind>) -> Option<FaultKind>
+    ensures { result ≡ least_kind (standing (bare_faults label.now outcome.now)) }
+{
+    least_fault(&[
+        FaultKind::BadLabel.when(!label.is_missing()),
+        fault_of(outcome),
+    ])
+}
+
+fn fault_of<T>(outcome: &Result<T, FaultKind>) -> Option<FaultKind>
+    ensures { result ≡ result_err outcome.now }
+{
+    match outcome {
+        Ok(_) => None,
+        Err(kind) => Some(*kind),
+    }
+}
+
+// The least fault of a line's bytes, its length and its number.
+fn text_fault(line: u32, text: &[u8]) -> Option<FaultKind>
+    ensures { result ≡ least_kind (text_faults line text.now) }
+{
+    least_fault(&[
+        FaultKind::NotAscii.when(!is_text(text)),
+        FaultKind::LongLine.when(text.len() > LINE_LENGTH),
+        FaultKind::TooManyLines.when(line == LINE_COUNT + 1),
+    ])
+}

@@ -1,0 +1,90 @@
+//! Symbols and their values, in order of definition.
+
+ghost use Rattle.std.specs.Prelude.{◌≡◌, ◌≤◌, [], ◌∷◌, ◌++◌, None, OnOk, OnErr, IfSome, length, slice_get};
+ghost use Rattle.std.specs.Option.{option_map};
+ghost use Rattle.agc_text.specs.Tables.{value_in};
+
+use crate::name::{NAME_LENGTH, Name};
+use crate::values::Value;
+use arrayvec::ArrayVec;
+use indexmap::IndexMap;
+use std::alloc::{AllocError, Global};
+use std::marker::Model;
+
+/// A table of symbols.
+#[derive(Drop)]
+pub struct Symbols {
+    values: IndexMap<ArrayVec<u8, NAME_LENGTH>, Value>,
+}
+
+impl Model for Symbols {
+    ghost use Rattle.std.specs.Prelude.{List, ℕ, ◌≤◌, length, map};
+    ghost use Rattle.std.specs.List.{All};
+    ghost use Rattle.yayul.specs.declared.values.Value.{Value as Kind};
+
+    ghost Value = { List (List ℕ × Kind) };
+
+    ghost view = { λ s. map (λ e. (e.0.items, e.1)) s.values.entries };
+
+    ghost invariant = { λ s. All (λ e. length e.0.items ≤ 8) s.values.entries };
+}
+
+impl Symbols {
+    /// A table without symbols. Nothing is allocated.
+    pub(crate) fn new(alloc: Global) -> Symbols
+        ensures { result ≡ [] }
+    {
+        Symbols {
+            values: IndexMap::new(alloc),
+        }
+    }
+
+    /// The value of a name, where it is defined.
+    pub fn symbol(&self, name: &[u8]) -> Option<Value>
+        ensures { result ≡ value_in self.now name.now }
+    {
+        let values = &self.values;
+        if name.len() > NAME_LENGTH {
+            return None;
+        }
+        values.get(&key_of(name)).copied()
+    }
+
+    /// How many symbols there are.
+    pub(crate) fn len(&self) -> usize
+        ensures { result ≡ length self.now }
+    {
+        self.values.len()
+    }
+
+    /// The name and the value of the symbol that was defined after so many others.
+    pub(crate) fn entry(&self, index: usize) -> Option<(&[u8], Value)>
+        ensures value { option_map (λ e. (e.0.now, e.1)) result ≡ slice_get self.now index }
+        ensures fits { IfSome result (λ e. length e.0.now ≤ NAME_LENGTH) }
+    {
+        let entry = self.values.get_index(index)?;
+        Some((entry.0.as_slice(), *entry.1))
+    }
+
+    // Adds a name that is not there.
+    pub(crate) fn define(&mut self, name: &Name, value: Value) -> Result<(), AllocError>
+        requires { value_in self.old name.now ≡ None }
+        ensures ok { OnOk result (self.new ≡ self.old ++ (name.now, value) ∷ []) }
+        ensures err { OnErr result (self.new ≡ self.old) }
+    {
+        self.values.insert(key_of(name.as_slice()), value)?;
+        Ok(())
+    }
+}
+
+// The bytes of a name as they are held.
+pub(crate) fn key_of(text: &[u8]) -> ArrayVec<u8, NAME_LENGTH>
+    requires { length text.now ≤ NAME_LENGTH }
+    ensures { result.items ≡ text.now }
+{
+    let mut key = ArrayVec::new();
+    for byte in text {
+        key.push(*byte);
+    }
+    key
+}
