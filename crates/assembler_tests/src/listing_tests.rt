@@ -3,8 +3,7 @@
 use std::alloc::Global;
 use words::Buffer;
 use words::faulty::{FaultyWriter, Trouble};
-use yayul::assemble;
-use yayul::Fault;
+use yayul::{Fault, assemble};
 
 const FIVE_PLUS_FIVE: &[u8] = b" SETLOC 4000
  CA FIVE

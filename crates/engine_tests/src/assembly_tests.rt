@@ -10,9 +10,7 @@ use std::alloc::Global;
 use words::Buffer;
 use words::faulty::{FaultyReader, FaultyWriter, Trouble};
 use workshop::{Version, WorkshopFault, asm_engine, upgrade_engine};
-use yayul::assemble;
-use yayul::Fault;
-use yayul::Program;
+use yayul::{Fault, Program, assemble};
 
 const LISTING: &[u8] = b"    1                 SETLOC 4000
     2 02,4000 34005   CA FIVE

@@ -94,18 +94,8 @@ fn five_thousand_steps_write_a_thousand_lines(rt: HostRuntime) {
 #[test]
 fn first_faults_are_told(rt: HostRuntime) {
     let rows: [(&[u8], &[u8], u64, WorkshopFault); 6] = [
-        (
-            b" SETLOC 4000\n CA NOSUCH\n",
-            b"",
-            1,
-            source_fault(2, 17),
-        ),
-        (
-            b" SETLOC 4000\n FROB 100\n",
-            b"",
-            1,
-            source_fault(2, 15),
-        ),
+        (b" SETLOC 4000\n CA NOSUCH\n", b"", 1, source_fault(2, 17)),
+        (b" SETLOC 4000\n FROB 100\n", b"", 1, source_fault(2, 15)),
         (
             b" SETLOC 4000\n FROB 100\n",
             b"0 RUPT 1\n",
@@ -226,21 +216,9 @@ fn faults_are_reported(rt: HostRuntime) {
         (WorkshopFault::NoMemory, b"agcws: E2\n", 3),
         (WorkshopFault::ReadFailed, b"agcws: E6\n", 3),
         (WorkshopFault::WriteFailed, b"agcws: E7\n", 3),
-        (
-            source_fault(1, 10),
-            b"agcws: E10 LINE 1\n",
-            1,
-        ),
-        (
-            source_fault(9, 14),
-            b"agcws: E14 LINE 9\n",
-            1,
-        ),
-        (
-            source_fault(65_536, 26),
-            b"agcws: E26 LINE 65536\n",
-            1,
-        ),
+        (source_fault(1, 10), b"agcws: E10 LINE 1\n", 1),
+        (source_fault(9, 14), b"agcws: E14 LINE 9\n", 1),
+        (source_fault(65_536, 26), b"agcws: E26 LINE 65536\n", 1),
         (
             feed_fault(4_294_967_295),
             b"agcws: E30 LINE 4294967295\n",

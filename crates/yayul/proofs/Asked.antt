@@ -9,7 +9,7 @@ use Rattle.std.specs.Option.{option_map_or}
 use Rattle.std.specs.Result.{result_unwrap_or}
 use Rattle.rope.specs.Places.{bank_words}
 use Rattle.yayul.specs.Forms.{statement_of}
-use Rattle.yayul.specs.Layout.{Request, and_then, value_here, early_value, defined, asked, placed_here, fault_if, standing, on_line, Layout, width, lacks_room, after_words, stands_at, is_taken, is_malformed, is_twice, is_erasable, word_place, gives, statement_effect, text_faults, or_else, line_effect, line_faults, layout_after, layout_faults}
+use Rattle.yayul.specs.Layout.{Request, and_then, value_here, early_value, defined, asked, placed_here, fault_if, standing, on_line, Layout, width, lacks_room, after_words, stands_at, is_taken, is_malformed, is_twice, is_erasable, word_place, gives, statement_effect, text_faults, line_effect, line_faults, layout_after, layout_faults}
 use Rattle.yayul.specs.Inside.Answers.{least_kind, LeadsTo}
 use Rattle.yayul.specs.Inside.Sound.{AreFrom, AreRising, AreApart, meets}
 use Rattle.yayul.specs.declared.faults.Fault.{Fault}
@@ -146,7 +146,7 @@ statement_next line s label (Ebank operand) e = inl refl
 statement_next line s label (Gives None) e = inl refl
 statement_next line s label (Gives (Some content)) e = gives_next line s label content e
 
-no_others : (kinds others : List FaultKind) → or_else kinds others ≡ [] → others ≡ []
+no_others : (kinds others : List FaultKind) → kinds ++ others ≡ [] → others ≡ []
 no_others [] others e = e
 no_others (k ∷ kinds) others e = absurd (cc)
 

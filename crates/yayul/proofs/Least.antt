@@ -3,7 +3,7 @@ use Rattle.std.proofs.Common.{◌≡◌, ℕ, ◌+◌, ◌<◌, ◌≤◌, List,
 use Rattle.std.specs.Prelude.{if◌then◌else◌}
 use Rattle.std.proofs.lemmas.Bool.Decides.{nat_tests}
 use Rattle.std.proofs.lemmas.List.{take_more}
-use Rattle.yayul.specs.Layout.{fault_number, or_else, standing, on_line}
+use Rattle.yayul.specs.Layout.{fault_number, standing, on_line}
 use Rattle.yayul.specs.Program.{least, is_before}
 use Rattle.yayul.specs.Inside.Answers.{lesser_kind, least_kind, lesser_if}
 use Rattle.yayul.specs.declared.faults.FaultKind.{FaultKind}
@@ -97,12 +97,3 @@ none_least (k ∷ ks) e = absurd (cc)
 -- no fault stands, where none is the least
 pub no_fault : (cs : List (Option FaultKind)) → least_kind (standing cs) ≡ None → standing cs ≡ []
 no_fault cs e = none_least (standing cs) e
-
--- the least of some faults, which stand before others
-pub least-or_else : (kinds others : List FaultKind) (k : FaultKind) → least_kind kinds ≡ Some k → least_kind (or_else kinds others) ≡ Some k
-least-or_else [] others k e = absurd (let bad : None ≡ Some k = e in cc)
-least-or_else (j ∷ kinds) others k e = e
-
-pub or_else-none : (kinds others : List FaultKind) → least_kind kinds ≡ None → or_else kinds others ≡ others
-or_else-none [] others e = refl
-or_else-none (j ∷ kinds) others e = absurd (cc)

@@ -4,7 +4,7 @@ use Rattle.std.proofs.lemmas.List.{map-append}
 use Rattle.std.specs.List.{list_all}
 use Rattle.std.proofs.lemmas.Bool.{eq-eqb}
 use Rattle.yayul.specs.Forms.{statement_of}
-use Rattle.yayul.specs.Layout.{on_line, standing, fault_if, Layout, or_else, text_faults, statement_effect, line_faults, line_effect, layout_after, layout_faults}
+use Rattle.yayul.specs.Layout.{on_line, standing, fault_if, Layout, text_faults, statement_effect, line_faults, line_effect, layout_after, layout_faults}
 use Rattle.yayul.specs.Program.{least}
 use Rattle.yayul.specs.Listing.{Shown, shown}
 use Rattle.yayul.specs.Inside.Representation.{shown_by_mark, lines_show}
@@ -15,7 +15,8 @@ use Rattle.yayul.specs.declared.language.Statement.{Statement}
 use Rattle.agc_text.specs.Bytes.{line_length, is_text_byte}
 use Rattle.yayul.specs.declared.faults.FaultKind.{FaultKind}
 use Rattle.yayul.specs.declared.mark.Mark.{Mark}
-use Rattle.yayul.proofs.Least.{told, StandFrom, StandFrom-append, StandFrom-later, StandFrom-on_line, least_here, least-or_else, or_else-none}
+use Rattle.yayul.proofs.Least.{told, StandFrom, StandFrom-append, StandFrom-later, StandFrom-on_line, least_here, none_least}
+use Rattle.yayul.proofs.Late.{least-before_late, statement_late, text_early}
 
 pub layout_faults-from : (line : ℕ) (s : Layout) (texts : List (List ℕ)) → StandFrom line (layout_faults line s texts)
 layout_faults-from line s [] = tt
@@ -40,7 +41,11 @@ faulty_line line s text texts k e =
 
 -- a fault of a line's bytes, length or number is told
 pub line_told : (line : ℕ) (s : Layout) (text : List ℕ) (k : FaultKind) → least_kind (text_faults line text) ≡ Some k → least_kind (line_faults line s text) ≡ Some k
-line_told line s text k e = least-or_else (text_faults line text) (line_effect line s text).faults k e
+unfolding line_effect
+line_told line s text k e =
+    least-before_late (text_faults line text) (line_effect line s text).faults k e
+    (text_early (not (list_all is_text_byte text)) (nat_lt line_length (length text)) (line == 65537) k e)
+    (statement_late line s (statement_of text).label (statement_of text).operation)
 
 -- a line without such a fault does what it says, and shows it
 pub line_taken : (line : ℕ) (s : Layout) (text : List ℕ) (said : Statement) (t : Layout) (mark : Mark) → least_kind (text_faults line text) ≡ None → said ≡ statement_of text
@@ -48,7 +53,7 @@ pub line_taken : (line : ℕ) (s : Layout) (text : List ℕ) (said : Statement) 
 unfolding line_effect
 line_taken line s text said t mark none e m p =
     let q : LeadsTo (line_effect line s text) t (Ok tt) = rw e at p in
-    (or_else-none (text_faults line text) (line_effect line s text).faults none ∙ q.0, (q.1, m ∙ ap (shown s.location) e))
+    (ap (λ ks. ks ++ (line_effect line s text).faults) (none_least (text_faults line text) none) ∙ q.0, (q.1, m ∙ ap (shown s.location) e))
 
 -- what such a line says is told, where it has a fault
 pub line_refused : (line : ℕ) (s : Layout) (text : List ℕ) (said : Statement) (t : Layout) (kind : FaultKind) → least_kind (text_faults line text) ≡ None → said ≡ statement_of text
@@ -56,10 +61,10 @@ pub line_refused : (line : ℕ) (s : Layout) (text : List ℕ) (said : Statement
 unfolding line_effect
 line_refused line s text said t kind none e p =
     let q : LeadsTo (line_effect line s text) t (Err kind) = rw e at p in
-    λ known. ap least_kind (or_else-none (text_faults line text) (line_effect line s text).faults none) ∙ q known
+    λ known. ap (λ ks. least_kind (ks ++ (line_effect line s text).faults)) (none_least (text_faults line text) none) ∙ q known
 
 -- where the third of three faults stands, there are some
-third : (a b c : Bool) (others : List FaultKind) → c ≡ true → or_else (standing (fault_if a NotAscii ∷ fault_if b LongLine ∷ fault_if c TooManyLines ∷ [])) others ≡ [] → ⊥
+third : (a b c : Bool) (others : List FaultKind) → c ≡ true → standing (fault_if a NotAscii ∷ fault_if b LongLine ∷ fault_if c TooManyLines ∷ []) ++ others ≡ [] → ⊥
 third true b c others e h = cc
 third false true c others e h = cc
 third false false true others e h = cc

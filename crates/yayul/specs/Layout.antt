@@ -309,14 +309,9 @@ text_faults line text =
     standing (fault_if (not (list_all is_text_byte text)) NotAscii ∷ fault_if (nat_lt line_length (length text)) LongLine
     ∷ fault_if (line == 65537) TooManyLines ∷ [])
 
--- some faults, or others where there are none
-abbrev pub or_else : List FaultKind → List FaultKind → List FaultKind
-or_else [] others = others
-or_else (kind ∷ kinds) others = kind ∷ kinds
-
--- the layout faults of a line; one of a wrong byte, length or number is not read further, for what it says has greater numbers alone
+-- the layout faults of a line
 abbrev pub line_faults : ℕ → Layout → List ℕ → List FaultKind
-line_faults line s text = or_else (text_faults line text) (line_effect line s text).faults
+line_faults line s text = text_faults line text ++ (line_effect line s text).faults
 
 -- what stands after some lines, the first of them with a number
 abbrev pub layout_after : ℕ → Layout → List (List ℕ) → Layout
