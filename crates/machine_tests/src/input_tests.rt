@@ -245,6 +245,18 @@ fn series_and_channel(rt: HostRuntime) {
     }
 }
 
+/// Makes some steps.
+fn make_steps(processor: &mut Processor, machine: &mut Machine, steps: u8) {
+    for _ in 0..steps {
+        processor.step(machine);
+    }
+}
+
+/// TIME1, TIME3 and the cycles of a machine.
+fn clocks(machine: &Machine) -> (u16, u16, u64) {
+    (at(machine, 0o25), at(machine, 0o26), machine.cycles())
+}
+
 /// A machine that was put back goes on with its own inputs, whatever another has taken since.
 #[test]
 fn series_after_going_back(rt: HostRuntime) {
@@ -252,47 +264,37 @@ fn series_after_going_back(rt: HostRuntime) {
     let mut processor = processor_of(rt.alloc(), &[0o14000], text).expect(&rt, "memory");
     let mut machine = Machine::start();
     let mut image = Machine::start();
-    for step in 0..14u8 {
-        if step == 6 {
-            machine.copy_to(&mut image);
-        }
-        processor.step(&mut machine);
-    }
-    assert_eq!(rt;
-        (at(&image, 0o25), at(&image, 0o26), image.cycles()),
-        (2, 1, 6)
-    );
-    for _ in 6..14u8 {
-        processor.step(&mut image);
-    }
-    for stepped in [&machine, &image] {
-        assert_eq!(rt;
-            (at(stepped, 0o25), at(stepped, 0o26), stepped.cycles()),
-            (4, 4, 14)
-        );
-    }
+    make_steps(&mut processor, &mut machine, 6);
+    machine.copy_to(&mut image);
+    make_steps(&mut processor, &mut machine, 8);
+    assert_eq!(rt; clocks(&image), (2, 1, 6));
+    make_steps(&mut processor, &mut image, 8);
+    assert_eq!(rt; clocks(&machine), (4, 4, 14));
+    assert_eq!(rt; clocks(&image), (4, 4, 14));
+}
+
+/// TIME1, channel 015 and the cycles of a machine.
+fn clock_and_key(machine: &Machine) -> (u16, u16, u64) {
+    let key = machine.channel(Chan::of_low_bits(0o15)).to_u16();
+    (at(machine, 0o25), key, machine.cycles())
 }
 
 /// An input that is added is the last of its cycle, and changes nothing before; a copy of an earlier machine takes it too.
 #[test]
 fn added_input(rt: HostRuntime) {
-    let mut processor = processor_of(rt.alloc(), &[0o14000], b"3 TIME1 PINC\n").expect(
-        &rt, "memory",
-    );
+    let text = b"3 TIME1 PINC\n";
+    let mut processor = processor_of(rt.alloc(), &[0o14000], text).expect(&rt, "memory");
     let mut machine = Machine::start();
     let mut image = Machine::start();
-    processor.step(&mut machine);
+    make_steps(&mut processor, &mut machine, 1);
     machine.copy_to(&mut image);
-    processor.step(&mut machine);
+    make_steps(&mut processor, &mut machine, 1);
     let key = Input::Word(Chan::of_low_bits(0o15), Word::of_low_bits(0o21));
     assert_eq!(rt; processor.add(3, key), Ok(()));
-    for stepped in [&mut machine, &mut image] {
-        for _ in 0..4 {
-            processor.step(stepped);
-        }
-        assert_eq!(rt; at(stepped, 0o25), 1);
-    }
-    assert_eq!(rt; (machine.cycles(), image.cycles()), (5, 4));
-    assert_eq!(rt; machine.channel(Chan::of_low_bits(0o15)).to_u16(), 0o21);
-    assert_eq!(rt; image.channel(Chan::of_low_bits(0o15)).to_u16(), 0o21);
+    make_steps(&mut processor, &mut machine, 2);
+    assert_eq!(rt; clock_and_key(&machine), (1, 0, 4));
+    make_steps(&mut processor, &mut machine, 1);
+    assert_eq!(rt; clock_and_key(&machine), (1, 0o21, 4));
+    make_steps(&mut processor, &mut image, 4);
+    assert_eq!(rt; clock_and_key(&image), (1, 0o21, 4));
 }
