@@ -102,7 +102,9 @@ impl Processor {
         ensures known { FitsRun self.old.scenario machine.old → result ≡ false → due self.old.scenario.inputs machine.old.taken machine.old.cycles ≡ None }
         ensures next { FitsRun self.old.scenario machine.old → result ≡ true → (machine.new, None) ≡ next self.old.scenario machine.old }
     {
-        let due = self.feed.due(machine.taken(), machine.counts(), machine.cycles());
+        let due = self
+            .feed
+            .due(machine.taken(), machine.counts(), machine.cycles());
         if let Some((input, series)) = due {
             machine.take(input, series);
             return true;

@@ -12,9 +12,7 @@ use crate::fault::WorkshopFault;
 use feed::{Feed, FeedFault, MOST_BYTES};
 use std::alloc::Global;
 use words::{Read, ReadFault, read_text};
-use yayul::assemble;
-use yayul::FaultKind;
-use yayul::Program;
+use yayul::{FaultKind, Program, assemble};
 
 /// An assembled source and the inputs of a feed.
 #[derive(Drop)]
