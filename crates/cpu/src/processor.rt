@@ -1,6 +1,6 @@
 //! The processor: fixed memory, the inputs, and the count of steps.
 
-ghost use Rattle.std.specs.Prelude.{◌≡◌, true, false, ◌+◌, ◌-◌, ◌<◌, ◌≤◌, ◌^◌, min, ℕ, Some, None, Err, OnOk, OnErr};
+ghost use Rattle.std.specs.Prelude.{◌≡◌, ◌≢◌, true, false, ◌+◌, ◌-◌, ◌<◌, ◌≤◌, ◌^◌, min, ℕ, Some, None, Err, OnOk, OnErr};
 ghost use Rattle.feed.specs.Added.{TakenBelow};
 ghost use Rattle.feed.specs.Merged.{due};
 ghost use Rattle.cpu.specs.State.{State, FitsRun};
@@ -119,7 +119,7 @@ impl Processor {
         ensures later { OnOk result ((n : ℕ) → (run self.old.scenario n).cycles < cycle → AreAlikeUpTo self.old.scenario self.new.scenario n) }
         ensures fits { OnOk result ((s : State) → TakenBelow self.old.scenario.inputs s.taken cycle → FitsRun self.old.scenario s → FitsRun self.new.scenario s) }
         ensures unchanged { OnErr result (self.new ≡ self.old) }
-        ensures room { OnOk result (plain_inputs self.old.scenario < most_plain_inputs) }
+        ensures room { result ≢ Err AddFault.TooMany → plain_inputs self.old.scenario < most_plain_inputs }
         ensures full { result ≡ Err AddFault.TooMany → most_plain_inputs ≤ plain_inputs self.old.scenario }
     {
         self.feed.add(cycle, input)

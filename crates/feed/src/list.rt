@@ -1,6 +1,6 @@
 //! The inputs of a run.
 
-ghost use Rattle.std.specs.Prelude.{◌≡◌, ◌≤◌, ◌<◌, ◌+◌, ◌^◌, ℕ, List, [], true, Some, None, Err, OnOk, OnErr, IfSome, length, slice_get, slice_index};
+ghost use Rattle.std.specs.Prelude.{◌≡◌, ◌≢◌, ◌≤◌, ◌<◌, ◌+◌, ◌^◌, ℕ, List, [], true, Some, None, Err, OnOk, OnErr, IfSome, length, slice_get, slice_index};
 ghost use Rattle.feed.specs.Added.{AddsLast, TakenBelow};
 ghost use Rattle.feed.specs.Feed.{most_inputs};
 ghost use Rattle.feed.specs.Fits.{Fits, number_from, AreInputs};
@@ -107,7 +107,7 @@ impl Feed {
         ensures fits { OnOk result ((taken : ℕ) → (counts : List ℕ) → TakenBelow self.old taken cycle → Fits self.old taken counts → Fits self.new taken counts) }
         ensures later { OnOk result ((k : ℕ) → (cycles : ℕ) → cycles < cycle → due self.new k cycles ≡ due self.old k cycles) }
         ensures unchanged { OnErr result (self.new ≡ self.old) }
-        ensures room { OnOk result (number_from None self.old < most_inputs) }
+        ensures room { result ≢ Err AddFault.TooMany → number_from None self.old < most_inputs }
         ensures full { result ≡ Err AddFault.TooMany → most_inputs ≤ number_from None self.old }
         ensures inputs { OnOk result (AreInputs self.old) }
     {

@@ -59,7 +59,7 @@ MayRefuse may_refuse s (Show t) NotYet = s.n < t
 MayRefuse may_refuse s (WithPresent t) NotYet = s.n < t
 MayRefuse may_refuse s (Add cycle input) TooEarly = cycle ≤ s.present.cycles
 MayRefuse may_refuse s (Add cycle input) TooMany = (s.present.cycles < cycle) × (most_plain_inputs ≤ plain_inputs s.scenario)
-MayRefuse may_refuse s (Add cycle input) NoMemory = s.present.cycles < cycle
+MayRefuse may_refuse s (Add cycle input) NoMemory = (s.present.cycles < cycle) × (plain_inputs s.scenario < most_plain_inputs)
 MayRefuse may_refuse s call refusal = ⊥
 
 -- what a call answers, where the session was old, and what it leaves: a refused call leaves everything as it was

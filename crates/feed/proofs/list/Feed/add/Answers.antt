@@ -35,7 +35,14 @@ pub returns-in-Ok-clause-added : goal.returns-in-Ok-clause-added
 returns-in-Ok-clause-added c = adds-last c
 
 pub returns-in-Ok-clause-room : goal.returns-in-Ok-clause-room
-returns-in-Ok-clause-room c =
+returns-in-Ok-clause-room c = λ _.
+    let n = number-plain c.self.inside.plain.items c.self.inside.sources.items c.self.invariant.gathered.sources in
+    let same : number_from None (merged c.self.inside.plain.items c.self.inside.sources.items) ≡ number_from None c.args.self.now = ap (number_from None) c.self.view_is in
+    let long = ap length c.as_slice.ensures.value in
+    omega (arith, n, same, long)
+
+pub returns-in-Err-clause-room : goal.returns-in-Err-clause-room
+returns-in-Err-clause-room c = λ _.
     let n = number-plain c.self.inside.plain.items c.self.inside.sources.items c.self.invariant.gathered.sources in
     let same : number_from None (merged c.self.inside.plain.items c.self.inside.sources.items) ≡ number_from None c.args.self.now = ap (number_from None) c.self.view_is in
     let long = ap length c.as_slice.ensures.value in
