@@ -1,15 +1,15 @@
 -- Small feeds, read by the definitions alone.
-use Rattle.std.proofs.Common.{◌≡◌, ℕ, List, [], ◌∷◌, ◌++◌, Ok, Err, refl}
+use Rattle.std.proofs.Common.{◌≡◌, ℕ, zero, suc, List, [], ◌∷◌, ◌++◌, map, Some, Ok, Err, refl}
 use Rattle.std.specs.Prelude.{codes}
 use Rattle.agc_text.specs.Fields.{runs}
 use Rattle.agc_text.specs.Lines.{lines}
 use Rattle.feed.specs.Added.{plain_on}
 use Rattle.feed.specs.Feed.{inputs, first_fault, plain_from, series_from}
-use Rattle.feed.specs.Merged.{merged, in_order, inserted, is_before, entries_from}
+use Rattle.feed.specs.Merged.{merged, in_order, inserted, is_before, entries_from, entries_of}
 use Rattle.feed.specs.Names.{counters, sequences}
 use Rattle.feed.specs.Statements.{statement_of}
-use Rattle.feed.specs.declared.fault.FeedFault.TheVariants.{BadLine, OutOfOrder, WrongCounter}
-use Rattle.feed.specs.declared.input.Counter.TheVariants.{Time1, PipaX}
+use Rattle.feed.specs.declared.fault.FeedFault.TheVariants.{BadLine, OutOfOrder, WrongCounter, TooManySeries}
+use Rattle.feed.specs.declared.input.Counter.TheVariants.{Time1, Time3, PipaX}
 use Rattle.feed.specs.declared.input.Input.{Input}
 use Rattle.feed.specs.declared.input.Input.TheVariants.{Count, Word, Request}
 use Rattle.feed.specs.declared.input.Sequence.TheVariants.{Pinc, Minc}
@@ -64,3 +64,61 @@ bad_byte_in_comment = refl
 no_lines : inputs [] ≡ Ok []
 unfolding inputs first_fault plain_from series_from merged in_order inserted is_before entries_from statement_of runs lines counters sequences
 no_lines = refl
+
+-- entry `number` of the first series
+abbrev entry : ℕ → ℕ → ℕ → Input → Entry
+entry line number cycle input = record { cycle = cycle; line = line; number = number; input = input; series = Some 0 }
+
+-- a line, so many times
+abbrev times : ℕ → List ℕ → List (List ℕ)
+times zero line = []
+times (suc n) line = line ∷ times n line
+
+-- entries stand at whole cycles, without a drift
+thirds : inputs (feed (codes "EVERY 0 2560 3 4 TIME3 PINC" ∷ []))
+    ≡ Ok (entry 1 0 0 (Count Time3 Pinc) ∷ entry 1 1 853 (Count Time3 Pinc) ∷ entry 1 2 1706 (Count Time3 Pinc) ∷ entry 1 3 2560 (Count Time3 Pinc) ∷ [])
+unfolding inputs first_fault plain_from series_from merged in_order inserted is_before entries_from entries_of statement_of runs lines counters sequences
+thirds = refl
+
+-- on one cycle the input of the earlier line stands first
+between : inputs (feed (codes "EVERY 3 5 2 4 TIME1 PINC" ∷ codes "5 CHAN 015 00021" ∷ []))
+    ≡ Ok (entry 1 0 3 (Count Time1 Pinc) ∷ entry 1 1 5 (Count Time1 Pinc) ∷ at 2 5 (Word 0o15 0o21) ∷ entry 1 2 8 (Count Time1 Pinc) ∷ entry 1 3 10 (Count Time1 Pinc) ∷ [])
+unfolding inputs first_fault plain_from series_from merged in_order inserted is_before entries_from entries_of statement_of runs lines counters sequences
+between = refl
+
+-- a series stands on any line, whatever its cycles
+anywhere : inputs (feed (codes "5 RUPT 1" ∷ codes "EVERY 0 1 1 1 TIME3 PINC" ∷ codes "5 RUPT 2" ∷ []))
+    ≡ Ok (entry 2 0 0 (Count Time3 Pinc) ∷ at 1 5 (Request 1) ∷ at 3 5 (Request 2) ∷ [])
+unfolding inputs first_fault plain_from series_from merged in_order inserted is_before entries_from entries_of statement_of runs lines counters sequences
+anywhere = refl
+
+-- one series more than may stand
+seventeen : map (λ n. inputs (feed (times n (codes "EVERY 0 1 1 1 TIME3 PINC")))) (17 ∷ 18 ∷ []) ≡ Err (TooManySeries 17) ∷ Err (TooManySeries 17) ∷ []
+unfolding inputs first_fault plain_from series_from merged in_order inserted is_before entries_from entries_of statement_of runs lines counters sequences
+seventeen = refl
+
+-- what is wrong with a line by itself is told first
+seventeenth_bad : inputs (feed (times 16 (codes "EVERY 0 1 1 1 TIME3 PINC") ++ codes "EVERY 0 1 0 1 TIME3 PINC" ∷ [])) ≡ Err (BadLine 17)
+unfolding inputs first_fault plain_from series_from merged in_order inserted is_before entries_from entries_of statement_of runs lines counters sequences
+seventeenth_bad = refl
+
+seventeenth_counter : inputs (feed (times 16 (codes "EVERY 0 1 1 1 TIME3 PINC") ++ codes "EVERY 0 1 1 1 TIME3 MCDU" ∷ [])) ≡ Err (WrongCounter 17)
+unfolding inputs first_fault plain_from series_from merged in_order inserted is_before entries_from entries_of statement_of runs lines counters sequences
+seventeenth_counter = refl
+
+late_counter : inputs (feed (codes "5 TIME1 PINC" ∷ codes "4 TIME6 PINC" ∷ [])) ≡ Err (WrongCounter 2)
+unfolding inputs first_fault plain_from series_from merged in_order inserted is_before entries_from entries_of statement_of runs lines counters sequences
+late_counter = refl
+
+-- lines that tell no series
+abbrev no_rules : List (List ℕ)
+no_rules =
+    codes "EVERY" ∷ codes "EVERY 0 1 1 1" ∷ codes "EVERY 0 1 1 TIME3 PINC" ∷ codes "EVERY 0 1 1 1 0 TIME3 PINC"
+    ∷ codes "EVERY 0 0 1 1 TIME3 PINC" ∷ codes "EVERY 0 1 0 1 TIME3 PINC" ∷ codes "EVERY 0 1 1 0 TIME3 PINC"
+    ∷ codes "EVERY 1000000000000000 1 1 1 TIME3 PINC" ∷ codes "EVERY 0 1000000000 1 1 TIME3 PINC"
+    ∷ codes "EVERY 0 1 1000000000 1 TIME3 PINC" ∷ codes "EVERY 0 1 1 1000000000 TIME3 PINC"
+    ∷ codes "EVERY X 1 1 1 TIME3 PINC" ∷ codes "EVERY 0 1 1 1 TIME7 PINC" ∷ codes "every 0 1 1 1 TIME3 PINC" ∷ []
+
+no_rule : map inputs no_rules ≡ map (λ line. Err (BadLine 1)) no_rules
+unfolding inputs first_fault plain_from series_from merged in_order inserted is_before entries_from entries_of statement_of runs lines counters sequences
+no_rule = refl
