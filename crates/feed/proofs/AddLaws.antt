@@ -1,6 +1,7 @@
 -- One plain input more.
-use Rattle.std.proofs.Common.{ℕ, zero, suc, ◌+◌, ◌-◌, ◌<◌, ◌≤◌, ◌≡◌, Bool, true, false, List, [], ◌∷◌, ◌++◌, Option, Some, None, length, refl, ap, ◌∙◌, sym, arith, subst, map, filter, inl, inr, ◌⊎◌, ltb, eqb, ◌&&◌, ◌||◌}
+use Rattle.std.proofs.Common.{ℕ, zero, suc, ◌+◌, ◌-◌, ◌<◌, ◌≤◌, ◌≡◌, Bool, true, false, List, [], ◌∷◌, ◌++◌, Option, Some, None, length, refl, ap, ◌∙◌, sym, arith, subst, map, filter, get_or, leb, leb-true, leb-false, inl, inr, ◌⊎◌, ltb, eqb, ◌&&◌, ◌||◌}
 use Rattle.std.specs.Prelude.{slice_get, insert}
+use Rattle.std.proofs.lemmas.Bool.{cases_lt}
 use Rattle.std.proofs.lemmas.Bool.Decides.{nat_tests}
 use Rattle.feed.specs.declared.input.Input.{Input}
 use Rattle.feed.specs.declared.entry.Entry.{Entry}
@@ -9,14 +10,15 @@ use Rattle.feed.specs.declared.entry.Series.{Series}
 use Rattle.feed.specs.Merged.{is_before, inserted, in_order, merged, entries_from, plain_entry}
 use Rattle.feed.specs.Fits.{is_from, number_from}
 use Rattle.feed.specs.Heads.{AreSources}
-use Rattle.feed.specs.Order.{IsInOrder, IsAmong}
+use Rattle.feed.specs.Order.{IsInOrder, IsAmong, NoneBefore}
 use Rattle.feed.specs.Kept.{AreGathered, IsFeed, IsPlaceOf}
 use Rattle.feed.specs.Added.{LinesBelow, plain_on, AddsLast}
 use Rattle.feed.specs.Feed.{most_inputs}
 use Rattle.feed.proofs.Sorting.{either_way, in_order-more, in_order-inserted}
 use Rattle.feed.proofs.SourceLaws.{source-merged}
 use Rattle.feed.proofs.DueLaws.{none_due-zero, isnt_before_cycle}
-use Rattle.std.proofs.lemmas.Option.{slice_get_past}
+use Rattle.std.specs.List.Sorted.{IsNonDecreasingBy, IsPartitionPoint}
+use Rattle.std.proofs.lemmas.Option.{slice_get_past, get_or_from_slice_get}
 use Rattle.feed.proofs.FitLaws.{length-inserted}
 
 among-either : (x e y : Entry) (ys new : List Entry) → (IsAmong x new → (e ≡ x) ⊎ IsAmong x ys) → IsAmong x (y ∷ new) → (e ≡ x) ⊎ IsAmong x (y ∷ ys)
@@ -147,6 +149,37 @@ feed-added plain more series known at line cycle place input f is_at is few = re
 -- so many plain inputs stand
 pub number-plain : (plain : List Plain) (series : List Series) → AreSources plain series → number_from None (merged plain series) ≡ length plain
 number-plain plain series a = ap length (source-merged plain series None a) ∙ same-length plain
+
+-- the first of some plain inputs in order is due no later than another
+first-lowest : (p : Plain) (plain : List Plain) (j : ℕ) (d : Plain) → NoneBefore (plain_entry p) (map plain_entry plain) → j < length plain → p.cycle ≤ (get_or plain j d).cycle
+first-lowest p [] j d none lt = absurd (omega arith)
+first-lowest p (q ∷ plain) zero d none lt = isnt_before_cycle (plain_entry p) (plain_entry q) none.0
+first-lowest p (q ∷ plain) (suc j) d none lt = first-lowest p plain j d none.1 (omega arith)
+
+-- the cycles of plain inputs in order do not fall
+pub plain-rises : (plain : List Plain) → IsInOrder (map plain_entry plain) → IsNonDecreasingBy (λ (p : Plain). p.cycle) plain
+plain-rises [] order i j d le lt = absurd (omega arith)
+plain-rises (p ∷ plain) order zero zero d le lt = omega arith
+plain-rises (p ∷ plain) order zero (suc j) d le lt = first-lowest p plain j d order.0 (omega arith)
+plain-rises (p ∷ plain) order (suc i) zero d le lt = absurd (omega arith)
+plain-rises (p ∷ plain) order (suc i) (suc j) d le lt = plain-rises plain order.1 i j d (omega arith) (omega arith)
+
+-- the point that parts the plain inputs that are due by a cycle from the others is the place of one of that cycle
+pub place-point : (plain : List Plain) (cycle place : ℕ) → place ≤ length plain → IsPartitionPoint (λ (p : Plain). leb p.cycle cycle ≡ true) (λ (p : Plain). leb p.cycle cycle ≡ false) plain place
+    → IsPlaceOf plain cycle place
+place-point plain cycle place within point = record {
+  within = within;
+  before = λ k q below at.
+      let is = get_or_from_slice_get plain k q q at in
+      leb-true q.cycle cycle (subst (λ (p : Plain). leb p.cycle cycle ≡ true) is (point.0 k q (omega arith) below));
+  after = λ q at. elim (cases_lt place (length plain)) [
+    | inl inside ↦
+        let is = get_or_from_slice_get plain place q q at in
+        let past = leb-false q.cycle cycle (subst (λ (p : Plain). leb p.cycle cycle ≡ false) is (point.1 place q (omega arith) inside)) in
+        omega (arith, past)
+    | inr outside ↦ absurd (let past = slice_get_past plain place (omega (arith, outside)) in cc)
+  ];
+}
 
 -- the last of some is the last of one more before them
 last-later : (p r : Plain) (plain : List Plain) (o : Option Plain) → slice_get (r ∷ plain) (length (r ∷ plain) - 1) ≡ o → slice_get (p ∷ r ∷ plain) (length (p ∷ r ∷ plain) - 1) ≡ o

@@ -1,6 +1,6 @@
 -- A test by which counts are known to fit.
 use Rattle.std.proofs.Common.{ℕ, zero, suc, ◌+◌, ◌-◌, ◌<◌, ◌≤◌, ◌≡◌, ◌≢◌, Bool, true, false, List, [], ◌∷◌, Option, Some, None, length, refl, ap, ◌∙◌, sym, arith, inl, inr, subst, filter, take, get_or, eqb, map, ◌&&◌, ◌||◌}
-use Rattle.std.specs.Prelude.{◌==◌, if◌then◌else◌, is_some, slice_get, slice_index, sum, not, set}
+use Rattle.std.specs.Prelude.{◌==◌, slice_get, slice_index, sum, not, set}
 use Rattle.std.proofs.Math.Seq.{take-length}
 use Rattle.feed.specs.declared.entry.Entry.{Entry}
 use Rattle.feed.specs.declared.entry.Plain.{Plain}
@@ -15,7 +15,7 @@ use Rattle.feed.proofs.HeadLaws.{below-more, cases_below, isnt_itself}
 use Rattle.std.proofs.lemmas.Bool.Decides.{nat_tests}
 use Rattle.std.proofs.lemmas.List.{set-get_or}
 use Rattle.std.proofs.lemmas.Option.{slice_get_past, slice_get_within, slice_get-get_or}
-use Rattle.feed.proofs.Merging.{total-counts, past-counts}
+use Rattle.feed.proofs.Merging.{total-counts}
 
 none-pass : (x y : Entry) (ys : List Entry) → is_before y x ≡ false → NoneBefore y ys → filter (λ e. is_before e x) ys ≡ []
 none-pass x y [] h n = refl

@@ -1,5 +1,5 @@
 -- The sources of a feed's inputs, and the first entry of each that was not taken.
-use Rattle.std.specs.Prelude.{ℕ, zero, suc, true, not, ◌==◌, ◌&&◌, ◌||◌, ◌-◌, ◌<◌, ◌^◌, if◌then◌else◌, ◌≡◌, Bool, false, List, [], map, Option, Some, None, IfSome, is_some, ◌≤◌, slice_get, slice_index, sum, length, filter}
+use Rattle.std.specs.Prelude.{ℕ, zero, suc, true, ◌==◌, ◌||◌, ◌-◌, ◌<◌, ◌^◌, if◌then◌else◌, ◌≡◌, Bool, false, List, [], map, Option, Some, None, IfSome, is_some, ◌≤◌, slice_get, slice_index, sum, length, filter}
 use Rattle.feed.specs.declared.entry.Entry.{Entry}
 use Rattle.feed.specs.declared.entry.Plain.{Plain}
 use Rattle.feed.specs.declared.entry.Series.{Series}

@@ -1,11 +1,11 @@
 //! The inputs of a run.
 
-ghost use Rattle.std.specs.Prelude.{◌≡◌, ◌≢◌, ◌≤◌, ◌<◌, ◌+◌, ◌^◌, ℕ, List, [], true, Some, None, Err, OnOk, OnErr, IfSome, length, slice_get, slice_index};
+ghost use Rattle.std.specs.Prelude.{◌≡◌, ◌≢◌, ◌≤◌, ◌<◌, ◌+◌, ◌^◌, ℕ, List, [], true, Some, None, Err, OnOk, OnErr, IfSome, length, map, slice_get, slice_index};
 ghost use Rattle.feed.specs.Added.{AddsLast, TakenBelow};
 ghost use Rattle.feed.specs.Feed.{most_inputs};
 ghost use Rattle.feed.specs.Fits.{Fits, number_from, AreInputs};
 ghost use Rattle.feed.specs.Kept.{AreGathered, IsPlaceOf, due_from};
-ghost use Rattle.feed.specs.Merged.{merged, due, when_come};
+ghost use Rattle.feed.specs.Merged.{merged, plain_entry, due, when_come};
 ghost use Rattle.feed.specs.Order.{IsInOrder};
 
 use crate::entry::{Entry, Plain};
@@ -165,12 +165,8 @@ fn due_from(entry: &Option<Entry>) -> u64
 
 // The place after all plain inputs that are due no later than a cycle.
 fn place_of(plain: &[Plain], cycle: u64) -> usize
+    requires { IsInOrder (map plain_entry plain.now) }
     ensures { IsPlaceOf plain.now cycle result }
 {
-    for (place, other) in plain.iter().enumerate() {
-        if other.cycle > cycle {
-            return place;
-        }
-    }
-    plain.len()
+    plain.partition_point(|other| other.cycle <= cycle)
 }

@@ -1,8 +1,9 @@
-use Rattle.std.proofs.Common.{◌≡◌, None, length, ap, subst, arith, List}
+use Rattle.std.proofs.Common.{◌≡◌, None, length, map, ap, subst, sym, arith, List}
 use Rattle.feed.specs.Added.{AddsLast}
 use Rattle.feed.specs.Fits.{number_from}
 use Rattle.feed.specs.Kept.{IsPlaceOf}
-use Rattle.feed.specs.Merged.{merged}
+use Rattle.feed.specs.Order.{IsInOrder}
+use Rattle.feed.specs.Merged.{merged, plain_entry}
 use Rattle.feed.specs.declared.entry.Entry.{Entry}
 use Rattle.feed.specs.declared.entry.Plain.{Plain}
 use Rattle.feed.proofs.FitLaws.{fits-adds}
@@ -17,6 +18,9 @@ returns-then-as_slice-ge-MOST_INPUTS-clause-full c = λ _.
     let same : number_from None (merged c.self.inside.plain.items c.self.inside.sources.items) ≡ number_from None c.args.self.now = ap (number_from None) c.self.view_is in
     let long = ap length c.as_slice.ensures.value in
     omega (arith, n, same, long)
+
+pub place_of-place-requires : goal.place_of-place-requires
+place_of-place-requires c = subst (λ (l : List Plain). IsInOrder (map plain_entry l)) (sym c.deref.ensures.value) c.self.invariant.gathered.sources.plain_in_order
 
 pub invariant_of-self : goal.invariant_of-self
 invariant_of-self c =

@@ -1,6 +1,5 @@
 use Rattle.std.proofs.Common.{◌≡◌, ◌-◌, ◌∙◌, ap}
 use Rattle.std.specs.Prelude.{slice_get}
-use Rattle.feed.specs.Heads.{entry_before}
 use Rattle.feed.specs.Merged.{entries_of}
 use Rattle.feed.specs.declared.entry.Series.{Series}
 use Rattle.feed.proofs.FitTests.{none-at_start, one-before}
