@@ -15,7 +15,7 @@ use std::alloc::AllocError;
 use std::io::BufWriter;
 use std::process::ExitCode;
 use std::{env, fs, io};
-use words::{Std, write_all};
+use words::{Std, Write, write_all};
 use workshop::{Version, WorkshopFault, asm_engine, may_run, report, run_engine, upgrade_engine};
 
 /// The exit status where all is done.

@@ -1,8 +1,10 @@
-//! Tests of `workshop`.
+//! Tests of `workshop` and of `commands`.
 #![tactic(auto)]
 
 #[cfg(test)]
 mod assembly_tests;
+#[cfg(test)]
+mod command_tests;
 #[cfg(test)]
 mod run_tests;
 #[cfg(test)]

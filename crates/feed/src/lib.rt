@@ -17,4 +17,4 @@ pub use fault::{FeedFault, LineFault};
 pub use list::{AddFault, Feed};
 pub use merge::MOST_SERIES;
 pub use reading::{MOST_BYTES, read};
-pub use statement::parse_line;
+pub use statement::{parse_line, word_in};

@@ -260,8 +260,8 @@ fn is_input_channel(number: u64) -> bool
     number == 0 || (3..0o1000).contains(&number)
 }
 
-// The word of some octal digits.
-fn word_in(field: &[u8]) -> Option<Word>
+/// The word of 1 to 5 octal digits, where the field is that.
+pub fn word_in(field: &[u8]) -> Option<Word>
     ensures { result ≡ word_in field.now }
 {
     match octal(field, OCTAL_DIGITS) {

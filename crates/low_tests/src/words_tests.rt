@@ -175,7 +175,7 @@ fn standard_devices(rt: HostRuntime) -> Result<(), ReadFault> {
     );
     let mut out = Std::new(Vec::<u8>::new(rt.alloc()));
     assert_eq!(rt; write_all(&mut out, b"hello"), Ok(()));
-    assert_eq!(rt; out.flush(), Ok(()));
+    assert!(rt; out.flush().is_ok());
     Ok(())
 }
 
@@ -197,7 +197,7 @@ impl io::Write for HoldsBack {
 fn flush_that_fails(rt: HostRuntime) {
     let mut out = Std::new(HoldsBack);
     assert_eq!(rt; write_all(&mut out, b"hello"), Ok(()));
-    assert_eq!(rt; out.flush(), Err(WriteFailed));
+    assert!(rt; out.flush().is_err());
 }
 
 #[test]

@@ -45,6 +45,15 @@ pub trait Write {
         ensures bytes { told ≡ true → IfOk result (λ n. written self.new ≡ written self.old ++ take n buf.now) }
         ensures err { told ≡ true → OnErr result (written self.new ≡ written self.old) }
         ensures failures { failures self.new ≡ failures_after_write (failures self.old) result buf.now };
+
+    /// Hands on what the writer still holds back of the bytes that were written. A writer that holds none back keeps this
+    /// body.
+    fn flush(&mut self) -> io::Result<()>
+        ensures written { told ≡ true → written self.new ≡ written self.old }
+        ensures failures { failures self.new ≡ failures_after (failures self.old) result }
+    {
+        Ok(())
+    }
 }
 
 /// A writer failed, or took none of some bytes.

@@ -1,9 +1,8 @@
 //! The readers and writers of the standard library.
 
 ghost use Rattle.std.specs.Prelude.{◌≡◌};
-ghost use Rattle.words.specs.Devices.{failures_after};
 
-use super::device::{Read, Write, WriteFailed};
+use super::device::{Read, Write};
 use std::io;
 use std::marker::Model;
 
@@ -30,21 +29,6 @@ impl<T> Std<T> {
         Std {
             device,
             failures: 0,
-        }
-    }
-}
-
-impl<T: io::Write> Std<T> {
-    /// Hands on what the writer still holds back, or answers `WriteFailed`. A flush that fails counts as a failure.
-    pub fn flush(&mut self) -> Result<(), WriteFailed>
-        ensures { self.new ≡ failures_after self.old result }
-    {
-        match self.device.flush() {
-            Ok(()) => Ok(()),
-            Err(_) => {
-                self.failures = self.failures.saturating_add(1);
-                Err(WriteFailed)
-            }
         }
     }
 }
@@ -86,5 +70,15 @@ impl<T: io::Write> Write for Std<T> {
             self.failures = self.failures.saturating_add(1);
         }
         answer
+    }
+
+    fn flush(&mut self) -> io::Result<()> {
+        match self.device.flush() {
+            Ok(()) => Ok(()),
+            Err(failed) => {
+                self.failures = self.failures.saturating_add(1);
+                Err(failed)
+            }
+        }
     }
 }

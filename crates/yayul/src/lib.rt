@@ -29,5 +29,6 @@ pub use assembled::Program;
 pub use assembly::assemble;
 pub use bank::FixedBank;
 pub use faults::{Fault, FaultKind};
+pub use listing::value_text;
 pub use symbol_table::Symbols;
 pub use values::Value;

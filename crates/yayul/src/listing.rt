@@ -280,7 +280,7 @@ fn symbol_row(name: &[u8], value: Value) -> ArrayVec<u8, SYMBOL_ROW>
 }
 
 /// The value of a symbol as text, such as `NUM 00020`, `ERASABLE 0100` or `FIXED 02,0005`.
-pub(crate) fn value_text(value: Value) -> ArrayVec<u8, VALUE_LENGTH>
+pub fn value_text(value: Value) -> ArrayVec<u8, VALUE_LENGTH>
     ensures { result.items ≡ value_text value }
 {
     let mut text = ArrayVec::new();

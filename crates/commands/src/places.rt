@@ -1,0 +1,129 @@
+//! The places of commands.
+
+ghost use Rattle.std.specs.Prelude.{◌≡◌, ◌==◌, option_and_then};
+ghost use Rattle.std.specs.List.{position_or_len};
+ghost use Rattle.std.specs.Option.{option_map};
+ghost use Rattle.space.specs.declared.place.Linear.TheVariants as Place;
+ghost use Rattle.commands.specs.Commands.{place_of_value, numbered_place, symbol_place, fixed_place_in, place_in, erasable_number, erasable_in, bank_in, offset_in, comma};
+
+use crate::fields::{OCTAL_DIGITS, bank_in, offset_in};
+use agc_text::octal;
+use space::numbers::{Bank, Eras, Offset};
+use space::place::Linear;
+use words::Word;
+use yayul::{Symbols, Value};
+
+// The place of a value, where it has one.
+fn place_of_value(value: Value) -> Option<Linear>
+    ensures { result ≡ place_of_value value }
+{
+    match value {
+        Value::Num(number) => match number.to_u16() {
+            n @ 0..0o4000 => Some(Linear::Erasable(Eras::try_new(n)?)),
+            n @ 0o4000..0o6000 => Some(Linear::Fixed(
+                Bank::try_new(2)?,
+                Offset::try_new(n - 0o4000)?,
+            )),
+            n @ 0o6000..0o10000 => Some(Linear::Fixed(
+                Bank::try_new(3)?,
+                Offset::try_new(n - 0o6000)?,
+            )),
+            _ => None,
+        },
+        Value::Erasable(place) => Some(Linear::Erasable(place)),
+        Value::Fixed(bank, offset) => Some(Linear::Fixed(bank.bank(), offset)),
+    }
+}
+
+// The place of a number.
+fn numbered_place(field: &[u8]) -> Option<Linear>
+    ensures { result ≡ numbered_place field.now }
+{
+    match octal(field, OCTAL_DIGITS) {
+        Some(number) if number <= 0o77777 => place_of_value(Value::Num(Word::of_low_bits(
+            number as u16,
+        ))),
+        Some(_) => None,
+        None => None,
+    }
+}
+
+// The place of a symbol.
+fn symbol_place(symbols: &Symbols, field: &[u8]) -> Option<Linear>
+    ensures { result ≡ symbol_place symbols.now field.now }
+{
+    match symbols.symbol(field) {
+        Some(value) => place_of_value(value),
+        None => None,
+    }
+}
+
+// How many bytes stand before the first comma.
+fn comma_place(field: &[u8]) -> usize
+    ensures { result ≡ position_or_len (λ byte. byte == comma) field.now }
+{
+    for (i, byte) in field.iter().enumerate() {
+        if *byte == b',' {
+            return i;
+        }
+    }
+    field.len()
+}
+
+// A place.
+pub(crate) fn place_in(symbols: &Symbols, field: &[u8]) -> Option<Linear>
+    ensures { result ≡ place_in symbols.now field.now }
+{
+    match numbered_place(field) {
+        Some(place) => return Some(place),
+        None => {}
+    }
+    match symbol_place(symbols, field) {
+        Some(place) => Some(place),
+        None => fixed_place_in(field),
+    }
+}
+
+// A bank, a comma and an offset.
+fn fixed_place_in(field: &[u8]) -> Option<Linear>
+    ensures { result ≡ fixed_place_in field.now }
+{
+    let length = comma_place(field);
+    if length < field.len() {
+        fixed_place_of(&field[..length], &field[length + 1..])
+    } else {
+        None
+    }
+}
+
+// A bank and an offset.
+fn fixed_place_of(bank: &[u8], offset: &[u8]) -> Option<Linear>
+    ensures { result ≡ option_and_then (λ b. option_map (λ o. Place.Fixed b o) (offset_in offset.now)) (bank_in bank.now) }
+{
+    match bank_in(bank) {
+        Some(number) => match offset_in(offset) {
+            Some(place) => Some(Linear::Fixed(number, place)),
+            None => None,
+        },
+        None => None,
+    }
+}
+
+fn erasable_number(place: Linear) -> Option<Eras>
+    ensures { result ≡ erasable_number place }
+{
+    match place {
+        Linear::Erasable(number) => Some(number),
+        Linear::Fixed(..) => None,
+    }
+}
+
+// An erasable place.
+pub(crate) fn erasable_in(symbols: &Symbols, field: &[u8]) -> Option<Eras>
+    ensures { result ≡ erasable_in symbols.now field.now }
+{
+    match place_in(symbols, field) {
+        Some(place) => erasable_number(place),
+        None => None,
+    }
+}
