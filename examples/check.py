@@ -1,11 +1,12 @@
 #!/usr/bin/env python3
-"""Runs the built program on the examples and on what docs/MANUAL.md shows, and compares what it writes, byte for byte.
+"""Runs the built program on the examples and on what README.md and docs/MANUAL.md show, and compares what it writes, byte for byte.
 
-In the manual a fenced block says by its first word what it is:
+In these a fenced block says by its first word what it is:
   agc      a source
   feed     the feed of the next run, else the feed is empty
   listing  what `agcws asm` writes for the last source
   run N    what `agcws run` writes for the last source in N steps
+  debug SRC FEED   a session of `agcws debug`: commands, each after '> ', and the replies to each. A block `debug` goes on with it
   image V  the bytes with which the image of version V of the last source begins, in hexadecimal
 and a row of a table of refusals, as `| E14 | cause | `source;lines` | 2 |`, a source (or, from E30 on, a feed) that is refused so.
 
@@ -13,6 +14,7 @@ The last line is 'N passed, M failed'."""
 
 import os
 import re
+import select
 import subprocess
 import sys
 import tempfile
@@ -21,6 +23,8 @@ EXAMPLES = os.path.dirname(os.path.abspath(__file__))
 ROOT = os.path.dirname(EXAMPLES)
 PROGRAM = f"{ROOT}/crates/agcws/out/agcws"
 IMAGE_BYTES = 73728
+# The most seconds that a reply is awaited.
+WAIT = 60
 
 passed, failed = 0, []
 
@@ -39,6 +43,45 @@ def agcws(*words):
     """Runs the program, and answers its status, its output and its error output."""
     ran = subprocess.run([PROGRAM, *words], stdin=subprocess.DEVNULL, capture_output=True, timeout=60)
     return ran.returncode, ran.stdout, ran.stderr
+
+
+class Session:
+    """A session of `agcws debug` through pipes: the replies to each command are awaited before the next one is sent."""
+
+    def __init__(self, source, feed):
+        self.ran = subprocess.Popen([PROGRAM, "debug", source, feed], stdin=subprocess.PIPE, stdout=subprocess.PIPE, stderr=subprocess.PIPE)
+
+    def ask(self, label, command, replies):
+        """Sends a command with its line feed, and compares as many bytes as the replies have."""
+        os.write(self.ran.stdin.fileno(), command)
+        got = b""
+        while len(got) < len(replies) and select.select([self.ran.stdout], [], [], WAIT)[0]:
+            part = os.read(self.ran.stdout.fileno(), len(replies) - len(got))
+            if not part:
+                break
+            got += part
+        told(f"{label}: {command!r}", got == replies, f"wanted {replies[:300]!r}, got {got[:300]!r}")
+
+    def writes(self):
+        """How many times the program has called the system to write."""
+        with open(f"/proc/{self.ran.pid}/io", encoding="ascii") as file:
+            return int(re.search(r"^syscw: (\d+)$", file.read(), re.M).group(1))
+
+    def end(self, label):
+        """Ends the input: nothing more is replied."""
+        try:
+            out, err = self.ran.communicate(timeout=WAIT)
+        except subprocess.TimeoutExpired:
+            self.ran.kill()
+            out, err = b"", b"no end"
+        compare(label, (self.ran.returncode, out, err), 0, b"")
+
+
+def asked(text):
+    """The commands of a text, each with the replies that follow it."""
+    for part in re.split(r"^> ", text, flags=re.M)[1:]:
+        command, _, replies = part.partition("\n")
+        yield f"{command}\n".encode(), replies.encode()
 
 
 def compare(label, got, status, out, err=b""):
@@ -63,13 +106,15 @@ def blocks(text):
         yield found.group(1).split(), found.group(2).encode(), text.count("\n", 0, found.start()) + 1
 
 
-def check_manual(room):
-    with open(f"{ROOT}/docs/MANUAL.md", encoding="utf-8") as file:
+def check_document(room, name):
+    """Tries all that a document shows."""
+    with open(f"{ROOT}/{name}", encoding="utf-8") as file:
         text = file.read()
     source, feed, rope = f"{room}/manual.agc", f"{room}/manual.feed", f"{room}/manual.rope"
     write(feed, b"")
+    session = None
     for words, body, line in blocks(text):
-        label = f"docs/MANUAL.md:{line}"
+        label = f"{name}:{line}"
         if words[0] == "agc":
             write(source, body)
         elif words[0] == "feed":
@@ -82,8 +127,14 @@ def check_manual(room):
         elif words[0] == "run":
             compare(label, agcws("run", source, feed, words[1]), 0, body)
             write(feed, b"")
+        elif words[0] == "debug":
+            session = Session(f"{ROOT}/{words[1]}", f"{ROOT}/{words[2]}") if words[1:] else session
+            for command, replies in asked(body.decode()):
+                session.ask(label, command, replies)
         else:
             told(label, False, f"no such block: {words[0]}")
+    if session:
+        session.end(f"the last session of {name}")
     for number, shown, line in re.findall(r"^\| E(\d+) \|[^|]*\| `([^`]*)` \| (\d+) \|$", text, re.M):
         check_refusal(room, int(number), shown.replace(";", "\n").encode() + b"\n", line)
 
@@ -136,6 +187,100 @@ def check_devices(room):
     told("an image's size", status == 0 and os.path.getsize(f"{room}/image") == IMAGE_BYTES)
 
 
+# What a session over five plus five replies, line by line.
+FIVE_PLUS_FIVE = """> break at 4002
+BREAK 1
+> run 20
+HIT 1
+AT 2 4 4002
+> run 20
+7 CH 010 00012
+HIT 1
+AT 7 12 4002
+> seek
+HIT 1
+AT 2 4 4002
+> seek
+NONE
+> back 5
+AT 0 0 4000
+> tail
+7 CH 010 00012
+TAIL 1
+> run 1
+AT 8 13 4003
+> sym FIVE
+SYM FIXED 02,0005
+> mem FIVE
+MEM 00005
+> chan 10
+CHAN 00012
+> last 0
+LAST 7
+> goto 9
+E41 NOT YET
+> break word FIVE 5
+E50 COMMAND
+> # nothing is asked for
+> regs
+A 000012 L 00000 Q 000000 Z 4003 EB 0 FB 00 SUP 0 EXT 1 INH 1 INT 0
+NEXT 01010 WRITE 010
+> clear
+CLEAR
+"""
+
+
+def check_debugger(room):
+    """Sessions through pipes, a command at a time."""
+    source, empty = f"{EXAMPLES}/five_plus_five.agc", f"{EXAMPLES}/empty.feed"
+    session = Session(source, empty)
+    for command, replies in asked(FIVE_PLUS_FIVE):
+        session.ask("five plus five", command, replies)
+    for number in range(1, 17):
+        session.ask("sixteen breakpoints", b"break at 4002\n", b"BREAK %d\n" % number)
+    session.ask("sixteen breakpoints", b"break at 4002\n", b"E52 FULL\n")
+    session.ask("a long line", b"#" * 81 + b"\n", b"E51 LONG\n")
+    session.ask("a line of 80 bytes", b"step 0" + b" " * 74 + b"\n", b"AT 8 13 4003\n")
+    session.ask("two lines at once", b"clear\nback 9\n", b"CLEAR\nAT 0 0 4000\n")
+    session.end("the end of the input")
+    check_long_reply(source, empty)
+    ran = subprocess.run([PROGRAM, "debug", source, empty], input=b"step 1\nstep 1", capture_output=True, timeout=WAIT)
+    compare("a last line without a line feed", (ran.returncode, ran.stdout, ran.stderr), 0, b"AT 1 2 4001\nAT 2 4 4002\n")
+    ran = subprocess.run([PROGRAM, "debug", source, empty], input=b"step 1\nquit\nstep 1\n", capture_output=True, timeout=WAIT)
+    compare("quit", (ran.returncode, ran.stdout, ran.stderr), 0, b"AT 1 2 4001\n")
+    ran = subprocess.run([PROGRAM, "debug", source, empty], input=b"\n" * 16777211 + b"tail\ntail\n", capture_output=True, timeout=WAIT)
+    compare("the most bytes of commands", (ran.returncode, ran.stdout, ran.stderr), 0, b"TAIL 0\n")
+    with open("/dev/full", "wb") as full:
+        ran = subprocess.run([PROGRAM, "debug", source, empty], input=b"step 1\n", stdout=full, stderr=subprocess.PIPE, timeout=WAIT)
+    told("replies that cannot be written", (ran.returncode, ran.stderr) == (3, b"agcws: E7\n"))
+    folder = os.open(room, os.O_RDONLY)
+    ran = subprocess.run([PROGRAM, "debug", source, empty], stdin=folder, capture_output=True, timeout=WAIT)
+    os.close(folder)
+    compare("commands that cannot be read", (ran.returncode, ran.stdout, ran.stderr), 3, b"", b"agcws: E6\n")
+    compare("a session over no source", agcws("debug", f"{room}/none", empty), 3, b"", b"agcws: E6\n")
+    write(f"{room}/wrong.agc", b" FROB 1\n")
+    compare("a session over a refused source", agcws("debug", f"{room}/wrong.agc", empty), 1, b"", b"agcws: E15 LINE 1\n")
+    compare("a session without a command", agcws("debug", source, empty), 0, b"")
+
+
+def check_one_processor():
+    """A session steps no processor but its own: the debugger makes none, and no fixed memory or machine either."""
+    folder = f"{ROOT}/crates/debugger/src"
+    for name in sorted(os.listdir(folder)):
+        with open(f"{folder}/{name}", encoding="utf-8") as file:
+            made = re.findall(r"Processor::new|Rope::(?:empty|read)|Machine::start|Feed::|\bassemble\(", file.read())
+        told(f"crates/debugger/src/{name} makes no second processor", not made, " ".join(made))
+
+
+def check_long_reply(source, empty):
+    """A reply of 20,000 lines takes few calls of the system."""
+    session = Session(source, empty)
+    lines = b"".join(b"%d CH 010 00012\n" % (8 * round + 7) for round in range(20000))
+    session.ask("a long reply", b"run 100000\n", lines + b"AT 100000 160000 4000\n")
+    told("a long reply takes few writes", session.writes() < 1000, f"{session.writes()} writes")
+    session.end("the end of a long reply")
+
+
 def check_upgrade(room):
     """Images of both versions, and what an upgrade makes of good ones and of wrong ones."""
     source, one, two, new = f"{EXAMPLES}/five_plus_five.agc", f"{room}/one", f"{room}/two", f"{room}/new"
@@ -162,11 +307,11 @@ def check_upgrade(room):
 
 def check_command_line():
     """Help, and command lines that are wrong."""
-    for words in [["--help"], ["asm", "--help"], ["run", "--help"], ["upgrade", "--help"]]:
+    for words in [["--help"], ["asm", "--help"], ["run", "--help"], ["debug", "--help"], ["upgrade", "--help"]]:
         status, out, err = agcws(*words)
         told(f"agcws {' '.join(words)}", (status, err) == (0, b"") and all(len(it) <= 80 for it in out.decode().split("\n")))
     source, empty = f"{EXAMPLES}/five_plus_five.agc", f"{EXAMPLES}/empty.feed"
-    for words in [[], ["fly"], ["asm", source], ["run", source, empty], ["run", source, empty, "-1"], ["run", source, empty, "1099511627775"], ["asm", "--rope", "3", source, "x"], ["upgrade", source]]:
+    for words in [[], ["fly"], ["asm", source], ["run", source, empty], ["run", source, empty, "-1"], ["run", source, empty, "1099511627775"], ["asm", "--rope", "3", source, "x"], ["debug", source], ["upgrade", source]]:
         status, out, err = agcws(*words)
         told(f"agcws {' '.join(words[:1])} with {len(words)} words", (status, out) == (2, b"") and err)
     compare("+4 steps", agcws("run", source, empty, "+4"), 0, b"7 CH 010 00012\n")
@@ -189,9 +334,12 @@ def main():
         return 1
     with tempfile.TemporaryDirectory(prefix="agcws-") as room:
         check_examples()
-        check_manual(room)
+        check_document(room, "README.md")
+        check_document(room, "docs/MANUAL.md")
         check_long_texts(room)
         check_devices(room)
+        check_debugger(room)
+        check_one_processor()
         check_upgrade(room)
         check_command_line()
     print(f"{passed} passed, {len(failed)} failed")

@@ -10,6 +10,9 @@ pub const ASM: &str = "asm";
 /// The name of the subcommand that runs a program.
 pub const RUN: &str = "run";
 
+/// The name of the subcommand that debugs a program.
+pub const DEBUG: &str = "debug";
+
 /// The name of the subcommand that upgrades an image.
 pub const UPGRADE: &str = "upgrade";
 
@@ -105,17 +108,63 @@ Exit status:
   3  a file, a device or memory failed
 Status 1 and 3 print one line to standard error, as agcws: E14 LINE 9.";
 
+const DEBUG_HELP: &str = "Files:
+  SRC   a source, as agcws run takes it
+  FEED  the timed inputs, as agcws run takes them
+
+Input: commands, one a line of at most 80 bytes; # begins a comment. The run
+has N steps so far, and the position P is one of 0 to N: every step up to N can
+be shown again. K and T are decimal; words and channels are octal. A PLACE is
+an octal number, a symbol, or BANK,OFFSET in octal.
+
+Output: the replies to a line, before the next line is waited for.
+  step K               to P + K, new steps made where needed: the AT line
+  run K                from step N on, up to K new steps, until a breakpoint
+                       holds: HIT I then, and the AT line
+  back K               to P - K, or 0: the AT line
+  goto T               to step T: the AT line, or E41 NOT YET
+  seek                 back to the last step before P at which a breakpoint
+                       holds: HIT I and the AT line, or NONE
+  break at PLACE       one breakpoint more, at the next instruction's place:
+                       BREAK I, or E52 FULL from the 17th on
+  break word PLACE W   where an erasable word is W
+  break chan C W       where a channel is W
+  clear                no breakpoints: CLEAR
+  regs                 the registers and flags, and NEXT, the next instruction
+  mem PLACE            MEM and the word there
+  chan C               CHAN and the word there
+  last PLACE           LAST T, the last step up to P that changed the erasable
+                       word to what it is at P, or NONE
+  sym NAME             SYM and the symbol's value, or E17 UNDEFINED
+  changed T            the erasable places that differ after T and N steps, one
+                       a line, and COUNT; or E41 NOT YET
+  tail                 the last 32 channel lines of the N steps, and TAIL
+  add CYCLE ..         one input more, a line as in FEED: ADDED, or E33 COUNTER,
+                       E42 TOO EARLY, E32 TOO MANY, E2 MEMORY
+  quit                 the end, as is the end of the input (Ctrl-D)
+The AT line is AT, the position, the cycles and Z in octal. The channel lines of
+new steps come before it. Any other line is E50 COMMAND, or E51 LONG above 80
+bytes. E2 MEMORY and E40 LIMIT end a command at step N.
+
+Exit status:
+  0  done
+  1  the source or the feed is refused
+  2  the command line is wrong
+  3  a file, a device or memory failed
+Status 1 and 3 print one line to standard error, as agcws: E14 LINE 9.";
+
 /// The programs and their arguments.
 pub fn command<'a>(alloc: Global) -> Result<Command<'a>, AllocError> {
     Command::new(alloc, "agcws")
-        .about("Assembles and runs programs for the Apollo Guidance Computer")
+        .about("Assembles, runs and debugs programs for the Apollo Guidance Computer")
         .after_help(
-            "See agcws asm --help, agcws run --help and agcws upgrade --help for the files\nand the exit statuses.",
+            "See the --help of agcws asm, run, debug and upgrade for the files and the exit\nstatuses.",
         )
         .subcommand_required(true)
         .disable_help_subcommand(true)
         .subcommand(asm_command(alloc)?)?
         .subcommand(run_command(alloc)?)?
+        .subcommand(debug_command(alloc)?)?
         .subcommand(upgrade_command(alloc)?)
 }
 
@@ -180,5 +229,22 @@ fn run_command<'a>(alloc: Global) -> Result<Command<'a>, AllocError> {
                 .required(true)
                 .value_parser(value_parser!(u64).range(0..=MOST_STEPS as i64))
                 .help("How many steps, 0 to 1099511627774"),
+        )
+}
+
+/// `agcws debug SRC FEED`.
+fn debug_command<'a>(alloc: Global) -> Result<Command<'a>, AllocError> {
+    Command::new(alloc, DEBUG)
+        .about("Replies to commands about a run, forwards and backwards")
+        .after_help(DEBUG_HELP)
+        .arg(
+            Arg::new(alloc, SOURCE)
+                .required(true)
+                .help("The source, a file"),
+        )?
+        .arg(
+            Arg::new(alloc, FEED)
+                .required(true)
+                .help("The feed, a file"),
         )
 }

@@ -1,4 +1,4 @@
-//! `agcws`: assembles and runs programs for the Apollo Guidance Computer.
+//! `agcws`: assembles, runs and debugs programs for the Apollo Guidance Computer.
 #![tactic(auto)]
 
 mod command_line;
@@ -7,8 +7,8 @@ mod lazy_file;
 use clap::ArgMatches;
 use clap::error::ErrorKind;
 use command_line::{
-    ASM, FEED, NEW, OLD, ROPE, RUN, SOURCE, STEPS, UPGRADE, VERSION, VERSION_ONE, VERSION_TWO,
-    command,
+    ASM, DEBUG, FEED, NEW, OLD, ROPE, RUN, SOURCE, STEPS, UPGRADE, VERSION, VERSION_ONE,
+    VERSION_TWO, command,
 };
 use lazy_file::LazyFile;
 use std::alloc::AllocError;
@@ -16,7 +16,9 @@ use std::io::BufWriter;
 use std::process::ExitCode;
 use std::{env, fs, io};
 use words::{Std, Write, write_all};
-use workshop::{Version, WorkshopFault, asm_engine, may_run, report, run_engine, upgrade_engine};
+use workshop::{
+    Version, WorkshopFault, asm_engine, debug_engine, may_run, report, run_engine, upgrade_engine,
+};
 
 /// The exit status where all is done.
 const DONE: u8 = 0;
@@ -51,6 +53,7 @@ fn perform(rt: &HostRuntime) -> Result<u8, WorkshopFault> {
         Ok(matches) => match matches.subcommand() {
             Some((ASM, matches)) => asm(rt, matches),
             Some((RUN, matches)) => run(rt, matches),
+            Some((DEBUG, matches)) => debug(rt, matches),
             Some((UPGRADE, matches)) => upgrade(rt, matches),
             _ => Ok(WRONG_ARGUMENTS),
         },
@@ -116,6 +119,23 @@ fn run(rt: &HostRuntime, matches: &ArgMatches<'_>) -> Result<u8, WorkshopFault> 
     let buffered = BufWriter::new(rt.alloc(), io::writer(rt)).map_err(not_buffered)?;
     let mut out = Std::new(buffered);
     let outcome = run_engine(rt.alloc(), &mut source, &mut feed, steps, &mut out);
+    match out.flush() {
+        Ok(()) => outcome.map(|_| DONE),
+        Err(_) => Err(WorkshopFault::WriteFailed),
+    }
+}
+
+/// `agcws debug SRC FEED`. Both files are opened before anything is read; commands come from standard input.
+fn debug(rt: &HostRuntime, matches: &ArgMatches<'_>) -> Result<u8, WorkshopFault> {
+    let (Some(source), Some(feed)) = (matches.get_str(SOURCE), matches.get_str(FEED)) else {
+        return Ok(WRONG_ARGUMENTS);
+    };
+    let mut source = Std::new(fs::open(rt, source).map_err(not_opened)?);
+    let mut feed = Std::new(fs::open(rt, feed).map_err(not_opened)?);
+    let mut commands = Std::new(rt.stdin());
+    let buffered = BufWriter::new(rt.alloc(), io::writer(rt)).map_err(not_buffered)?;
+    let mut out = Std::new(buffered);
+    let outcome = debug_engine(rt.alloc(), &mut source, &mut feed, &mut commands, &mut out);
     match out.flush() {
         Ok(()) => outcome.map(|_| DONE),
         Err(_) => Err(WorkshopFault::WriteFailed),

@@ -1,10 +1,12 @@
-//! Tests of `workshop` and of `commands`.
+//! Tests of `commands`, `debugger` and `workshop`.
 #![tactic(auto)]
 
 #[cfg(test)]
 mod assembly_tests;
 #[cfg(test)]
 mod command_tests;
+#[cfg(test)]
+mod debug_tests;
 #[cfg(test)]
 mod run_tests;
 #[cfg(test)]

@@ -1,3 +1,4 @@
 mod Feeds
 mod Preparing
 mod RunSteps
+pub mod Opening

@@ -10,7 +10,7 @@ use Rattle.cpu.specs.Next.{next}
 use Rattle.cpu.specs.Run.{run, outs}
 use Rattle.cpu.proofs.RunLaws.{run-add-one, out-add-one, outs-zero, outs-add-one, cycles-run}
 use Rattle.cpu.proofs.TakenLaws.{run-fits}
-use Rattle.workshop.specs.ChannelLines.{channel_line, channel_lines}
+use Rattle.debugger.specs.ChannelLines.{channel_line, channel_lines}
 use Rattle.workshop.specs.Runs.{BreaksOff}
 use Rattle.workshop.specs.Steps.{outputs_after}
 

@@ -43,6 +43,12 @@ OneFails false a_old a_new b_old b_new = (a_new ≡ a_old) × (b_new ≡ b_old)
 OneFails true a_old a_new b_old b_new =
     ((a_new ≡ one_more a_old) × (b_new ≡ b_old)) ⊎ ((a_new ≡ a_old) × (b_new ≡ one_more b_old))
 
+-- of three readers one has failed where a read has, else none: one of the first two, or the third
+abbrev pub OneOfThreeFails : Bool → ℕ → ℕ → ℕ → ℕ → ℕ → ℕ → Type 0
+OneOfThreeFails has_failed a_old a_new b_old b_new c_old c_new =
+    (OneFails has_failed a_old a_new b_old b_new × (c_new ≡ c_old))
+    ⊎ ((a_new ≡ a_old) × (b_new ≡ b_old) × (c_new ≡ failures_if has_failed c_old))
+
 -- the most bytes that may have been read of the source, and of the feed: one more than they may have where they have too
 -- many, or where memory ran out
 abbrev pub most_read_before : WorkshopFault → ℕ

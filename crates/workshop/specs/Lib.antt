@@ -1,5 +1,5 @@
 pub mod Assemblies
-pub mod ChannelLines
+pub mod Debugging
 pub mod Failures
 pub mod Faults
 pub mod Inputs

@@ -6,7 +6,7 @@ use Rattle.cpu.specs.Run.{run, outs}
 use Rattle.workshop.specs.declared.engine.Summary.{Summary}
 use Rattle.workshop.specs.declared.fault.WorkshopFault.{WorkshopFault}
 use Rattle.workshop.specs.declared.fault.WorkshopFault.TheVariants.{NoMemory, ReadFailed, WriteFailed, Source, Feed, Rope, TooLong}
-use Rattle.workshop.specs.ChannelLines.{channel_lines}
+use Rattle.debugger.specs.ChannelLines.{channel_lines}
 use Rattle.workshop.specs.Inputs.{prepared, scenario_of}
 
 -- the summary of a run

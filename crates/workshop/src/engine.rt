@@ -4,7 +4,7 @@ ghost use Rattle.std.specs.Prelude.{◌≡◌, ◌+◌, ◌-◌, ◌≤◌, ◌<
 ghost use Rattle.std.specs.Bool.{OnTrue, OnFalse};
 ghost use Rattle.words.specs.Devices.{Writes, failures_after};
 ghost use Rattle.words.specs.Readings.{TakesAtMost};
-ghost use Rattle.workshop.specs.ChannelLines.{channel_line, channel_lines};
+ghost use Rattle.debugger.specs.ChannelLines.{channel_lines};
 ghost use Rattle.feed.specs.Feed.{most_bytes};
 ghost use Rattle.workshop.specs.Inputs.{assembled};
 ghost use Rattle.workshop.specs.Failures.{has_read_failed, has_write_failed, failures_if, OneFails, most_read};
@@ -13,12 +13,12 @@ ghost use Rattle.workshop.specs.Steps.{Runs, outputs_after};
 ghost use Rattle.cpu.specs.Next.{next};
 ghost use Rattle.cpu.specs.State.{FitsRun};
 
-use crate::channel_line::channel_line;
 use crate::fault::WorkshopFault;
 use crate::inputs::read_inputs;
-use cpu::{Machine, Output, Processor};
+use cpu::{Machine, Processor};
+use debugger::write_channel_line;
 use std::alloc::Global;
-use words::{Read, Write, WriteFailed, write_all};
+use words::{Read, Write, WriteFailed};
 
 /// What a run has come to.
 #[derive(Clone, Copy, PartialEq, Eq, Debug, Drop)]
@@ -123,18 +123,10 @@ fn step_and_write<W: Write>(
     ensures failures { W.failures out.new ≡ failures_after (W.failures out.old) result }
 {
     match processor.step(machine) {
-        Some(output) => match write_line(&output, out) {
+        Some(output) => match write_channel_line(&output, out) {
             Ok(()) => Ok(1),
             Err(failed) => Err(failed),
         },
         None => Ok(0),
     }
-}
-
-/// Writes the line of an output.
-fn write_line<W: Write>(output: &Output, out: &mut W) -> Result<(), WriteFailed>
-    ensures written { W.told ≡ true → Writes (W.written out.old) (W.written out.new) (channel_line output.now) result }
-    ensures failures { W.failures out.new ≡ failures_after (W.failures out.old) result }
-{
-    write_all(out, channel_line(output).as_slice())
 }

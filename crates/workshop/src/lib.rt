@@ -2,13 +2,14 @@
 #![tactic(auto)]
 
 mod assembly;
-mod channel_line;
+mod debugging;
 mod engine;
 mod fault;
 mod inputs;
 mod upgrade;
 
 pub use assembly::asm_engine;
+pub use debugging::{Opened, debug_engine, follow_source, open_session};
 pub use engine::{MOST_STEPS, Summary, may_run, run_engine};
 pub use fault::{WorkshopFault, report};
 pub use rope::Version;

@@ -3,7 +3,7 @@ use Rattle.cpu.specs.Next.{next}
 use Rattle.cpu.specs.State.{Scenario}
 use Rattle.cpu.proofs.RunLaws.{run-zero, outs-zero}
 use Rattle.words.specs.Devices.{WritesBeginning}
-use Rattle.workshop.specs.ChannelLines.{channel_lines}
+use Rattle.debugger.specs.ChannelLines.{channel_lines}
 use Rattle.workshop.specs.Steps.{outputs_after}
 use Rattle.workshop.proofs.RunSteps.{start_writes, few_cycles, fits_after, breaks_off, state_more, lines_after, outputs_more}
 use Rattle.workshop.proofs.engine.run.Goals as goal

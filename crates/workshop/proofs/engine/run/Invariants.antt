@@ -1,6 +1,6 @@
 use Rattle.std.proofs.Common.{◌≡◌, ◌≤◌, ◌++◌, true, length}
 use Rattle.cpu.specs.Run.{run, outs}
-use Rattle.workshop.specs.ChannelLines.{channel_lines}
+use Rattle.debugger.specs.ChannelLines.{channel_lines}
 use Rattle.workshop.proofs.engine.run.Given as goal
 
 abbrev pub invariant-loop-done : goal.invariant-loop-done

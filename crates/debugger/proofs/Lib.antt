@@ -1,0 +1,7 @@
+pub mod Breaking
+pub mod WholeReplies
+pub mod InputsAdded
+pub mod LineByLine
+pub mod Looking
+pub mod NewSteps
+pub mod Stepping

@@ -1,0 +1,57 @@
+-- Replies that are read off earlier steps.
+use Rattle.std.proofs.Common.{◌≡◌, ℕ, ◌≤◌, Bool, true, false, ltb, List, Option, ap, sym, ◌∙◌, ⊎_elim, arith, refl}
+use Rattle.std.proofs.lemmas.Bool.{cases_lt}
+use Rattle.std.proofs.lemmas.Bool.Decides.{nat_tests}
+use Rattle.rope.specs.Places.{Words}
+use Rattle.space.specs.Cells.{Cells, changed_below, changed_places}
+use Rattle.cpu.specs.State.{State}
+use Rattle.cpu.specs.Run.{run}
+use Rattle.commands.specs.declared.command.Breakpoint.{Breakpoint}
+use Rattle.commands.specs.declared.command.Request.{Request}
+use Rattle.replay.specs.View.{SessionView, HasShown}
+use Rattle.debugger.specs.History.{History, history, sight}
+use Rattle.debugger.specs.Replies.{Desk, says, places_changed, changed_text, changes_since}
+use Rattle.debugger.specs.Executions.{HasLooked, desk, awaiting, answered, Brings}
+
+-- a step was shown
+pub looked_at : (s t : SessionView) (q : ℕ) → HasShown s q t → q ≤ s.n → HasLooked s t s.n
+looked_at s t q h past = record {
+  scenario = ap (λ (v : SessionView). v.scenario) h.same;
+  steps = ap (λ (v : SessionView). v.n) h.same;
+  cost = ⊎_elim (λ lt. (let c = h.cheap lt in omega arith)) (λ ge. (let m = ap (λ (v : SessionView). v.meter) (h.unchanged ge) in omega arith)) (cases_lt q s.n);
+}
+
+-- a step isn't later than another, or it is
+pub not_later : (t n : ℕ) → t ≤ n → ltb n t ≡ false
+not_later t n h = grind (arith, nat_tests)
+
+pub is_later : (t n : ℕ) → (t ≤ n → ⊥) → ltb n t ≡ true
+is_later t n h = grind (arith, nat_tests)
+
+-- a reply that leaves a session with only another shown machine and another meter
+pub brings_text : (s t : SessionView) (p q : ℕ) (bs cs : List Breakpoint) (request : Request) (text : List ℕ) → t ≡ record s { shown = t.shown; meter = t.meter }
+    → ((answers : List Bool) (additions : List (Option ℕ)) → answered (desk s p bs) request answers additions ≡ says text (awaiting (desk s q cs) answers additions))
+    → Brings (desk s p bs) request text (desk t q cs)
+brings_text s t p q bs cs request text same brings answers additions =
+    brings answers additions ∙ sym (ap (λ (v : SessionView). says text (awaiting (desk v q cs) answers additions)) same)
+
+-- the places that read differently in two states
+places_are : (rope : Words) (one other : State) → places_changed (sight rope one) (sight rope other) ≡ changed_places one.cells other.cells
+unfolding places_changed changed_below
+places_are rope one other = refl
+
+since : (h : History) (d : Desk) (t : ℕ) → t ≤ d.steps → changes_since h d t ≡ says (changed_text (places_changed (h.after t) (h.after d.steps))) d
+since h d t past = rw (not_later t d.steps past) refl
+
+-- what changed after a step that was made
+pub changed_since : (s : SessionView) (p t : ℕ) (bs : List Breakpoint) (shown present : State) (old new : Cells) (text : List ℕ) → t ≤ s.n → shown ≡ run s.scenario t → present ≡ run s.scenario s.n
+    → old ≡ shown.cells → new ≡ present.cells → text ≡ changed_text (changed_places old new)
+    → (answers : List Bool) (additions : List (Option ℕ)) → changes_since (history s.scenario) (awaiting (desk s p bs) answers additions) t ≡ says text (awaiting (desk s p bs) answers additions)
+unfolding history
+changed_since s p t bs shown present old new text past is_shown is_present is_old is_new e answers additions =
+    let d = awaiting (desk s p bs) answers additions in
+    let one : old ≡ (run s.scenario t).cells = is_old ∙ ap (λ (m : State). m.cells) is_shown in
+    let other : new ≡ (run s.scenario s.n).cells = is_new ∙ ap (λ (m : State). m.cells) is_present in
+    let places : changed_places old new ≡ places_changed (sight s.scenario.rope (run s.scenario t)) (sight s.scenario.rope (run s.scenario s.n)) =
+    ap (λ (c : Cells). changed_places c new) one ∙ ap (changed_places (run s.scenario t).cells) other ∙ sym (places_are s.scenario.rope (run s.scenario t) (run s.scenario s.n)) in
+    since (history s.scenario) d t past ∙ ap (λ (x : List ℕ). says x d) (sym (e ∙ ap changed_text places))

@@ -1,0 +1,9 @@
+use Rattle.std.proofs.Common.{refl}
+use Rattle.debugger.specs.History.{history}
+use Rattle.debugger.specs.Replies.{answer, reply}
+use Rattle.debugger.proofs.desk.Desk.last.Goals as goal
+
+pub returns-clause-brings : goal.returns-clause-brings
+unfolding answer reply history
+returns-clause-brings g c = λ answers additions.
+    rw (c.last_line.ensures, c.last_change.ensures.last, c.last_change.ensures.looked.scenario, c.last_change.ensures.looked.steps) refl

@@ -1,0 +1,86 @@
+-- What the parts of the debugger do to a session and to what is written. Calls that take memory may be refused: what is said
+-- holds under some answers of those that were made, whatever is answered later.
+use Rattle.std.specs.Prelude.{◌≡◌, ℕ, ◌+◌, ◌*◌, ◌≤◌, Bool, false, List, [], ◌++◌, Option, Result, Ok, Err}
+use Rattle.words.specs.Devices.{WritesBeginning}
+use Rattle.words.specs.declared.device.WriteFailed.{WriteFailed}
+use Rattle.commands.specs.declared.command.Breakpoint.{Breakpoint}
+use Rattle.commands.specs.declared.command.Request.{Request}
+use Rattle.replay.specs.View.{SessionView}
+use Rattle.debugger.specs.History.{History, history}
+use Rattle.debugger.specs.Growth.{grow}
+use Rattle.debugger.specs.Replies.{Desk, Reply, says, answer}
+use Rattle.debugger.specs.Sessions.{AllGranted}
+use Rattle.debugger.specs.declared.ending.Ending.{Ending}
+
+-- steps were made, up to an ending, and the lines of their outputs written
+pub record Grown (may_refuse : Bool) (h : History) (breakpoints : List Breakpoint) (more n : ℕ) (ending : Ending) (steps : ℕ) (old new : List ℕ) : Type 0 where
+  pub answers : List Bool
+  pub granted : may_refuse ≡ false → AllGranted answers
+  pub text : List ℕ
+  pub goes_on : (rest : List Bool) → grow h breakpoints more n (answers ++ rest) ≡ record { text = text; steps = steps; answers = rest; ending = ending }
+  pub written : new ≡ old ++ text
+
+-- a line of an output could not be written whole
+pub record GrowthBroken (may_refuse : Bool) (h : History) (breakpoints : List Breakpoint) (more n : ℕ) (old new : List ℕ) : Type 0 where
+  pub answers : List Bool
+  pub granted : may_refuse ≡ false → AllGranted answers
+  pub part : WritesBeginning old new (grow h breakpoints more n answers).text
+
+abbrev pub Grows : Bool → History → List Breakpoint → ℕ → ℕ → ℕ → List ℕ → List ℕ → Result Ending WriteFailed → Type 0
+Grows may_refuse h breakpoints more n steps old new (Ok ending) = Grown may_refuse h breakpoints more n ending steps old new
+Grows may_refuse h breakpoints more n steps old new (Err failed) = GrowthBroken may_refuse h breakpoints more n old new
+
+-- where a session stands, with no answer to come
+abbrev pub desk : SessionView → ℕ → List Breakpoint → Desk
+desk s position breakpoints =
+    record { scenario = s.scenario; steps = s.n; position = position; breakpoints = breakpoints; answers = []; additions = [] }
+
+-- with these answers to come
+abbrev pub awaiting : Desk → List Bool → List (Option ℕ) → Desk
+awaiting d answers additions = record d { answers = answers; additions = additions }
+
+-- what a request brings, with these answers to come
+abbrev pub answered : Desk → Request → List Bool → List (Option ℕ) → Reply
+answered d request answers additions = answer (history d.scenario) (awaiting d answers additions) request
+
+-- a request has this text as its reply, and leads from one place to the other
+abbrev pub Brings : Desk → Request → List ℕ → Desk → Type 0
+Brings from request text to = (answers : List Bool) (additions : List (Option ℕ)) → answered from request answers additions ≡ says text (awaiting to answers additions)
+
+-- a request that may add an input has this text as its reply, under some answers of the calls that add
+pub record BringsAdding (from : Desk) (request : Request) (text : List ℕ) (to : Desk) : Type 0 where
+  pub additions : List (Option ℕ)
+  pub brings : (answers : List Bool) (later : List (Option ℕ)) → answered from request answers (additions ++ later) ≡ says text (awaiting to answers later)
+
+-- a request was answered: its reply was written
+pub record Replied (may_refuse : Bool) (from : Desk) (request : Request) (to : Desk) (old new : List ℕ) : Type 0 where
+  pub answers : List Bool
+  pub additions : List (Option ℕ)
+  pub granted : may_refuse ≡ false → AllGranted answers
+  pub text : List ℕ
+  pub brings : (rest : List Bool) (later : List (Option ℕ)) → answered from request (answers ++ rest) (additions ++ later) ≡ says text (awaiting to rest later)
+  pub written : new ≡ old ++ text
+
+-- its reply could not be written whole
+pub record ReplyBroken (may_refuse : Bool) (from : Desk) (request : Request) (old new : List ℕ) : Type 0 where
+  pub answers : List Bool
+  pub additions : List (Option ℕ)
+  pub granted : may_refuse ≡ false → AllGranted answers
+  pub part : WritesBeginning old new (answered from request answers additions).text
+
+abbrev pub Executes : Bool → Desk → Request → Desk → List ℕ → List ℕ → Result (Unit {0}) WriteFailed → Type 0
+Executes may_refuse from request to old new (Ok x) = Replied may_refuse from request to old new
+Executes may_refuse from request to old new (Err failed) = ReplyBroken may_refuse from request old new
+
+-- what a look at earlier steps leaves: only the shown machine and the meter may change, and so many steps are executed at
+-- most
+pub record HasLooked (old new : SessionView) (most : ℕ) : Type 0 where
+  pub scenario : new.scenario ≡ old.scenario
+  pub steps : new.n ≡ old.n
+  pub cost : new.meter ≤ old.meter + most
+
+-- what a command leaves of a session, beside its steps: it executes at most as many steps as it makes, and three times as
+-- many as there are then
+pub record HasGoneOn (old new : SessionView) : Type 0 where
+  pub forward : old.n ≤ new.n
+  pub cost : new.meter + old.n ≤ old.meter + 4 * new.n

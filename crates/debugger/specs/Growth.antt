@@ -1,0 +1,83 @@
+-- Steps that are made for the first time.
+use Rattle.std.specs.Prelude.{ℕ, zero, suc, ◌+◌, ◌==◌, ◌&&◌, Bool, false, List, [], ◌∷◌, ◌++◌, drop, Option, None, Some, position, if◌then◌else◌}
+use Rattle.std.specs.Option.{option_map}
+use Rattle.words.specs.Numbers.{correct}
+use Rattle.space.specs.declared.place.Linear.{Linear}
+use Rattle.space.specs.declared.place.Linear.TheVariants.{Erasable, Fixed}
+use Rattle.cpu.specs.declared.output.Output.{Output}
+use Rattle.replay.specs.Memory.{step_limit}
+use Rattle.debugger.specs.ChannelLines.{channel_line}
+use Rattle.debugger.specs.History.{Sight, History}
+use Rattle.commands.specs.declared.command.Breakpoint.{Breakpoint}
+use Rattle.commands.specs.declared.command.Breakpoint.TheVariants.{Place, Word, Channel}
+use Rattle.debugger.specs.declared.ending.Ending.{Ending}
+use Rattle.debugger.specs.declared.ending.Ending.TheVariants.{Reached, Hit, NoMemory, Limit}
+
+-- the word at an erasable place
+abbrev pub word_seen : Sight → ℕ → ℕ
+word_seen seen p = correct (seen.reading p)
+
+-- the word on a channel
+abbrev pub channel_seen : Sight → ℕ → ℕ
+channel_seen seen c = correct (seen.channel c)
+
+-- two places are one
+abbrev pub same_place : Linear → Linear → Bool
+same_place (Erasable p) (Erasable q) = p == q
+same_place (Erasable p) (Fixed bank offset) = false
+same_place (Fixed bank offset) (Erasable q) = false
+same_place (Fixed bank offset) (Fixed b o) = bank == b && offset == o
+
+-- a breakpoint holds
+abbrev pub holds : Sight → Breakpoint → Bool
+holds seen (Place place) = same_place seen.place place
+holds seen (Word p w) = word_seen seen p == w
+holds seen (Channel c w) = channel_seen seen c == w
+
+-- the lowest number, from 1, of the breakpoints that hold
+unfoldable pub lowest_hit : List Breakpoint → Sight → Option ℕ
+lowest_hit breakpoints seen = option_map (λ k. k + 1) (position (holds seen) breakpoints)
+
+-- what growing gives: the lines of the outputs, the steps then, the answers left, and how it ends
+pub record Growth : Type 0 where
+  pub text : List ℕ
+  pub steps : ℕ
+  pub answers : List Bool
+  pub ending : Ending
+
+abbrev pub grown : ℕ → List Bool → Ending → Growth
+grown n answers ending = record { text = []; steps = n; answers = answers; ending = ending }
+
+-- the line of an output, where there is one
+abbrev pub output_line : Option Output → List ℕ
+output_line None = []
+output_line (Some output) = channel_line output
+
+-- the answers of calls that take memory, one after another: whether the first is that memory ran out; where none is left
+-- memory was found
+abbrev pub is_refused : List Bool → Bool
+is_refused [] = false
+is_refused (refused ∷ later) = refused
+
+abbrev pub later : {X : Type 0} → List X → List X
+later answers = drop 1 answers
+
+-- a breakpoint that holds ends the growth, which else goes on
+abbrev pub unless_hit : Option ℕ → ℕ → List Bool → Growth → Growth
+unless_hit None n answers more = more
+unless_hit (Some i) n answers more = grown n answers (Hit i)
+
+-- a step, the line of its output, and what follows
+abbrev pub with_line : List ℕ → Growth → Growth
+with_line line more = record more { text = line ++ more.text }
+
+-- up to so many steps after n, ended by the first breakpoint that holds after one of them, by the limit, or by an answer
+-- that memory ran out
+unfoldable pub grow : History → List Breakpoint → ℕ → ℕ → List Bool → Growth
+grow h breakpoints zero n answers = grown n answers Reached
+grow h breakpoints (suc more) n answers =
+    if n == step_limit then grown n answers Limit
+    else (if is_refused answers then grown n (later answers) NoMemory
+    else with_line (output_line (h.output (n + 1)))
+    (unless_hit (lowest_hit breakpoints (h.after (n + 1))) (n + 1) (later answers)
+    (grow h breakpoints more (n + 1) (later answers))))

@@ -1,0 +1,79 @@
+//! A session of commands.
+
+ghost use Rattle.std.specs.Prelude.{◌≡◌, ◌+◌, ◌*◌, ◌≤◌, true, length, OnOk, if◌then◌else◌};
+ghost use Rattle.words.specs.Devices.{one_more};
+ghost use Rattle.words.specs.Readings.{TakesAtMost};
+ghost use Rattle.debugger.specs.Transcript.{ends, command_lines, lines_read, most_command_bytes};
+ghost use Rattle.debugger.specs.Sessions.{Debugs, has_read_failed, has_write_failed};
+
+use crate::desk::Desk;
+use crate::fault::DebugFault;
+use commands::{Command, CommandLine, DeviceFault, LineReader, Request, request_of};
+use replay::{Keeper, Session};
+use std::alloc::Global;
+use words::{Read, Write};
+use yayul::Symbols;
+
+/// Reads commands up to `quit`, or to the end of their first 16,777,216 bytes, and writes the reply to each.
+///
+/// The replies to all lines before are handed on before more commands are waited for. What a session replies is the
+/// transcript: each output is written once, when its step is first made, however the commands go back and forth. Memory is
+/// taken for the last outputs, before a command is read, and where the session takes it.
+///
+/// `NoMemory` where that memory was not to be had: then nothing was written. `ReadFailed` where the commands could not be
+/// read on: then the replies to the whole lines before stand. `WriteFailed` where a reply could not be written: then a
+/// beginning of the transcript stands.
+pub fn debug_session<K: Keeper, R: Read, W: Write>(
+    alloc: Global,
+    session: &mut Session<K>,
+    symbols: &Symbols,
+    commands: &mut R,
+    out: &mut W,
+) -> Result<(), DebugFault>
+    requires { session.old.n ≡ 0 }
+    ensures answer { R.told ≡ true → W.told ≡ true →
+        Debugs (record { may_refuse = K.may_refuse; symbols = symbols.now; scenario = session.old.scenario }) (record { before = R.left commands.old; left = R.left commands.new }) (W.written out.old) (W.written out.new) result }
+
+    // For each line that is read at most three times as many steps are executed as there are, besides those that are made.
+    ensures cost { R.told ≡ true → OnOk result
+        (session.new.meter ≤ session.old.meter + (3 * length (lines_read symbols.now (command_lines (R.left commands.old))) + 1) * session.new.n) }
+
+    // E6 only where the reader has failed, E7 only where the writer has.
+    ensures reader { R.failures commands.new ≡ (if has_read_failed result then one_more (R.failures commands.old) else R.failures commands.old) }
+    ensures writer { W.failures out.new ≡ (if has_write_failed result then one_more (W.failures out.old) else W.failures out.old) }
+
+    // No more is read than counts.
+    ensures read { R.told ≡ true → TakesAtMost most_command_bytes (R.left commands.old) (R.left commands.new) }
+{
+    let mut desk = match Desk::new(alloc) {
+        Ok(desk) => desk,
+        Err(_) => return Err(DebugFault::NoMemory),
+    };
+    let mut reader = LineReader::new();
+    let mut line = CommandLine::empty();
+    'commands: loop {
+        let some = match reader.next_line(commands, out, &mut line) {
+            Ok(some) => some,
+            Err(DeviceFault::ReadFailed) => return Err(DebugFault::ReadFailed),
+            Err(DeviceFault::WriteFailed) => return Err(DebugFault::WriteFailed),
+        };
+        if !some {
+            return Ok(());
+        }
+        let request = request_of(symbols, &line);
+        if ends(&request) {
+            return Ok(());
+        }
+        match desk.answer(session, request, out) {
+            Ok(()) => {}
+            Err(_) => return Err(DebugFault::WriteFailed),
+        }
+    }
+}
+
+/// Whether the end is asked for.
+fn ends(request: &Request) -> bool
+    ensures { result ≡ ends request.now }
+{
+    matches!(request, Request::Known(Command::Quit))
+}

@@ -1,0 +1,216 @@
+//! Commands that make no new step and have a short reply.
+
+ghost use Rattle.std.specs.Prelude.{◌≡◌, ◌+◌, ◌-◌, ◌*◌, ◌^◌, ◌<◌, ◌≤◌, codes, IfSome};
+ghost use Rattle.commands.specs.declared.command.Command.TheVariants as command;
+ghost use Rattle.commands.specs.declared.command.Request.TheVariants.{Known};
+ghost use Rattle.space.specs.Cells.{changed_places};
+ghost use Rattle.replay.specs.View.{SessionView};
+ghost use Rattle.replay.specs.LastHit.{HasSought};
+ghost use Rattle.debugger.specs.History.{history, sight};
+ghost use Rattle.debugger.specs.Replies.{line, changed_text, memory_word, last_stop, last_change};
+ghost use Rattle.debugger.specs.Executions.{desk, Brings, HasLooked};
+
+use crate::breakpoints::lowest_hit;
+use crate::desk::Desk;
+use crate::texts::{
+    PlacesText, Text, at_line, hit_and_at_line, last_line, number_line, places_text,
+    registers_text, text_line, word_line,
+};
+use arrayvec::ArrayVec;
+use commands::Breakpoint;
+use cpu::{Machine, Processor};
+use replay::{Keeper, Session};
+use space::numbers::{Chan, Eras};
+use space::place::Linear;
+use space::store::{Store, changed};
+use words::{Word, push_all};
+
+impl Desk {
+    /// `back`: so many steps back.
+    pub(crate) fn back<K: Keeper>(&mut self, session: &mut Session<K>, steps: u64) -> Text
+        requires { self.old.position ≤ session.old.n }
+        ensures brings { Brings (desk session.old self.old.position self.old.breakpoints) (Known (command.Back steps)) result.items (desk session.new self.new.position self.new.breakpoints) }
+        ensures within { self.new.position ≤ session.new.n }
+        ensures tail { self.new.tail ≡ self.old.tail }
+        ensures looked { HasLooked session.old session.new (session.old.n) }
+    {
+        self.position = self.position.saturating_sub(steps);
+        match session.show(self.position) {
+            Ok(machine) => at_line(self.position, machine),
+            Err(_) => unreachable!(),
+        }
+    }
+
+    /// `goto`: to a step.
+    pub(crate) fn goto<K: Keeper>(&mut self, session: &mut Session<K>, step: u64) -> Text
+        requires { self.old.position ≤ session.old.n }
+        ensures brings { Brings (desk session.old self.old.position self.old.breakpoints) (Known (command.Goto step)) result.items (desk session.new self.new.position self.new.breakpoints) }
+        ensures within { self.new.position ≤ session.new.n }
+        ensures tail { self.new.tail ≡ self.old.tail }
+        ensures looked { HasLooked session.old session.new (session.old.n) }
+    {
+        match session.show(step) {
+            Ok(machine) => {
+                self.position = step;
+                at_line(step, machine)
+            }
+            Err(_) => text_line(b"E41 NOT YET"),
+        }
+    }
+
+    /// `seek`: back to the last step before this one at which a breakpoint holds.
+    pub(crate) fn seek<K: Keeper>(&mut self, session: &mut Session<K>) -> Text
+        requires { self.old.position ≤ session.old.n }
+        ensures brings { Brings (desk session.old self.old.position self.old.breakpoints) (Known (command.Seek)) result.items (desk session.new self.new.position self.new.breakpoints) }
+        ensures within { self.new.position ≤ session.new.n }
+        ensures tail { self.new.tail ≡ self.old.tail }
+        ensures looked { HasLooked session.old session.new (3 * session.old.n) }
+    {
+        let Some(step) = self.last_stop(session) else {
+            return text_line(b"NONE");
+        };
+        self.position = step;
+        match session.show(step) {
+            Ok(machine) => {
+                let hit = lowest_hit(self.breakpoints.as_slice(), machine);
+                hit_and_at_line(hit, step, machine)
+            }
+            Err(_) => unreachable!(),
+        }
+    }
+
+    /// The last step before the position at which a breakpoint holds.
+    fn last_stop<K: Keeper>(&self, session: &mut Session<K>) -> Option<u64>
+        requires { self.now.position ≤ session.old.n }
+        ensures last { result ≡ last_stop (history session.old.scenario) (desk session.old self.now.position self.now.breakpoints) }
+        ensures after { HasSought session.old self.now.position result session.new }
+    {
+        let breakpoints = self.breakpoints.as_slice();
+        session.seek_back(
+            self.position,
+            |machine| lowest_hit(breakpoints, machine).is_some(),
+        )
+    }
+
+    /// `break`: one breakpoint more.
+    pub(crate) fn set_breakpoint(&mut self, breakpoint: Breakpoint) -> Text
+        ensures brings { (s : SessionView) → Brings (desk s self.old.position self.old.breakpoints) (Known (command.Break breakpoint)) result.items (desk s self.new.position self.new.breakpoints) }
+        ensures position { self.new.position ≡ self.old.position }
+        ensures tail { self.new.tail ≡ self.old.tail }
+    {
+        if self.breakpoints.is_full() {
+            return text_line(b"E52 FULL");
+        }
+        self.breakpoints.push(breakpoint);
+        number_line(b"BREAK ", self.breakpoints.len() as u64)
+    }
+
+    /// `clear`: no breakpoints.
+    pub(crate) fn clear(&mut self) -> Text
+        ensures brings { (s : SessionView) → Brings (desk s self.old.position self.old.breakpoints) (Known command.Clear) result.items (desk s self.new.position self.new.breakpoints) }
+        ensures position { self.new.position ≡ self.old.position }
+        ensures tail { self.new.tail ≡ self.old.tail }
+    {
+        self.breakpoints.clear();
+        text_line(b"CLEAR")
+    }
+
+    /// `regs`: the registers, and the next instruction.
+    pub(crate) fn registers<K: Keeper>(&self, session: &mut Session<K>) -> Text
+        requires { self.now.position ≤ session.old.n }
+        ensures brings { Brings (desk session.old self.now.position self.now.breakpoints) (Known (command.Registers)) result.items (desk session.new self.now.position self.now.breakpoints) }
+        ensures looked { HasLooked session.old session.new (session.old.n) }
+    {
+        match session.with_present(self.position) {
+            Ok((machine, _, processor)) => registers_text(machine, processor),
+            Err(_) => unreachable!(),
+        }
+    }
+
+    /// `mem`: the word at a place.
+    pub(crate) fn memory<K: Keeper>(&self, session: &mut Session<K>, place: Linear) -> Text
+        requires { self.now.position ≤ session.old.n }
+        ensures brings { Brings (desk session.old self.now.position self.now.breakpoints) (Known (command.Memory place)) result.items (desk session.new self.now.position self.now.breakpoints) }
+        ensures looked { HasLooked session.old session.new (session.old.n) }
+    {
+        match session.with_present(self.position) {
+            Ok((machine, _, processor)) => word_line(b"MEM ", word_at(machine, processor, place)),
+            Err(_) => unreachable!(),
+        }
+    }
+
+    /// `chan`: the word on a channel.
+    pub(crate) fn channel<K: Keeper>(&self, session: &mut Session<K>, channel: Chan) -> Text
+        requires { self.now.position ≤ session.old.n }
+        ensures brings { Brings (desk session.old self.now.position self.now.breakpoints) (Known (command.Channel channel)) result.items (desk session.new self.now.position self.now.breakpoints) }
+        ensures looked { HasLooked session.old session.new (session.old.n) }
+    {
+        match session.show(self.position) {
+            Ok(machine) => word_line(b"CHAN ", machine.channel(channel).correct()),
+            Err(_) => unreachable!(),
+        }
+    }
+
+    /// `last`: the step after which a place first held what it holds now.
+    pub(crate) fn last<K: Keeper>(&self, session: &mut Session<K>, place: Eras) -> Text
+        requires { self.now.position ≤ session.old.n }
+        ensures brings { Brings (desk session.old self.now.position self.now.breakpoints) (Known (command.Last place)) result.items (desk session.new self.now.position self.now.breakpoints) }
+        ensures looked { HasLooked session.old session.new (3 * session.old.n) }
+    {
+        last_line(self.last_change(session, place))
+    }
+
+    /// `changed`: the erasable places that read differently after a step and now.
+    pub(crate) fn changed<K: Keeper>(&self, session: &mut Session<K>, step: u64) -> PlacesText
+        ensures brings { Brings (desk session.old self.now.position self.now.breakpoints) (Known (command.Changed step)) result.items (desk session.new self.now.position self.now.breakpoints) }
+        ensures looked { HasLooked session.old session.new (session.old.n) }
+    {
+        match session.with_present(step) {
+            Ok((machine, present, _)) => changed_text(machine.store(), present.store()),
+            Err(_) => not_yet(),
+        }
+    }
+
+    /// The last step before the position at which a place held another word.
+    fn last_change<K: Keeper>(&self, session: &mut Session<K>, place: Eras) -> Option<u64>
+        requires { self.now.position ≤ session.old.n }
+        ensures last { result ≡ last_change (history session.old.scenario) (desk session.old self.now.position self.now.breakpoints) place }
+        ensures below { IfSome result (λ t. t < 2 ^ 40) }
+        ensures looked { HasLooked session.old session.new (3 * session.old.n) }
+    {
+        let word = match session.show(self.position) {
+            Ok(machine) => machine.word(place),
+            Err(_) => unreachable!(),
+        };
+        session.seek_back(self.position, |machine| machine.word(place) != word)
+    }
+}
+
+/// The word at a place.
+#[tactic(auto, unfolding(crate::specs::History::history))]
+fn word_at(machine: &Machine, processor: &Processor, place: Linear) -> Word
+    ensures { result ≡ memory_word (history processor.now.scenario) (sight processor.now.scenario.rope machine.now) place }
+{
+    match place {
+        Linear::Erasable(place) => machine.word(place),
+        Linear::Fixed(bank, offset) => processor.rope().word(bank, offset),
+    }
+}
+
+/// The erasable places that read differently in two stores.
+fn changed_text(old: &Store, new: &Store) -> PlacesText
+    ensures { result.items ≡ changed_text (changed_places old.now new.now) }
+{
+    let mut places = [0; 2048];
+    let count = changed(old, new, &mut places);
+    places_text(&places[..count])
+}
+
+/// That a step was not made yet.
+fn not_yet() -> PlacesText
+    ensures { result.items ≡ line (codes "E41 NOT YET") }
+{
+    let mut text = ArrayVec::new();
+    push_all(&mut text, b"E41 NOT YET\n");
+    text
+}

@@ -1,0 +1,43 @@
+# Adds up a table while a clock ticks, and puts the sum out on channel 12. It
+# puts out a wrong sum: the chapter on the debugger, in docs/MANUAL.md, finds why.
+
+TIME3   EQUALS  26
+
+        SETLOC  100
+COUNT   ERASE
+SUM     ERASE
+TICKS   ERASE
+
+        SETLOC  4000
+        TCF     START
+
+        SETLOC  4014            # T3RUPT: a tick is counted
+        CAF     ONE
+        ADS     TICKS
+        RESUME
+
+        SETLOC  4100
+START   CAF     SOON
+        TS      TIME3
+        RELINT
+        CAF     FOUR
+LOOP    TS      COUNT
+        CA      SUM
+        INDEX   COUNT
+        AD      TABLE
+        TS      SUM
+        CCS     COUNT
+        TCF     LOOP
+        CA      SUM
+        EXTEND
+        WRITE   12
+DONE    TCF     DONE
+
+ONE     OCT     1
+FOUR    OCT     4
+SOON    OCT     37777           # one pulse before overflow
+TABLE   DEC     10
+        DEC     20
+        DEC     30
+        DEC     40
+        DEC     -50
