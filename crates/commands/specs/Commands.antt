@@ -1,5 +1,5 @@
 -- What a line of commands asks for.
-use Rattle.std.specs.Prelude.{ℕ, ◌+◌, ◌==◌, nat_lt, nat_le, List, [], ◌∷◌, length, drop, Option, None, Some, Result, Ok, Err, codes, if◌then◌else◌, option_and_then}
+use Rattle.std.specs.Prelude.{ℕ, ◌+◌, ◌-◌, ◌==◌, nat_lt, nat_le, List, [], ◌∷◌, length, drop, Option, None, Some, Result, Ok, Err, codes, if◌then◌else◌, option_and_then}
 use Rattle.std.specs.List.{before_first}
 use Rattle.std.specs.Option.{option_map, option_or}
 use Rattle.agc_text.specs.Digits.{number_of}
@@ -11,10 +11,8 @@ use Rattle.feed.specs.declared.fault.LineFault.TheVariants as fault
 use Rattle.feed.specs.declared.input.Input.{Input}
 use Rattle.space.specs.declared.place.Linear.{Linear}
 use Rattle.space.specs.declared.place.Linear.TheVariants.{Erasable, Fixed}
-use Rattle.yayul.specs.Layout.{location_at}
-use Rattle.yayul.specs.declared.language.Location.{Location}
-use Rattle.yayul.specs.declared.language.Location.TheVariants as location
 use Rattle.yayul.specs.declared.values.Value.{Value}
+use Rattle.yayul.specs.declared.values.Value.TheVariants as value
 use Rattle.yayul.specs.declared.values.Value.TheVariants.{Num}
 use Rattle.commands.specs.Lines.{command_length}
 use Rattle.commands.specs.declared.command.Breakpoint.{Breakpoint}
@@ -36,19 +34,15 @@ count_in text = number_of 10 15 text
 abbrev pub channel_in : List ℕ → Option ℕ
 channel_in text = passing (λ n. nat_le n 0o777) (number_of 8 5 text)
 
--- a location as a place
-abbrev pub place_at : Location → Linear
-place_at (location.Erasable n) = Erasable n
-place_at (location.Fixed bank offset) = Fixed bank offset
-
--- the place of a location, where there is one
-abbrev pub place_of_location : Result Location FaultKind → Option Linear
-place_of_location (Ok here) = Some (place_at here)
-place_of_location (Err fault) = None
-
--- the place of a value, where it has one
+-- the place of a value, where it has one: a number's is erasable, or in bank 2 or 3
 abbrev pub place_of_value : Value → Option Linear
-place_of_value value = place_of_location (location_at value)
+place_of_value (Num n) =
+    if nat_lt n 0o4000 then Some (Erasable n)
+    else if nat_lt n 0o6000 then Some (Fixed 2 (n - 0o4000))
+    else if nat_lt n 0o10000 then Some (Fixed 3 (n - 0o6000))
+    else None
+place_of_value (value.Erasable n) = Some (Erasable n)
+place_of_value (value.Fixed bank offset) = Some (Fixed bank offset)
 
 -- the place of a number: 1 to 5 octal digits
 abbrev pub numbered_place : List ℕ → Option Linear
