@@ -3,9 +3,10 @@
 use commands::{Command, CommandLine, DeviceFault, LineReader, MOST_BYTES, Request, request_of};
 use std::io;
 use std::process::Abort;
+use std::test::Fail;
 use words::faulty::FaultyReader;
 use words::{Buffer, Read, Write};
-use yayul::Symbols;
+use yayul::assemble;
 
 /// A writer that takes all bytes, counts how often it is to hand them on, and may fail to.
 #[derive(Drop)]
@@ -196,11 +197,12 @@ fn failed_flush_reads_nothing(rt: HostRuntime) {
 }
 
 #[test]
-fn lines_ask_for_commands(rt: HostRuntime) {
-    let symbols = Symbols::new(rt.alloc());
+fn lines_ask_for_commands(rt: HostRuntime) -> Result<(), Fail> {
+    let (_, symbols) = assemble(rt.alloc(), b"")?.split();
     let asked = request_of(&symbols, &CommandLine::of(b" run 20 # on"));
     assert!(rt; matches!(asked, Request::Known(Command::Run(20))));
     let long = [b'#'; 81];
     let asked = request_of(&symbols, &CommandLine::of(long.as_slice()));
     assert!(rt; matches!(asked, Request::TooLong));
+    Ok(())
 }
