@@ -12,7 +12,7 @@ use command_line::{
 };
 use lazy_file::LazyFile;
 use std::alloc::AllocError;
-use std::io::BufWriter;
+use std::io::{BufReader, BufWriter};
 use std::process::ExitCode;
 use std::{env, fs, io};
 use words::{Std, Write, write_all};
@@ -147,7 +147,8 @@ fn upgrade(rt: &HostRuntime, matches: &ArgMatches<'_>) -> Result<u8, WorkshopFau
     let (Some(old), Some(new)) = (matches.get_str(OLD), matches.get_str(NEW)) else {
         return Ok(WRONG_ARGUMENTS);
     };
-    let mut image = Std::new(fs::open(rt, old).map_err(not_opened)?);
+    let file = fs::open(rt, old).map_err(not_opened)?;
+    let mut image = Std::new(BufReader::new(rt.alloc(), file).map_err(not_opened)?);
     let mut out = Std::new(LazyFile::new(rt, new));
     upgrade_engine(rt.alloc(), &mut image, &mut out).map(|_| DONE)
 }

@@ -1,4 +1,3 @@
-pub mod BankSteps
 pub mod ImageLaws
 pub mod PlaceLaws
 pub mod ReadSteps

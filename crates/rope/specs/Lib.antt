@@ -1,4 +1,3 @@
-pub mod BankReading
 pub mod Faults
 pub mod Image
 pub mod Laws

@@ -1,5 +1,5 @@
 -- What reading an image takes from a reader, and what it answers.
-use Rattle.std.specs.Prelude.{◌≡◌, ℕ, ◌+◌, ◌*◌, ◌%◌, ◌<◌, ◌≤◌, ◌==◌, Bool, true, false, List, [], ◌∷◌, length, drop, slice_index, count_ones, Option, Some, None, Result, Ok, Err}
+use Rattle.std.specs.Prelude.{◌≡◌, ℕ, ◌+◌, ◌*◌, ◌%◌, ◌<◌, ◌≤◌, ◌==◌, Bool, true, false, List, [], ◌∷◌, ◌++◌, length, drop, slice_index, count_ones, Option, Some, None, Result, Ok, Err}
 use Rattle.rope.specs.Places.{banks, bank_words, fixed_places, Words, stands}
 use Rattle.rope.specs.Image.{spelled, image}
 use Rattle.rope.specs.declared.spelling.Version.{Version}
@@ -35,9 +35,9 @@ pub record IsImage (version : Version) (old new : List ℕ) (words : Words) : Ty
   pub whole : old ≡ image version words
   pub left : new ≡ []
 
--- the bytes end before so many, and all were read
-pub record IsShort (version : Version) (most : ℕ) (old new : List ℕ) : Type 0 where
-  pub short : length old < most
+-- the bytes end before an image does, and all were read
+pub record IsShort (version : Version) (old new : List ℕ) : Type 0 where
+  pub short : length old < image_length
   pub spelled : AllSpellWords version old (length old)
   pub left : new ≡ []
 
@@ -47,22 +47,20 @@ pub record IsLong (version : Version) (old new : List ℕ) : Type 0 where
   pub spelled : AllSpellWords version old image_length
   pub left : new ≡ drop (image_length + 1) old
 
--- among the first so many bytes, the first two that spell no word have the low one at a place; bytes after it may have been read too
-pub record HasWrongBytes (version : Version) (most : ℕ) (old new : List ℕ) (at : ℕ) : Type 0 where
+-- the first two bytes of an image that spell no word have the low one at a place, and it was the last that was read
+pub record HasWrongBytes (version : Version) (old new : List ℕ) (at : ℕ) : Type 0 where
   pub position : ℕ
   pub low : at ≡ 2 * position + 1
+  pub within : at < image_length
+  pub stands : at < length old
   pub wrong : spells_word version (slice_index old (2 * position)) (slice_index old at) ≡ false
   pub spelled : AllSpellWords version old at
-  pub count : ℕ
-  pub read : at < count
-  pub within : count ≤ most
-  pub stand : count ≤ length old
-  pub left : new ≡ drop count old
+  pub left : new ≡ drop (at + 1) old
 
--- a read failed after some bytes without a fault, at most so many
-pub record FailsAfter (version : Version) (most : ℕ) (old new : List ℕ) : Type 0 where
+-- a read failed after some bytes without a fault, no more than an image has
+pub record FailsAfter (version : Version) (old new : List ℕ) : Type 0 where
   pub count : ℕ
-  pub within : count ≤ most
+  pub within : count ≤ image_length
   pub stand : count ≤ length old
   pub spelled : AllSpellWords version old count
   pub left : new ≡ drop count old
@@ -71,11 +69,11 @@ pub record FailsAfter (version : Version) (most : ℕ) (old new : List ℕ) : Ty
 abbrev pub ReadsImage : Version → List ℕ → List ℕ → Result Words RopeFault → Type 0
 ReadsImage version old new (Ok words) = IsImage version old new words
 ReadsImage version old new (Err NoMemory) = new ≡ old
-ReadsImage version old new (Err Short) = IsShort version image_length old new
+ReadsImage version old new (Err Short) = IsShort version old new
 ReadsImage version old new (Err Long) = IsLong version old new
-ReadsImage version old new (Err (LowBit at)) = (version ≡ One) × HasWrongBytes One image_length old new at
-ReadsImage version old new (Err (BadParity at)) = (version ≡ Two) × HasWrongBytes Two image_length old new at
-ReadsImage version old new (Err ReadFailed) = FailsAfter version image_length old new
+ReadsImage version old new (Err (LowBit at)) = (version ≡ One) × HasWrongBytes One old new at
+ReadsImage version old new (Err (BadParity at)) = (version ≡ Two) × HasWrongBytes Two old new at
+ReadsImage version old new (Err ReadFailed) = FailsAfter version old new
 
 -- whether a read failed
 abbrev pub has_read_failed : {T : Type 0} → Result T RopeFault → Bool
@@ -91,3 +89,45 @@ has_read_failed (Err ReadFailed) = true
 abbrev pub Spells : Version → ℕ → ℕ → Option ℕ → Type 0
 Spells version high low (Some word) = high ∷ low ∷ [] ≡ spelled version word
 Spells version high low None = spells_word version high low ≡ false
+
+-- the next byte was taken, where one was left
+abbrev pub TakesByte : List ℕ → List ℕ → Result (Option ℕ) RopeFault → Type 0
+TakesByte old new (Ok None) = (old ≡ []) × (new ≡ [])
+TakesByte old new (Ok (Some byte)) = old ≡ byte ∷ new
+TakesByte old new (Err fault) = new ≡ old
+
+-- no two bytes stand, and all was read
+pub record EndsWithin (old new : List ℕ) : Type 0 where
+  pub short : length old < 2
+  pub left : new ≡ []
+
+-- a read failed before two bytes were taken
+pub record FailsWithin (old new : List ℕ) : Type 0 where
+  pub count : ℕ
+  pub few : count ≤ 1
+  pub stand : count ≤ length old
+  pub left : new ≡ drop count old
+
+-- the next two bytes were taken, where two were left
+abbrev pub TakesPair : List ℕ → List ℕ → Result (Option (List ℕ)) RopeFault → Type 0
+TakesPair old new (Ok None) = EndsWithin old new
+TakesPair old new (Ok (Some pair)) = old ≡ pair ++ new
+TakesPair old new (Err fault) = FailsWithin old new
+
+-- two bytes were taken that spell no word
+pub record TakesWrongBytes (version : Version) (old new : List ℕ) (position at : ℕ) : Type 0 where
+  pub high : ℕ
+  pub low : ℕ
+  pub taken : old ≡ high ∷ low ∷ new
+  pub wrong : spells_word version high low ≡ false
+  pub place : at ≡ 2 * position + 1
+
+-- the next word was taken, where two bytes were left that spell one
+abbrev pub TakesWord : Version → ℕ → List ℕ → List ℕ → Result ℕ RopeFault → Type 0
+TakesWord version position old new (Ok word) = old ≡ spelled version word ++ new
+TakesWord version position old new (Err NoMemory) = ⊥
+TakesWord version position old new (Err Short) = EndsWithin old new
+TakesWord version position old new (Err Long) = ⊥
+TakesWord version position old new (Err (LowBit at)) = (version ≡ One) × TakesWrongBytes One old new position at
+TakesWord version position old new (Err (BadParity at)) = (version ≡ Two) × TakesWrongBytes Two old new position at
+TakesWord version position old new (Err ReadFailed) = FailsWithin old new

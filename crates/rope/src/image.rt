@@ -5,11 +5,14 @@ ghost use Rattle.words.specs.Devices.{Writes, failures_after};
 ghost use Rattle.rope.specs.Places.{banks, bank_words, fixed_places};
 ghost use Rattle.rope.specs.Image.{bank_of_entry, word_of_position, spelled, image_part, image};
 
-use crate::memory::{BANK_BYTES, BANK_WORDS, ENTRIES, Rope};
+use crate::memory::{BANK_WORDS, ENTRIES, Rope};
 use crate::spelling::Version;
 use arrayvec::ArrayVec;
 use space::numbers::{Bank, Offset};
 use words::{Write, WriteFailed, push_all, write_all};
+
+/// How many bytes the words of a bank are written as.
+const BANK_BYTES: usize = 2 * BANK_WORDS;
 
 impl Rope {
     /// Writes the image of 73,728 bytes: banks 2, 3, 0, 1, 4 to 043, in each bank the words by rising offsets, each as

@@ -16,14 +16,11 @@ const BANKS: u16 = 0o44;
 /// The words of one bank.
 pub(crate) const BANK_WORDS: usize = 0o2000;
 
-/// How many bytes the words of a bank are written as.
-pub(crate) const BANK_BYTES: usize = 2 * BANK_WORDS;
-
 /// How many banks an image has.
 pub(crate) const ENTRIES: usize = 0o44;
 
 /// The places of the banks 0 to 043.
-const PLACES: usize = ENTRIES * BANK_WORDS;
+pub(crate) const PLACES: usize = ENTRIES * BANK_WORDS;
 
 /// Fixed memory, seen as the words that stand in it, each at its bank and offset.
 #[derive(Drop)]
