@@ -118,8 +118,6 @@ fn empty_slots(alloc: Global) -> Result<Vec<Option<Word>>, AllocError>
     ensures { IfOk result (λ v. v.items ≡ replicate fixed_places None) }
 {
     let mut slots = Vec::with_capacity(alloc, PLACES)?;
-    for i in 0..PLACES {
-        slots.push(None)?;
-    }
+    slots.resize(PLACES, None)?;
     Ok(slots)
 }

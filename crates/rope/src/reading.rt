@@ -8,7 +8,7 @@ ghost use Rattle.rope.specs.declared.fault.RopeFault.TheVariants.{ReadFailed};
 
 use crate::fault::RopeFault;
 use crate::image::{bank_at, offset_at};
-use crate::memory::{PLACES, Rope};
+use crate::memory::{BANK_WORDS, ENTRIES, Rope};
 use crate::spelling::Version;
 use std::alloc::Global;
 use words::{Read, Word};
@@ -28,10 +28,13 @@ impl Rope {
             Ok(rope) => rope,
             Err(fault) => return Err(fault),
         };
-        for position in 0..PLACES {
-            match read_word(reader, position, version) {
-                Ok(word) => rope.set(bank_at(position), offset_at(position), word),
-                Err(fault) => return Err(fault),
+        for entry in 0..ENTRIES {
+            let bank = bank_at(BANK_WORDS * entry);
+            for offset in 0..BANK_WORDS {
+                match read_word(reader, BANK_WORDS * entry + offset, version) {
+                    Ok(word) => rope.set(bank, offset_at(offset), word),
+                    Err(fault) => return Err(fault),
+                }
             }
         }
         match next_byte(reader) {
@@ -43,6 +46,7 @@ impl Rope {
 }
 
 // The word at a position of an image, from its two bytes.
+#[inline(always)]
 fn read_word<R: Read>(reader: &mut R, position: usize, version: Version) -> Result<Word, RopeFault>
     requires { position < fixed_places }
     ensures word { R.told ≡ true → TakesWord version position (R.left reader.old) (R.left reader.new) result }
@@ -59,6 +63,7 @@ fn read_word<R: Read>(reader: &mut R, position: usize, version: Version) -> Resu
 }
 
 // The next two bytes, where two are left.
+#[inline(always)]
 fn next_pair<R: Read>(reader: &mut R) -> Result<Option<[u8; 2]>, RopeFault>
     ensures pair { R.told ≡ true → TakesPair (R.left reader.old) (R.left reader.new) result }
     ensures fault { IfErr result (λ e. e ≡ ReadFailed) }
@@ -78,6 +83,7 @@ fn next_pair<R: Read>(reader: &mut R) -> Result<Option<[u8; 2]>, RopeFault>
 }
 
 // The next byte, where one is left.
+#[inline(never)]
 fn next_byte<R: Read>(reader: &mut R) -> Result<Option<u8>, RopeFault>
     ensures byte { R.told ≡ true → TakesByte (R.left reader.old) (R.left reader.new) result }
     ensures fault { IfErr result (λ e. e ≡ ReadFailed) }

@@ -1,5 +1,6 @@
-use Rattle.std.proofs.Common.{◌≡◌, ◌∙◌, ap, arith, replicate, None}
+use Rattle.std.proofs.Common.{◌≡◌, ◌∙◌, ◌++◌, ap, List, Option, take, replicate, None}
+use Rattle.rope.specs.Places.{fixed_places}
 use Rattle.rope.proofs.memory.empty_slots.Goals as goal
 
 pub returns : goal.returns
-returns c = let e : c.loop-i.i ≡ 36864 = omega arith in c.loop-i.invariant ∙ ap (λ n. replicate n None) e
+returns c = rw (c.in_ok-slots.ensures.len, c.in_ok-slots.ensures.items) at c.in_ok-resize.ensures.items
