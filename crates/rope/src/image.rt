@@ -3,7 +3,7 @@
 ghost use Rattle.std.specs.Prelude.{◌≡◌, ◌*◌, ◌<◌, ◌/◌, ◌%◌, true};
 ghost use Rattle.words.specs.Devices.{Writes, failures_after};
 ghost use Rattle.rope.specs.Places.{banks, bank_words, fixed_places};
-ghost use Rattle.rope.specs.Image.{bank_of_entry, word_of_position, spelled, image_part, image};
+ghost use Rattle.rope.specs.Image.{bank_of_entry, image_part, image};
 
 use crate::memory::{BANK_WORDS, ENTRIES, Rope};
 use crate::spelling::Version;
@@ -51,23 +51,13 @@ impl Rope {
         requires { entry < banks }
         ensures { result.items ≡ image_part version self.now (bank_words * entry) bank_words }
     {
+        let bank = bank_at(BANK_WORDS * entry);
         let mut bytes = ArrayVec::new();
         for offset in 0..BANK_WORDS {
-            push_all(
-                &mut bytes,
-                &self.spelled_at(BANK_WORDS * entry + offset, version),
-            );
+            let word = self.word(bank, offset_at(offset));
+            push_all(&mut bytes, &version.spelled(word));
         }
         bytes
-    }
-
-    // The two bytes at a position of the image.
-    #[tactic(auto, unfolding(crate::specs::Image::word_of_position))]
-    fn spelled_at(&self, position: usize, version: Version) -> [u8; 2]
-        requires { position < fixed_places }
-        ensures { result ≡ spelled version (word_of_position self.now position) }
-    {
-        version.spelled(self.word(bank_at(position), offset_at(position)))
     }
 }
 
