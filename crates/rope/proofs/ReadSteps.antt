@@ -1,7 +1,7 @@
 -- Steps of reading an image.
-use Rattle.std.proofs.Common.{◌≡◌, ◌≢◌, ℕ, zero, suc, ◌*◌, ◌+◌, ◌-◌, ◌/◌, ◌%◌, ◌<◌, ◌≤◌, true, false, List, [], ◌∷◌, ◌++◌, length, drop, get_or, is_some, unwrap_or, ◌⊎◌, refl, sym, ◌∙◌, ap, inl, inr, arith, append_assoc, append-nil, length-append, Err}
+use Rattle.std.proofs.Common.{◌≡◌, ◌≢◌, ℕ, zero, suc, ◌*◌, ◌+◌, ◌-◌, ◌/◌, ◌%◌, ◌<◌, ◌≤◌, true, List, [], ◌∷◌, ◌++◌, length, drop, get_or, is_some, unwrap_or, ◌⊎◌, refl, sym, ◌∙◌, ap, inl, inr, arith, append_assoc, append-nil, length-append, Err}
 use Rattle.std.proofs.lemmas.Bool.{cases_lt, lt-ltb, le-ltb, cases_eq}
-use Rattle.std.proofs.lemmas.List.{get_or-append-add, get_or_past}
+use Rattle.std.proofs.lemmas.List.{get_or-append-add}
 use Rattle.std.proofs.Math.Seq.{drop-append-add}
 use Rattle.rope.specs.Places.{bank_words, banks, fixed_places, Words, stands, with_word}
 use Rattle.rope.specs.Image.{spelled, bank_of_entry, word_of_position, image_front}

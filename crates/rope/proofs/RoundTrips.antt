@@ -1,12 +1,11 @@
 -- What was written is read, and what was read is written.
-use Rattle.std.proofs.Common.{◌≡◌, ℕ, ◌+◌, ◌-◌, ◌*◌, ◌<◌, true, false, List, ◌++◌, length, get_or, Result, Ok, Err, refl, sym, ◌∙◌, ap, arith}
+use Rattle.std.proofs.Common.{◌≡◌, ℕ, ◌+◌, ◌-◌, ◌*◌, ◌<◌, true, List, ◌++◌, get_or, Ok, Err, refl, sym, ◌∙◌, ap, arith}
 use Rattle.rope.specs.Places.{fixed_places, Words}
 use Rattle.rope.specs.declared.spelling.Version.{Version}
-use Rattle.rope.specs.declared.fault.RopeFault.{RopeFault}
 use Rattle.rope.specs.declared.fault.RopeFault.TheVariants.{NoMemory, Short, Long, LowBit, BadParity, ReadFailed}
-use Rattle.rope.specs.Image.{spelled, word_of_position, image_part, image_front, image}
-use Rattle.rope.specs.Reading.{image_length, spells_word, HasWrongBytes, ReadsImage}
-use Rattle.rope.specs.Laws.{ReadsAgain, WrittenIsRead, ReadIsWritten}
+use Rattle.rope.specs.Image.{spelled, word_of_position, image_part, image}
+use Rattle.rope.specs.Reading.{spells_word, HasWrongBytes}
+use Rattle.rope.specs.Laws.{WrittenIsRead, ReadIsWritten}
 use Rattle.rope.proofs.ImageLaws.{image_part-none, image_part-more, image_part-append, image_front-part}
 use Rattle.rope.proofs.ReadSteps.{length-image_front, spells_after}
 use Rattle.rope.proofs.SameImages.{same_words}

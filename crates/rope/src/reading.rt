@@ -18,7 +18,7 @@ impl Rope {
     ///
     /// `NoMemory` is told before any byte is read. Else the first fault is told that is met in the order of the bytes:
     /// `Short` where they end before 73,728, `Long` where one more stands, `LowBit` of version 1 or `BadParity` of version 2
-    /// where two bytes spell no word, `ReadFailed` where a read failed.
+    /// where two bytes spell no word, `ReadFailed` where a read failed. No byte after two wrong ones is read.
     pub fn read<R: Read>(alloc: Global, reader: &mut R, version: Version) -> Result<Rope, RopeFault>
         ensures bytes { R.told ≡ true → ReadsImage version (R.left reader.old) (R.left reader.new) result }
         ensures full { IfOk result (λ rope. IsFull rope) }
@@ -45,7 +45,8 @@ impl Rope {
     }
 }
 
-// The word at a position of an image, from its two bytes.
+// The word at a position of an image, from its two bytes. It is brought into the loop, so that a reader which has two bytes
+// at hand costs no call; a lone byte does.
 #[inline(always)]
 fn read_word<R: Read>(reader: &mut R, position: usize, version: Version) -> Result<Word, RopeFault>
     requires { position < fixed_places }

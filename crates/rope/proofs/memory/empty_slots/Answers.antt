@@ -1,5 +1,3 @@
-use Rattle.std.proofs.Common.{◌≡◌, ◌∙◌, ◌++◌, ap, List, Option, take, replicate, None}
-use Rattle.rope.specs.Places.{fixed_places}
 use Rattle.rope.proofs.memory.empty_slots.Goals as goal
 
 pub returns : goal.returns
