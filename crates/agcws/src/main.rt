@@ -3,6 +3,7 @@
 
 mod command_line;
 mod lazy_file;
+mod read_ahead;
 
 use clap::ArgMatches;
 use clap::error::ErrorKind;
@@ -11,8 +12,9 @@ use command_line::{
     VERSION_TWO, command,
 };
 use lazy_file::LazyFile;
+use read_ahead::ReadAhead;
 use std::alloc::AllocError;
-use std::io::{BufReader, BufWriter};
+use std::io::BufWriter;
 use std::process::ExitCode;
 use std::{env, fs, io};
 use words::{Std, Write, write_all};
@@ -147,8 +149,7 @@ fn upgrade(rt: &HostRuntime, matches: &ArgMatches<'_>) -> Result<u8, WorkshopFau
     let (Some(old), Some(new)) = (matches.get_str(OLD), matches.get_str(NEW)) else {
         return Ok(WRONG_ARGUMENTS);
     };
-    let file = fs::open(rt, old).map_err(not_opened)?;
-    let mut image = Std::new(BufReader::new(rt.alloc(), file).map_err(not_opened)?);
+    let mut image = ReadAhead::new(fs::open(rt, old).map_err(not_opened)?);
     let mut out = Std::new(LazyFile::new(rt, new));
     upgrade_engine(rt.alloc(), &mut image, &mut out).map(|_| DONE)
 }
