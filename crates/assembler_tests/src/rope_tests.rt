@@ -6,7 +6,7 @@ use rope::{Rope, RopeFault, Version};
 use space::numbers::{Bank, Offset};
 use std::alloc::{AllocError, Global};
 use words::faulty::{FaultyReader, FaultyWriter, Trouble};
-use words::{Buffer, Word};
+use words::{Buffer, Read, Word};
 
 // A rope with the words of five plus five from bank 2, offset 0.
 fn five_plus_five(alloc: Global) -> Result<Rope, RopeFault> {
@@ -195,6 +195,35 @@ fn first_fault_of_a_reader_is_told(rt: HostRuntime) {
             );
         }
     }
+}
+
+#[test]
+fn bytes_after_wrong_ones_are_not_read(rt: HostRuntime) -> Result<(), AllocError> {
+    for (version, low, wrong) in [(Version::One, 0, 1), (Version::Two, 1, 0)] {
+        for at in [1, 3, 1_025, 2_047, 2_049, 40_961, 73_727] {
+            let mut bytes = image_of_zeros(rt.alloc(), low, 73_729)?;
+            bytes[at] = wrong;
+            let mut reader = bytes.as_slice();
+            let read = Rope::read(rt.alloc(), &mut reader, version);
+            let fault = match version {
+                Version::One => RopeFault::LowBit(at as u32),
+                Version::Two => RopeFault::BadParity(at as u32),
+            };
+            assert!(rt; matches!(read, Err(told) if told == fault), "at {at}");
+            assert_eq!(rt; reader, &bytes[at + 1..], "at {at}");
+        }
+    }
+    for (version, bytes) in [
+        (Version::One, [0, 0, 0, 1, 7, 9]),
+        (Version::Two, [0, 1, 1, 1, 7, 9]),
+    ] {
+        let mut reader = FaultyReader::new(&bytes, None);
+        assert!(rt; Rope::read(rt.alloc(), &mut reader, version).is_err());
+        let mut next = [0];
+        assert!(rt; matches!(reader.read(&mut next), Ok(1)));
+        assert_eq!(rt; next[0], 7);
+    }
+    Ok(())
 }
 
 #[test]
