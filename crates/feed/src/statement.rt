@@ -44,6 +44,7 @@ pub enum Statement {
 ///
 /// `BadLine` for any other line, one without a field included; `WrongCounter` where the counter does not take the
 /// sequence. Nothing here takes memory.
+#[tactic(auto, unfolding(crate::specs::Statements::parsed))]
 pub fn parse_line(line: &[u8]) -> Result<(u64, Input), LineFault>
     ensures { result ≡ parsed line.now }
 {
@@ -57,6 +58,7 @@ pub fn parse_line(line: &[u8]) -> Result<(u64, Input), LineFault>
 }
 
 /// What a line says.
+#[tactic(auto, unfolding(crate::specs::Statements::statement_of))]
 pub(crate) fn statement_of(line: &[u8]) -> Statement
     ensures value { result ≡ statement_of line.now }
     ensures rule { HasRule result }
