@@ -133,6 +133,39 @@ fn empty_lines_of_feeds_give_nothing(rt: HostRuntime) {
     );
 }
 
+const SERIES: &[u8] = b"EVERY 9 1 1 2 RUPT 3\n";
+
+// So many series, after a line that says nothing.
+fn series(alloc: Global, count: usize) -> Result<Vec<u8>, AllocError> {
+    let mut text = Vec::new(alloc);
+    text.extend_from_slice(b"# series\n")?;
+    for _ in 0..count {
+        text.extend_from_slice(SERIES)?;
+    }
+    Ok(text)
+}
+
+#[test]
+fn seventeenth_series_is_refused(rt: HostRuntime) {
+    let most = series(rt.alloc(), 16).expect(&rt, "memory");
+    let more = series(rt.alloc(), 17).expect(&rt, "memory");
+    let mut out = Buffer::new(rt.alloc());
+    assert!(rt; run(rt.alloc(), FIVE_PLUS_FIVE, &most, 4, &mut out).is_ok());
+    assert_eq!(rt; out.as_slice(), ONE_LINE);
+    let mut out = Buffer::new(rt.alloc());
+    let told = run(rt.alloc(), FIVE_PLUS_FIVE, &more, 4, &mut out);
+    assert_eq!(rt;
+        told,
+        Err(WorkshopFault::Feed(FeedFault::TooManySeries(18)))
+    );
+    assert_eq!(rt; out.as_slice(), b"".as_slice());
+    if let Err(fault) = told {
+        let mut errors = Buffer::new(rt.alloc());
+        assert_eq!(rt; report(&fault, &mut errors), Ok(1));
+        assert_eq!(rt; errors.as_slice(), b"agcws: E35 LINE 18\n".as_slice());
+    }
+}
+
 fn line_feeds(alloc: Global, count: usize) -> Result<Vec<u8>, AllocError> {
     vec![in alloc; b'\n'; count]
 }
