@@ -1,8 +1,8 @@
 -- The requests that flags stand for.
-use Rattle.std.proofs.Common.{◌≡◌, ℕ, zero, suc, ◌+◌, ◌-◌, ◌≤◌, ◌≢◌, Bool, true, false, cond, ◌&&◌, ◌||◌, not, eqb, ltb, leb, List, ◌∷◌, filter, find, Some, get_or, set, length, refl, sym, ap, ◌∙◌, arith, slice_index_or, ⊎_elim}
+use Rattle.std.proofs.Common.{◌≡◌, ℕ, zero, suc, ◌+◌, ◌-◌, ◌≤◌, ◌≢◌, Bool, true, false, cond, ◌&&◌, ◌||◌, not, eqb, ltb, leb, List, ◌∷◌, filter, find, Some, get_or, set, length, replicate, None, refl, sym, ap, ◌∙◌, arith, slice_index_or, ⊎_elim}
 use Rattle.std.proofs.lemmas.Bool.Decides.{nat_tests}
-use Rattle.std.proofs.lemmas.Bool.{both_ways, cases_eq}
-use Rattle.std.proofs.lemmas.List.{get_or-set_same, get_or-set_other}
+use Rattle.std.proofs.lemmas.Bool.{both_ways, cases_eq, cases_lt}
+use Rattle.std.proofs.lemmas.List.{get_or-set_same, get_or-set_other, get_or-replicate, get_or_past, length-replicate}
 use Rattle.std.specs.List.{range_with_len, list_any}
 use Rattle.std.specs.Prelude.{nat_eq}
 use Rattle.std.specs.Ordering.{nat_cmp, eq_by_cmp}
@@ -105,3 +105,15 @@ pub later_in : (flags : List Bool) (s : FinSet nat_cmp) (k : ℕ) → requests_o
     → find (λ j. contains s j) (range_with_len (k + 1) (11 - (k + 1))) ≡ find (λ j. contains s j) (range_with_len k (11 - k))
 later_in flags s k v high e =
     ap (λ t. find (λ j. contains t j) (range_with_len (k + 1) (11 - (k + 1)))) (sym v) ∙ sym (least_later flags k high e) ∙ ap (λ t. find (λ j. contains t j) (range_with_len k (11 - k))) v
+
+-- where no flag is set, nothing is asked for
+unset : (n q : ℕ) → get_or (replicate n false) q false ≡ false
+unset n q = ⊎_elim (λ lt. get_or-replicate n q false false lt) (λ ge. get_or_past (replicate n false) q false (rw length-replicate ge)) (cases_lt q n)
+
+none_from : (flags : List Bool) → ((q : ℕ) → get_or flags q false ≡ false) → (n k : ℕ) → find (λ j. contains (requests_of flags) j) (range_with_len k n) ≡ None
+none_from flags clear zero k = refl
+none_from flags clear (suc n) k =
+    find_later (contains (requests_of flags)) k (range_with_len (k + 1) n) (flag_false flags k (clear (k - 1))) ∙ none_from flags clear n (k + 1)
+
+pub none_asked : find (λ j. contains (requests_of (replicate 10 false)) j) (range_with_len 1 10) ≡ None
+none_asked = none_from (replicate 10 false) (unset 10) 10 1

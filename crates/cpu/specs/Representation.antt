@@ -1,5 +1,5 @@
 -- How a machine holds its state.
-use Rattle.std.specs.Prelude.{ℕ, ◌-◌, ◌<◌, ◌^◌, slice_index, Bool, false, List, Option, refl, filter, slice_index_or}
+use Rattle.std.specs.Prelude.{ℕ, ◌-◌, ◌<◌, ◌^◌, ◌≡◌, slice_index, Bool, false, List, Option, None, refl, filter, find, slice_index_or}
 use Rattle.std.specs.List.{range_with_len}
 use Rattle.std.specs.Ordering.{nat_cmp}
 use Rattle.std.specs.FinMap as map
@@ -40,3 +40,9 @@ request_count = 10
 -- the interrupts asked for: those whose flag is set, the first being interrupt 1
 unfoldable pub requests_of : List Bool → set.FinSet nat_cmp
 requests_of flags = set.from_list (filter (λ k. slice_index_or flags (k - 1) false) (range_with_len 1 request_count))
+
+-- where a mark is not set, nothing is asked for, and nothing waits
+pub record IsMarked (flags : List Bool) (asks : Bool) (sum word : Option ℕ) (waits : Bool) : Type 0 where
+  pub unasked : asks ≡ false → find (λ k. set.contains (requests_of flags) k) (range_with_len 1 request_count) ≡ None
+  pub no_sum : waits ≡ false → sum ≡ None
+  pub no_word : waits ≡ false → word ≡ None

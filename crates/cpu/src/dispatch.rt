@@ -10,6 +10,7 @@ use crate::instruction::{Code, Instruction};
 const BLOCK: u16 = 0o10000;
 
 /// What a word is, under extracode or not.
+#[inline(always)]
 pub(crate) fn decode(word: u16, extra: bool) -> Code
     requires { word < 2 ^ 15 }
     ensures { result ≡ code_of extra word }
@@ -18,6 +19,7 @@ pub(crate) fn decode(word: u16, extra: bool) -> Code
 }
 
 /// What a word is where extracode is not in force.
+#[inline(always)]
 fn basic(word: u16) -> Code
     requires { word < 2 ^ 15 }
     ensures { result ≡ code_of false word }
@@ -35,6 +37,7 @@ fn basic(word: u16) -> Code
 }
 
 /// What a word of the block 0 is where extracode is not in force.
+#[inline(always)]
 #[tactic(auto, unfolding(crate::specs::Codes::code_of, crate::specs::Codes::basic_rows))]
 fn transfer(word: u16) -> Code
     requires { word < 0o10000 }
@@ -49,6 +52,7 @@ fn transfer(word: u16) -> Code
 }
 
 /// What a word of the block 1 is where extracode is not in force.
+#[inline(always)]
 #[tactic(auto, unfolding(crate::specs::Codes::code_of, crate::specs::Codes::basic_rows))]
 fn count_or_jump(word: u16) -> Code
     requires low { 0o10000 ≤ word }
@@ -63,6 +67,7 @@ fn count_or_jump(word: u16) -> Code
 }
 
 /// What a word of the block 2 is where extracode is not in force.
+#[inline(always)]
 #[tactic(auto, unfolding(crate::specs::Codes::code_of, crate::specs::Codes::basic_rows))]
 fn storage(word: u16) -> Code
     requires low { 0o20000 ≤ word }
@@ -81,6 +86,7 @@ fn storage(word: u16) -> Code
 }
 
 /// What a word of the block 3 is where extracode is not in force.
+#[inline(always)]
 #[tactic(auto, unfolding(crate::specs::Codes::code_of, crate::specs::Codes::basic_rows))]
 fn clear_and_add(word: u16) -> Code
     requires low { 0o30000 ≤ word }
@@ -91,6 +97,7 @@ fn clear_and_add(word: u16) -> Code
 }
 
 /// What a word of the block 4 is where extracode is not in force.
+#[inline(always)]
 #[tactic(auto, unfolding(crate::specs::Codes::code_of, crate::specs::Codes::basic_rows))]
 fn clear_and_subtract(word: u16) -> Code
     requires low { 0o40000 ≤ word }
@@ -101,6 +108,7 @@ fn clear_and_subtract(word: u16) -> Code
 }
 
 /// What a word of the block 5 is where extracode is not in force.
+#[inline(always)]
 #[tactic(auto, unfolding(crate::specs::Codes::code_of, crate::specs::Codes::basic_rows))]
 fn index_or_exchange(word: u16) -> Code
     requires low { 0o50000 ≤ word }
@@ -121,6 +129,7 @@ fn index_or_exchange(word: u16) -> Code
 }
 
 /// What a word of the block 6 is where extracode is not in force.
+#[inline(always)]
 #[tactic(auto, unfolding(crate::specs::Codes::code_of, crate::specs::Codes::basic_rows))]
 fn add(word: u16) -> Code
     requires low { 0o60000 ≤ word }
@@ -131,6 +140,7 @@ fn add(word: u16) -> Code
 }
 
 /// What a word of the block 7 is where extracode is not in force.
+#[inline(always)]
 #[tactic(auto, unfolding(crate::specs::Codes::code_of, crate::specs::Codes::basic_rows))]
 fn mask(word: u16) -> Code
     requires low { 0o70000 ≤ word }
@@ -141,6 +151,7 @@ fn mask(word: u16) -> Code
 }
 
 /// What a word is under extracode.
+#[inline(always)]
 fn extracode(word: u16) -> Code
     requires { word < 2 ^ 15 }
     ensures { result ≡ code_of true word }
@@ -157,6 +168,7 @@ fn extracode(word: u16) -> Code
 }
 
 /// What a word of the block 0 is under extracode.
+#[inline(always)]
 #[tactic(auto, unfolding(crate::specs::Codes::code_of, crate::specs::Codes::extracode_rows))]
 fn on_channel(word: u16) -> Code
     requires { word < 0o10000 }
@@ -183,6 +195,7 @@ fn on_channel(word: u16) -> Code
 }
 
 /// What a word of the block 1 is under extracode.
+#[inline(always)]
 #[tactic(auto, unfolding(crate::specs::Codes::code_of, crate::specs::Codes::extracode_rows))]
 fn divide_or_branch(word: u16) -> Code
     requires low { 0o10000 ≤ word }
@@ -197,6 +210,7 @@ fn divide_or_branch(word: u16) -> Code
 }
 
 /// What a word of the block 2 is under extracode.
+#[inline(always)]
 #[tactic(auto, unfolding(crate::specs::Codes::code_of, crate::specs::Codes::extracode_rows))]
 fn exchange_or_count(word: u16) -> Code
     requires low { 0o20000 ≤ word }
@@ -215,6 +229,7 @@ fn exchange_or_count(word: u16) -> Code
 }
 
 /// What a word of the blocks 3 and 4 is under extracode.
+#[inline(always)]
 #[tactic(auto, unfolding(crate::specs::Codes::code_of, crate::specs::Codes::extracode_rows))]
 fn double_clear(word: u16) -> Code
     requires low { 0o30000 ≤ word }
@@ -229,6 +244,7 @@ fn double_clear(word: u16) -> Code
 }
 
 /// What a word of the block 5 is under extracode.
+#[inline(always)]
 #[tactic(auto, unfolding(crate::specs::Codes::code_of, crate::specs::Codes::extracode_rows))]
 fn index(word: u16) -> Code
     requires low { 0o50000 ≤ word }
@@ -239,6 +255,7 @@ fn index(word: u16) -> Code
 }
 
 /// What a word of the block 6 is under extracode.
+#[inline(always)]
 #[tactic(auto, unfolding(crate::specs::Codes::code_of, crate::specs::Codes::extracode_rows))]
 fn subtract_or_branch(word: u16) -> Code
     requires low { 0o60000 ≤ word }
@@ -253,6 +270,7 @@ fn subtract_or_branch(word: u16) -> Code
 }
 
 /// What a word of the block 7 is under extracode.
+#[inline(always)]
 #[tactic(auto, unfolding(crate::specs::Codes::code_of, crate::specs::Codes::extracode_rows))]
 fn multiply(word: u16) -> Code
     requires low { 0o70000 ≤ word }
@@ -262,6 +280,7 @@ fn multiply(word: u16) -> Code
     code(Instruction::Mp(address_of_word(word)), 3)
 }
 
+#[inline(always)]
 fn code(instruction: Instruction, cycles: u8) -> Code
     ensures { result ≡ record { instruction = instruction; cycles = cycles; jump_cycles = cycles } }
 {
@@ -273,6 +292,7 @@ fn code(instruction: Instruction, cycles: u8) -> Code
 }
 
 /// A branch, which is shorter where it jumps.
+#[inline(always)]
 fn jump(instruction: Instruction) -> Code
     ensures { result ≡ record { instruction = instruction; cycles = 2; jump_cycles = 1 } }
 {

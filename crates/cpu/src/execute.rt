@@ -11,6 +11,7 @@ use crate::output::Output;
 use feed::request::Request;
 use rope::Rope;
 use space::numbers::{Chan, Eras};
+use space::resolve::{FIRST_FIXED, resolve_fixed};
 use words::{Overflow, Wide, Word};
 
 /// The cycles that the entry of an interrupt takes.
@@ -18,7 +19,23 @@ const ENTRY_CYCLES: u64 = 3;
 
 impl Machine {
     /// The word at Z.
+    #[inline(always)]
+    #[tactic(auto, unfolding(crate::specs::Effects::place_in, crate::specs::Effects::value_at))]
     fn word_at_z(&self, rope: &Rope) -> Word
+        ensures { result ≡ word_at_z rope.now self.now }
+    {
+        let address = self.next_address();
+        if address.number() >= FIRST_FIXED {
+            let (bank, offset) = resolve_fixed(address);
+            rope.word(bank, offset)
+        } else {
+            self.word_in_window(rope)
+        }
+    }
+
+    /// The word at Z, where the bank registers count.
+    #[inline(never)]
+    fn word_in_window(&self, rope: &Rope) -> Word
         ensures { result ≡ word_at_z rope.now self.now }
     {
         self.word_at(rope, &self.next_place())
@@ -58,16 +75,44 @@ impl Machine {
         self.use_up();
     }
 
+    /// Fetches the word that is executed.
+    #[inline(always)]
+    #[tactic(auto, unfolding(crate::specs::Next::instruction_word, crate::specs::Next::fetched))]
+    fn fetch(&mut self, rope: &Rope) -> Word
+        ensures word { result ≡ instruction_word rope.now self.old }
+        ensures state { self.new ≡ fetched self.old }
+    {
+        if self.waits() {
+            self.fetch_with_waiting(rope)
+        } else {
+            let word = self.word_at_z(rope);
+            let following = self.following_address();
+            self.put(Eras::Z, following);
+            word
+        }
+    }
+
+    /// Fetches the word that is executed, where a sum or a word may wait.
+    #[inline(never)]
+    fn fetch_with_waiting(&mut self, rope: &Rope) -> Word
+        ensures word { result ≡ instruction_word rope.now self.old }
+        ensures state { self.new ≡ fetched self.old }
+    {
+        let word = self.instruction_word(rope);
+        self.advance();
+        word
+    }
+
     /// Executes one instruction.
+    #[inline(always)]
     #[tactic(auto, unfolding(crate::specs::Next::execute, crate::specs::Next::executed, crate::specs::Next::fetched))]
     pub(crate) fn execute(&mut self, rope: &Rope) -> Option<Output>
         requires { self.old.cycles ≤ most_cycles }
         ensures state { self.new ≡ (execute rope.now self.old).0 }
         ensures output { result ≡ (execute rope.now self.old).1 }
     {
-        let word = self.instruction_word(rope).to_u16();
+        let word = self.fetch(rope).to_u16();
         let extra = self.extra();
-        self.advance();
         let code = decode(word, extra);
         let cycles = self.cycles() + u64::from(self.cycles_of(&code));
         self.perform(rope, &code.instruction);
@@ -76,6 +121,7 @@ impl Machine {
     }
 
     /// The effect of an instruction.
+    #[inline(always)]
     #[tactic(auto, unfolding(crate::specs::Effects::after))]
     fn perform(&mut self, rope: &Rope, instruction: &Instruction)
         ensures { self.new ≡ after rope.now self.old instruction.now }
@@ -145,8 +191,22 @@ impl Machine {
     }
 
     /// The interrupt that is entered now.
+    #[inline(always)]
     #[tactic(auto, unfolding(crate::specs::Next::entry))]
     pub(crate) fn entry(&self) -> Option<Request>
+        ensures { result ≡ entry self.now }
+    {
+        if self.asks() {
+            self.entry_of_asked()
+        } else {
+            None
+        }
+    }
+
+    /// The interrupt that is entered now, where one may be asked for.
+    #[inline(never)]
+    #[tactic(auto, unfolding(crate::specs::Next::entry))]
+    fn entry_of_asked(&self) -> Option<Request>
         ensures { result ≡ entry self.now }
     {
         if self.inhibit() || self.inside() || self.extra() {
@@ -162,6 +222,7 @@ impl Machine {
     }
 
     /// Enters an interrupt.
+    #[inline(never)]
     #[tactic(auto, unfolding(crate::specs::Next::entered))]
     pub(crate) fn enter(&mut self, rope: &Rope, request: Request)
         requires { self.old.cycles ≤ most_cycles }

@@ -36,7 +36,7 @@ impl Machine {
         ensures { self.new ≡ changes self.old (ccs rope.now self.old address) }
     {
         let place = self.place(address.widen());
-        let count = self.value_at(rope, &place);
+        let count = self.operand(rope, address.widen());
         let next = self.next_address().number() + ccs_skip(count);
         self.put(Eras::A, count.dabs());
         self.put(Eras::Z, Wide::of_u16(next));
@@ -57,7 +57,7 @@ impl Machine {
         ensures { self.new ≡ changes self.old (ca rope.now self.old address) }
     {
         let place = self.place(address);
-        let value = self.value_at(rope, &place);
+        let value = self.operand(rope, address);
         self.put(Eras::A, value);
         self.edit(&place, value);
     }
@@ -68,7 +68,7 @@ impl Machine {
         ensures { self.new ≡ changes self.old (cs rope.now self.old address) }
     {
         let place = self.place(address);
-        let operand = self.value_at(rope, &place);
+        let operand = self.operand(rope, address);
         self.put(Eras::A, operand.neg());
         self.edit(&place, operand);
     }
@@ -79,7 +79,7 @@ impl Machine {
         ensures { self.new ≡ changes self.old (ad rope.now self.old address) }
     {
         let place = self.place(address);
-        let addend = self.value_at(rope, &place);
+        let addend = self.operand(rope, address);
         let sum = self.reg(Eras::A).add(addend);
         self.put(Eras::A, sum);
         self.edit(&place, addend);
@@ -91,7 +91,7 @@ impl Machine {
         ensures { self.new ≡ changes self.old (su rope.now self.old address) }
     {
         let place = self.place(address.widen());
-        let subtrahend = self.value_at(rope, &place);
+        let subtrahend = self.operand(rope, address.widen());
         let difference = self.reg(Eras::A).add(subtrahend.neg());
         self.put(Eras::A, difference);
         self.edit(&place, subtrahend);
@@ -103,7 +103,7 @@ impl Machine {
         ensures { self.new ≡ changes self.old (mask rope.now self.old address) }
     {
         let place = self.place(address);
-        let mask = self.value_at(rope, &place);
+        let mask = self.operand(rope, address);
         let masked = and(is_whole(&place), self.reg(Eras::A), mask);
         self.put(Eras::A, masked);
         self.edit(&place, mask);
@@ -281,7 +281,7 @@ impl Machine {
         ensures { self.new ≡ changes self.old (index rope.now self.old address) }
     {
         let place = self.place(address);
-        let increment = self.value_at(rope, &place);
+        let increment = self.operand(rope, address);
         self.wait_with_sum(increment);
         self.edit(&place, increment);
     }
@@ -292,7 +292,7 @@ impl Machine {
         ensures { self.new ≡ changes self.old (mp rope.now self.old address) }
     {
         let place = self.place(address);
-        let multiplier = self.value_at(rope, &place);
+        let multiplier = self.operand(rope, address);
         let product = self.word(Eras::A).mul(multiplier.correct());
         self.put(Eras::A, product.high.extend());
         self.put(Eras::L, product.low.extend());
@@ -305,7 +305,7 @@ impl Machine {
         ensures { self.new ≡ changes self.old (dv rope.now self.old address) }
     {
         let place = self.place(address.widen());
-        let divisor = self.value_at(rope, &place);
+        let divisor = self.operand(rope, address.widen());
         let quotient = div(self.word(Eras::A), self.word(Eras::L), divisor.correct());
         self.put(Eras::A, quotient.quotient.extend());
         self.put(Eras::L, quotient.remainder.extend());
@@ -318,7 +318,7 @@ impl Machine {
         ensures { self.new ≡ changes self.old (msu rope.now self.old address) }
     {
         let place = self.place(address.widen());
-        let other = self.value_at(rope, &place);
+        let other = self.operand(rope, address.widen());
         let difference = self.word(Eras::A).modular_sub(other.correct());
         self.put(Eras::A, difference.extend());
         self.edit(&place, other);

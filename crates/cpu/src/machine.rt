@@ -5,20 +5,20 @@ ghost use Rattle.space.specs.Cells.{get, get_channel};
 ghost use Rattle.space.specs.Places.{IsErasable};
 ghost use Rattle.cpu.specs.State.{Scenario, start, FitsRun};
 ghost use Rattle.cpu.specs.Representation.{HasRoom};
-ghost use Rattle.cpu.specs.Effects.{change, changes, next_address, place_in, erasable_in, value_at, edits};
+ghost use Rattle.cpu.specs.Effects.{change, changes, next_address, place_in, erasable_in, value_at, operand, edits};
 ghost use Rattle.cpu.specs.Effects.Change.{AtPlace, OnChannel, Inhibits, Serves, WaitsWithSum, WaitsWithWord};
 ghost use Rattle.cpu.specs.Next.{least_request};
 ghost use Rattle.std.specs.FinSet.{insert, remove};
 ghost use Rattle.words.specs.Numbers.{correct};
 ghost use Rattle.feed.specs.Fits.{counts_after};
 
-use crate::address::{Addr10, address};
+use crate::address::Addr10;
 use feed::MOST_SERIES;
 use feed::request::Request;
 use rope::Rope;
 use space::numbers::{Addr12, Chan, Eras};
 use space::place::Linear;
-use space::resolve::resolve;
+use space::resolve::{FIRST_FIXED, FIRST_IN_WINDOW, resolve, resolve_fixed, resolve_unbanked};
 use space::store::Store;
 use std::marker::Model;
 use words::{Wide, Word};
@@ -39,6 +39,8 @@ pub struct Machine {
     waiting_sum: Option<Wide>,
     waiting_word: Option<Word>,
     requests: [bool; REQUESTS],
+    asks: bool,
+    waits: bool,
     taken: usize,
     counts: [u32; MOST_SERIES],
     cycles: u64,
@@ -46,13 +48,15 @@ pub struct Machine {
 
 impl Model for Machine {
     ghost use Rattle.cpu.specs.State.{State};
-    ghost use Rattle.cpu.specs.Representation.{state_code, requests_of};
+    ghost use Rattle.cpu.specs.Representation.{state_code, requests_of, IsMarked};
 
     ghost Value = { State };
 
     ghost coded = { state_code };
 
     ghost view = { λ m. record { cells = m.store; extra = m.extra; inhibit = m.inhibit; inside = m.inside; waiting_sum = m.waiting_sum; waiting_word = m.waiting_word; requests = requests_of m.requests; taken = m.taken; counts = m.counts; cycles = m.cycles } };
+
+    ghost invariant = { λ m. IsMarked m.requests m.asks m.waiting_sum m.waiting_word m.waits };
 }
 
 impl Machine {
@@ -72,6 +76,8 @@ impl Machine {
             waiting_sum: None,
             waiting_word: None,
             requests: [false; REQUESTS],
+            asks: false,
+            waits: false,
             taken: 0,
             counts: [0; MOST_SERIES],
             cycles: 0,
@@ -89,6 +95,8 @@ impl Machine {
         other.waiting_sum = self.waiting_sum;
         other.waiting_word = self.waiting_word;
         other.requests.copy_from_slice(&self.requests);
+        other.asks = self.asks;
+        other.waits = self.waits;
         other.taken = self.taken;
         other.counts.copy_from_slice(&self.counts);
         other.cycles = self.cycles;
@@ -140,7 +148,7 @@ impl Machine {
     pub(crate) fn next_address(&self) -> Addr12
         ensures { result ≡ next_address self.now }
     {
-        address(self.store.read(Eras::Z).to_u16())
+        self.store.next_address()
     }
 
     /// Whether extracode is in force.
@@ -192,11 +200,20 @@ impl Machine {
         self.waiting_word
     }
 
+    /// Whether a sum or a word may wait.
+    pub(crate) fn waits(&self) -> bool
+        ensures sum { result ≡ false → self.now.waiting_sum ≡ None }
+        ensures word { result ≡ false → self.now.waiting_word ≡ None }
+    {
+        self.waits
+    }
+
     /// Keeps a sum for the next instruction.
     pub(crate) fn wait_with_sum(&mut self, value: Wide)
         ensures { self.new ≡ change self.old (WaitsWithSum value) }
     {
         self.waiting_sum = Some(value);
+        self.waits = true;
     }
 
     /// Keeps a word to be executed.
@@ -204,6 +221,7 @@ impl Machine {
         ensures { self.new ≡ change self.old (WaitsWithWord word) }
     {
         self.waiting_word = Some(word);
+        self.waits = true;
     }
 
     /// Inhibits interrupts, or allows them.
@@ -224,6 +242,9 @@ impl Machine {
     pub(crate) fn least_request(&self) -> Option<Request>
         ensures { result ≡ least_request self.now.requests }
     {
+        if !self.asks {
+            return None;
+        }
         for number in 1..11u8 {
             if self.requests[usize::from(number) - 1] {
                 return Some(Request::new(number));
@@ -232,11 +253,19 @@ impl Machine {
         None
     }
 
+    /// Whether an interrupt may be asked for.
+    pub(crate) fn asks(&self) -> bool
+        ensures { result ≡ false → least_request self.now.requests ≡ None }
+    {
+        self.asks
+    }
+
     /// An interrupt is asked for.
     pub(crate) fn ask(&mut self, request: Request)
         ensures { self.new ≡ record self.old { requests = insert self.old.requests request } }
     {
         self.requests[request.index()] = true;
+        self.asks = true;
     }
 
     /// An interrupt is no longer asked for.
@@ -244,6 +273,8 @@ impl Machine {
         ensures { self.new ≡ record self.old { requests = remove self.old.requests request } }
     {
         self.requests[request.index()] = false;
+        self.asks = true;
+        self.asks = self.least_request().is_some();
     }
 
     /// How many inputs were taken.
@@ -287,6 +318,7 @@ impl Machine {
     {
         self.waiting_sum = None;
         self.waiting_word = None;
+        self.waits = false;
     }
 
     /// Ends an instruction: whether extracode is in force for the next one, and the cycles.
@@ -307,13 +339,42 @@ impl Machine {
     }
 
     /// The erasable place to which an address of 10 bits leads.
-    #[tactic(auto, unfolding(crate::specs::Effects::erasable_in))]
+    #[inline(always)]
+    #[tactic(auto, unfolding(crate::specs::Effects::erasable_in, crate::specs::Effects::place_in))]
     pub(crate) fn erasable(&self, address: Addr10) -> Eras
+        ensures { result ≡ erasable_in self.now address }
+    {
+        if address.number() < FIRST_IN_WINDOW {
+            resolve_unbanked(address.widen())
+        } else {
+            self.erasable_in_window(address)
+        }
+    }
+
+    /// The erasable place to which an address leads, where the erasable bank counts.
+    #[tactic(auto, unfolding(crate::specs::Effects::erasable_in))]
+    fn erasable_in_window(&self, address: Addr10) -> Eras
         ensures { result ≡ erasable_in self.now address }
     {
         match self.place(address.widen()) {
             Linear::Erasable(place) => place,
             Linear::Fixed(_, _) => unreachable!(),
+        }
+    }
+
+    /// What is read at an address.
+    #[inline(always)]
+    #[tactic(auto, unfolding(crate::specs::Effects::place_in, crate::specs::Effects::value_at))]
+    pub(crate) fn operand(&self, rope: &Rope, address: Addr12) -> Wide
+        ensures { result ≡ operand rope.now self.now address }
+    {
+        if address.number() >= FIRST_FIXED {
+            let (bank, offset) = resolve_fixed(address);
+            rope.word(bank, offset).extend()
+        } else if address.number() < FIRST_IN_WINDOW {
+            self.reg(resolve_unbanked(address))
+        } else {
+            self.value_at(rope, &self.place(address))
         }
     }
 
@@ -368,17 +429,19 @@ mod tests {
             waiting_sum,
             waiting_word,
             requests,
+            asks,
+            waits,
             taken,
             counts,
             cycles,
         } = &machine;
         let _: &Store = store;
-        let flags: [&bool; 3] = [extra, inhibit, inside];
+        let flags: [&bool; 5] = [extra, inhibit, inside, asks, waits];
         let waiting: (&Option<Wide>, &Option<Word>) = (waiting_sum, waiting_word);
         let _: &[bool; 10] = requests;
         let _: &[u32; 16] = counts;
         let numbers: (&usize, &u64) = (taken, cycles);
-        assert_eq!(rt; flags.len(), 3);
+        assert_eq!(rt; flags.len(), 5);
         assert!(rt; waiting.0.is_none());
         assert_eq!(rt; *numbers.0, 0);
     }

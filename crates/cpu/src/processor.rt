@@ -55,6 +55,7 @@ impl Processor {
     /// executes an instruction. The meter counts the step, but stays at its greatest value. A machine with more than 2^62
     /// cycles stays as it is: no run of fewer than 2^59 steps from the start leads there. Of a machine that does not fit what
     /// runs, as one from another processor, no state is told.
+    #[inline(always)]
     #[tactic(auto, unfolding(crate::specs::Next::next))]
     pub fn step(&mut self, machine: &mut Machine) -> Option<Output>
         ensures meter { self.new ≡ record self.old { meter = min (self.old.meter + 1) (2 ^ 128 - 1) } }

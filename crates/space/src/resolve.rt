@@ -1,10 +1,13 @@
 //! From addresses to places and back.
 
-ghost use Rattle.std.specs.Prelude.{◌≡◌, ◌<◌};
+ghost use Rattle.std.specs.Prelude.{◌≡◌, ◌<◌, ◌≤◌, ℕ, Bool};
 ghost use Rattle.space.specs.Places.{place, window, eb_of, fb_of, sup_of, IsErasable};
 
 use crate::numbers::{Addr12, Bank, Eras, Offset};
 use crate::place::{Banks, Linear};
+
+/// The first address that leads to bank 2 or 3 whatever the bank registers hold.
+pub const FIRST_FIXED: u16 = 0o4000;
 
 /// The place to which an address leads under the bank registers. An address below 02000 leads to
 /// an erasable place.
@@ -16,20 +19,40 @@ pub fn resolve(address: Addr12, banks: Banks) -> Linear
     let address = address.number();
     if address < 0o1400 {
         Linear::Erasable(Eras::new(address))
+    } else if address >= FIRST_FIXED {
+        Linear::Fixed(Bank::new(address / 0o2000), Offset::new(address % 0o2000))
     } else if address < 0o2000 {
         Linear::Erasable(Eras::new(banks.eb * 0o400 + (address - 0o1400)))
-    } else if address < 0o4000 {
+    } else {
         let bank = if banks.sup && banks.fb >= 0o30 {
             banks.fb + 0o10
         } else {
             banks.fb
         };
         Linear::Fixed(Bank::new(bank), Offset::new(address - 0o2000))
-    } else if address < 0o6000 {
-        Linear::Fixed(Bank::new(2), Offset::new(address - 0o4000))
-    } else {
-        Linear::Fixed(Bank::new(3), Offset::new(address - 0o6000))
     }
+}
+
+/// The bank and the offset to which an address leads that needs no bank register.
+#[tactic(auto, unfolding(crate::specs::Places::place))]
+pub fn resolve_fixed(address: Addr12) -> (Bank, Offset)
+    requires { 0o4000 ≤ address }
+    ensures { (eb fb : ℕ) (sup : Bool) → place address eb fb sup ≡ Linear.Fixed result.0 result.1 }
+{
+    let within = address.number() % 0o4000;
+    (Bank::new(2 + within / 0o2000), Offset::new(within % 0o2000))
+}
+
+/// The first address whose place the erasable bank selects.
+pub const FIRST_IN_WINDOW: u16 = 0o1400;
+
+/// The erasable place to which an address leads that needs no bank register.
+#[tactic(auto, unfolding(crate::specs::Places::place))]
+pub fn resolve_unbanked(address: Addr12) -> Eras
+    requires { address < 0o1400 }
+    ensures { (eb fb : ℕ) (sup : Bool) → place address eb fb sup ≡ Linear.Erasable result }
+{
+    Eras::new(address.number())
 }
 
 /// The address at which a program reaches a place, once the bank registers are set for it.

@@ -1,17 +1,21 @@
 //! The cells of the registers, erasable memory and the channels.
 
-ghost use Rattle.std.specs.Prelude.{◌≡◌, ℕ, ◌<◌, ◌≢◌, length, take, drop, slice_index, replicate, not, ◌==◌};
-ghost use Rattle.space.specs.Cells.{at, word_at, get, put, get_channel, put_channel, kept, zero_cells, changed_places, superbank, accumulator, return_address, erasable_bank, fixed_bank, program_counter, both_banks, always_zero, lower_accumulator_channel, return_address_channel, channel_cell, erasable_count, channel_count};
-ghost use Rattle.space.specs.Stored.{cell_limit};
+ghost use Rattle.std.specs.Prelude.{◌≡◌, ℕ, ◌<◌, ◌≤◌, ◌≢◌, length, take, drop, slice_index, replicate, not, ◌==◌};
+ghost use Rattle.space.specs.Cells.{at, word_at, get, put, get_channel, put_channel, kept, kept_of_word, zero_cells, changed_places, superbank, accumulator, return_address, erasable_bank, fixed_bank, program_counter, both_banks, always_zero, lower_accumulator_channel, return_address_channel, channel_cell, erasable_count, channel_count};
+ghost use Rattle.space.specs.Stored.{cell_limit, register_count};
+ghost use Rattle.words.specs.Numbers.{extend};
 ghost use Rattle.std.specs.FinMap.{insert};
 
-use crate::numbers::{Chan, Eras};
+use crate::numbers::{Addr12, Chan, Eras};
 use crate::place::Banks;
 use std::marker::Model;
 use words::{Wide, Word};
 
 /// The bits that the superbank channel keeps.
 const SUPERBANK_MASK: u16 = 0o160;
+
+/// How many places are registers: the first.
+const REGISTERS: u16 = 8;
 
 /// The superbank bit in its channel.
 const SUPERBANK_BIT: u16 = 0o100;
@@ -64,16 +68,19 @@ impl Store {
         ensures value { result ≡ get self.now place }
         ensures address { place ≡ program_counter → result < 0o10000 }
     {
-        if place == Eras::A || place == Eras::Q {
+        if place.number() >= REGISTERS {
+            self.reading(place)
+        } else if place == Eras::A || place == Eras::Q {
             Wide::of_u16(self.held(place))
         } else {
             self.word(place).extend()
         }
     }
 
-    /// The word at an erasable place other than A and Q.
+    /// The word of a register other than A and Q.
     #[tactic(auto, unfolding(crate::specs::Stored::cell_limit))]
     fn word(&self, place: Eras) -> Word
+        requires register { place < register_count }
         requires accumulator { place ≢ accumulator }
         requires return_address { place ≢ return_address }
         ensures value { result ≡ word_at self.now place }
@@ -92,12 +99,40 @@ impl Store {
         }
     }
 
+    /// Z.
+    #[tactic(auto, unfolding(crate::specs::Cells::get, crate::specs::Stored::cell_limit))]
+    pub fn next_address(&self) -> Addr12
+        ensures { result ≡ get self.now program_counter }
+    {
+        Addr12::new(self.held(Eras::Z))
+    }
+
     /// Stores at an erasable place.
-    #[tactic(auto, unfolding(crate::specs::Cells::put, crate::specs::Stored::cell_limit))]
+    #[inline(always)]
+    #[tactic(auto, unfolding(crate::specs::Cells::put, crate::specs::Cells::kept, crate::specs::Stored::cell_limit))]
     pub fn write(&mut self, place: Eras, value: Wide)
         ensures { self.new ≡ put self.old place value }
     {
-        if place == Eras::BB {
+        if place.number() > Eras::EDOP.number() {
+            self.keep(place, value.correct());
+        } else if place == Eras::A || place == Eras::Q {
+            self.hold(place, value.to_u16());
+        } else if place == Eras::Z {
+            self.hold(place, value.correct().to_u16() % 0o10000);
+        } else {
+            self.write_with_edit(place, value);
+        }
+    }
+
+    /// Stores at an erasable place that may be a register or edit.
+    #[inline(never)]
+    #[tactic(auto, unfolding(crate::specs::Cells::put, crate::specs::Cells::kept, crate::specs::Stored::cell_limit))]
+    fn write_with_edit(&mut self, place: Eras, value: Wide)
+        ensures { self.new ≡ put self.old place value }
+    {
+        if place.number() >= REGISTERS {
+            self.keep(place, edited(place, value.correct()));
+        } else if place == Eras::BB {
             let word = value.correct().to_u16();
             self.hold(Eras::FB, word / 0o2000);
             self.hold(Eras::EB, word % 0o10);
@@ -158,9 +193,10 @@ impl Store {
         }
     }
 
-    /// The number in the cell of a place.
-    #[tactic(auto, using(crate::proofs::CellLemmas::at_view, crate::proofs::CellLemmas::place_limit))]
+    /// The number in the cell of a register.
+    #[tactic(auto, using(crate::proofs::CellLemmas::register_view, crate::proofs::CellLemmas::register_limit))]
     fn held(&self, place: Eras) -> u16
+        requires register { place < register_count }
         requires both_banks { place ≢ both_banks }
         requires always_zero { place ≢ always_zero }
         ensures value { result ≡ at self.now place }
@@ -169,14 +205,35 @@ impl Store {
         self.erasable[usize::from(place.number())]
     }
 
-    /// Puts a number into the cell of a place.
+    /// Puts a number into the cell of a register.
     fn hold(&mut self, place: Eras, number: u16)
+        requires register { place < register_count }
         requires both_banks { place ≢ both_banks }
         requires always_zero { place ≢ always_zero }
         requires limit { number < cell_limit place }
         ensures { self.new ≡ insert self.old place number }
     {
         set(&mut self.erasable, usize::from(place.number()), number);
+    }
+
+    /// What is read at a place that is no register.
+    fn reading(&self, place: Eras) -> Wide
+        requires { register_count ≤ place }
+        ensures { result ≡ extend (at self.now place) }
+    {
+        Wide::of_u16(self.erasable[usize::from(place.number())])
+    }
+
+    /// Puts a word into the cell of a place that is no register.
+    fn keep(&mut self, place: Eras, word: Word)
+        requires { register_count ≤ place }
+        ensures { self.new ≡ insert self.old place word }
+    {
+        set(
+            &mut self.erasable,
+            usize::from(place.number()),
+            word.extend().to_u16(),
+        );
     }
 
     /// The number in the cell of a channel.
@@ -218,9 +275,10 @@ pub fn changed(one: &Store, other: &Store, places: &mut [u16; 2048]) -> usize
     count
 }
 
-/// What a cell keeps of a wide.
+/// What the cell of a register keeps of a wide.
 #[tactic(auto, unfolding(crate::specs::Cells::kept, crate::specs::Stored::cell_limit))]
 fn kept(place: Eras, value: Wide) -> u16
+    requires { place < register_count }
     ensures value { result ≡ kept place value }
     ensures limit { result < cell_limit place }
 {
@@ -233,16 +291,26 @@ fn kept(place: Eras, value: Wide) -> u16
         word.to_u16() / 0o2000
     } else if place == Eras::Z {
         word.to_u16() % 0o10000
-    } else if place == Eras::CYR {
-        word.cyr().to_u16()
-    } else if place == Eras::SR {
-        word.sr().to_u16()
-    } else if place == Eras::CYL {
-        word.cyl().to_u16()
-    } else if place == Eras::EDOP {
-        word.edop().to_u16()
     } else {
         word.to_u16()
+    }
+}
+
+/// What the cell of a place that is no register keeps of a word.
+fn edited(place: Eras, word: Word) -> Word
+    requires { register_count ≤ place }
+    ensures { result ≡ kept_of_word place word }
+{
+    if place == Eras::CYR {
+        word.cyr()
+    } else if place == Eras::SR {
+        word.sr()
+    } else if place == Eras::CYL {
+        word.cyl()
+    } else if place == Eras::EDOP {
+        word.edop()
+    } else {
+        word
     }
 }
 
