@@ -18,6 +18,7 @@ mod restoring;
 mod searching;
 mod session;
 mod slot_keeper;
+mod stepping;
 mod thinning;
 mod vec_keeper;
 

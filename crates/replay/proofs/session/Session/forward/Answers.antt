@@ -23,14 +23,14 @@ pub invariant_of-self-2 : goal.invariant_of-self-2
 invariant_of-self-2 g c =
     let s = c.self.inside in
     let view : SessionView = record { scenario = s.processor.scenario; meter = s.processor.meter; images = g.K.Keeper.images s.keeper; present = s.present; shown = s.shown; n = s.n } in
-    let same = ap (λ (p : Processing). p.scenario) c.step-output.ensures.meter in
-    let meter = ap (λ (p : Processing). p.meter) c.step-output.ensures.meter in
-    goes_sound view c.step-output.new.machine c.step-output.result c.step-output.new.self.scenario (g.K.Keeper.images c.keep.new.self) (g.K.Keeper.images c.thin.new.keeper) c.step-output.new.self.meter c.self.invariant (omega arith) same (omega (arith, meter)) c.in_ok-keep.ensures.ok c.step-output.ensures.step (g.met.K.Keeper.rising c.thin.new.keeper) c.thin.ensures.stay c.thin.ensures.part
+    let same = ap (λ (p : Processing). p.scenario) c.make_step-output.ensures.meter in
+    let meter = ap (λ (p : Processing). p.meter) c.make_step-output.ensures.meter in
+    goes_sound view c.make_step-output.new.machine c.make_step-output.result c.make_step-output.new.processor.scenario (g.K.Keeper.images c.keep.new.self) (g.K.Keeper.images c.thin.new.keeper) c.make_step-output.new.processor.meter c.self.invariant (omega arith) same (omega (arith, meter)) c.in_ok-keep.ensures.ok c.make_step-output.ensures.step (g.met.K.Keeper.rising c.thin.new.keeper) c.thin.ensures.stay c.thin.ensures.part
 
 pub returns-clause-output : goal.returns-clause-output
 returns-clause-output g c =
     let s = c.self.inside in
-    rw (← c.self.view_is) (puts_out s.processor.scenario s.n s.present c.step-output.new.machine c.step-output.result (omega arith) c.self.invariant.stands.present c.step-output.ensures.step)
+    rw (← c.self.view_is) (puts_out s.processor.scenario s.n s.present c.make_step-output.new.machine c.make_step-output.result (omega arith) c.self.invariant.stands.present c.make_step-output.ensures.step)
 
 pub returns-clause-stands : goal.returns-clause-stands
 returns-clause-stands g c = (invariant_of-self-2 g c).stands
