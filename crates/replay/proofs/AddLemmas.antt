@@ -1,20 +1,20 @@
 -- An input that is added leaves a session as it was, up to its present.
 use Rattle.std.proofs.Common.{◌≡◌, ℕ, ◌<◌, List, get_or, ◌∙◌, sym, ap, arith}
+use Rattle.std.specs.List.{Contains}
 use Rattle.std.proofs.lemmas.List.Elements.{Contains-get_or}
 use Rattle.cpu.specs.State.{State, Scenario, Processing}
 use Rattle.cpu.specs.Run.{run}
 use Rattle.cpu.specs.FeedInput.{Input}
 use Rattle.cpu.specs.Additions.{AddsInput, AreAlikeUpTo}
 use Rattle.replay.specs.Images.{Image, steps}
-use Rattle.replay.specs.Spacing.{Has}
 use Rattle.replay.specs.View.{SessionView, Stands, AreOfRun, IsSound, HasAdded}
-use Rattle.replay.proofs.ImageLemmas.{Has-contained}
+use Rattle.replay.proofs.ImageLemmas.{contains_step}
 
 -- images before step n are of a run that is alike up to there
-of_run_alike : (scenario other : Scenario) (n : ℕ) (images : List Image) → AreOfRun scenario images → ((c : ℕ) → Has (steps images) c → c < n) → AreAlikeUpTo scenario other n → AreOfRun other images
+of_run_alike : (scenario other : Scenario) (n : ℕ) (images : List Image) → AreOfRun scenario images → ((c : ℕ) → Contains (steps images) c → c < n) → AreAlikeUpTo scenario other n → AreOfRun other images
 of_run_alike scenario other n images of_run past alike k d below =
     let i = get_or images k d in
-    let early : i.0 < n = past i.0 (Has-contained images i (Contains-get_or images k d below)) in
+    let early : i.0 < n = past i.0 (contains_step images i (Contains-get_or images k d below)) in
     of_run k d below ∙ sym (alike i.0 (omega arith)).state
 
 stands_alike : (s : SessionView) (other : Scenario) (meter : ℕ) → Stands s → AreAlikeUpTo s.scenario other s.n → Stands (record { scenario = other; meter = meter; images = s.images; present = s.present; shown = s.shown; n = s.n })

@@ -1,16 +1,17 @@
 -- Images are few, of which the middle one of each three is needed.
-use Rattle.std.proofs.Common.{ℕ, zero, suc, ◌+◌, ◌*◌, ◌^◌, ◌<◌, ◌≤◌, inl, inr, List, [], ◌∷◌, length, refl, arith}
+use Rattle.std.proofs.Common.{ℕ, zero, suc, ◌+◌, ◌*◌, ◌^◌, ◌<◌, ◌≤◌, inl, inr, List, Contains, [], ◌∷◌, length, arith}
 use Rattle.std.proofs.lemmas.Bool.{cases_lt}
 use Rattle.std.proofs.Math.Nat.{pow-succ'}
 use Rattle.std.proofs.Math.Pow.{pow_mono}
 use Rattle.replay.specs.Memory.{floorlog, Fits, step_limit}
-use Rattle.replay.specs.Spacing.{Has, Stays, AreStaying}
+use Rattle.replay.specs.Spacing.{Stays, AreStaying}
 use Rattle.replay.proofs.FloorlogLemmas.{floorlog-greatest, floorlog-power}
 use Rattle.replay.proofs.StayingLemmas.{stays_sparse}
+use Rattle.replay.proofs.StepLemmas.{contains_first, contains_rest}
 
 -- of three kept steps, the first is at least twice as far from n as the third, and two more
 abbrev Sparse : ℕ → List ℕ → Type 0
-Sparse n kept = (a b c : ℕ) → Has kept a → Has kept b → Has kept c → a < b → b < c → n + a + 2 ≤ 2 * c
+Sparse n kept = (a b c : ℕ) → Contains kept a → Contains kept b → Contains kept c → a < b → b < c → n + a + 2 ≤ 2 * c
 
 -- half of m, rounded up
 half : ℕ → ℕ
@@ -42,16 +43,17 @@ Rises [] = Unit {0}
 Rises (a ∷ []) = Unit {0}
 Rises (a ∷ b ∷ r) = (a < b) × Rises (b ∷ r)
 
-reaches : (n a : ℕ) (r : List ℕ) → Rises (a ∷ r) → ((c : ℕ) → Has (a ∷ r) c → c < n) → Sparse n (a ∷ r) → a + reach (length (a ∷ r)) ≤ n + 2
+reaches : (n a : ℕ) (r : List ℕ) → Rises (a ∷ r) → ((c : ℕ) → Contains (a ∷ r) c → c < n) → Sparse n (a ∷ r) → a + reach (length (a ∷ r)) ≤ n + 2
 unfolding reach
-reaches n a [] rises past sparse = omega (arith, past a (inl refl))
-reaches n a (b ∷ []) rises past sparse = omega (arith, past b (inr (inl refl)), rises.0)
+reaches n a [] rises past sparse = omega (arith, past a (contains_first a []))
+reaches n a (b ∷ []) rises past sparse = omega (arith, past b (contains_rest a (b ∷ []) b (contains_first b [])), rises.0)
 reaches n a (b ∷ c ∷ r) rises past sparse =
-    let far : n + a + 2 ≤ 2 * c = sparse a b c (inl refl) (inr (inl refl)) (inr (inr (inl refl))) rises.0 rises.1.0 in
-    let rest : c + reach (length (c ∷ r)) ≤ n + 2 = reaches n c r rises.1.1 (λ x h. past x (inr (inr h))) (λ x y z hx hy hz. sparse x y z (inr (inr hx)) (inr (inr hy)) (inr (inr hz))) in
+    let later : (x : ℕ) → Contains (c ∷ r) x → Contains (a ∷ b ∷ c ∷ r) x = λ x h. contains_rest a (b ∷ c ∷ r) x (contains_rest b (c ∷ r) x h) in
+    let far : n + a + 2 ≤ 2 * c = sparse a b c (contains_first a (b ∷ c ∷ r)) (contains_rest a (b ∷ c ∷ r) b (contains_first b (c ∷ r))) (later c (contains_first c r)) rises.0 rises.1.0 in
+    let rest : c + reach (length (c ∷ r)) ≤ n + 2 = reaches n c r rises.1.1 (λ x h. past x (later x h)) (λ x y z hx hy hz. sparse x y z (later x hx) (later y hy) (later z hz)) in
     omega arith
 
-few : (n : ℕ) (kept : List ℕ) → Rises kept → ((c : ℕ) → Has kept c → c < n) → Sparse n kept → reach (length kept) ≤ n + 2
+few : (n : ℕ) (kept : List ℕ) → Rises kept → ((c : ℕ) → Contains kept c → c < n) → Sparse n kept → reach (length kept) ≤ n + 2
 unfolding reach
 few n [] rises past sparse = omega arith
 few n (a ∷ r) rises past sparse = omega (arith, reaches n a r rises past sparse)
@@ -61,8 +63,8 @@ pub Fits-staying : (n : ℕ) (kept : List ℕ) → Rises kept → AreStaying n n
 unfolding Fits
 Fits-staying n kept rises staying =
     let m = length kept in
-    let past : (c : ℕ) → Has kept c → c < n = λ c h. ((staying c).0 h).0 in
-    let stays : (c : ℕ) → Has kept c → Stays n c = λ c h. ((staying c).0 h).1 in
+    let past : (c : ℕ) → Contains kept c → c < n = λ c h. ((staying c).0 h).0 in
+    let stays : (c : ℕ) → Contains kept c → Stays n c = λ c h. ((staying c).0 h).1 in
     let sparse : Sparse n kept = λ a b c ha hb hc ab bc. stays_sparse n a b c (stays a ha) (stays b hb) (stays c hc) ab bc (past c hc) in
     let power : 2 ^ half m ≤ n + 1 = omega (arith, few n kept rises past sparse, power-reach m) in
     omega (arith, floorlog-greatest (n + 1) (half m) power, double-half m)

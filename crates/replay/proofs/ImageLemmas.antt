@@ -1,14 +1,14 @@
-use Rattle.std.proofs.Common.{◌≡◌, ℕ, ◌+◌, ◌<◌, ◌≤◌, List, length, get_or, ap, subst, sym, inl, inr, Bool, true, false, cond, [], ◌∷◌, suc, zero, refl, arith, not, ◌==◌}
+use Rattle.std.proofs.Common.{◌≡◌, ℕ, ◌+◌, ◌<◌, ◌≤◌, List, length, map, get_or, ap, sym, ◌∙◌, inl, inr, Bool, true, false, cond, [], ◌∷◌, suc, zero, refl, arith, not, ◌==◌}
 use Rattle.std.proofs.lemmas.Bool.Decides.{nat_tests}
 use Rattle.std.specs.List.{AllWithin}
-use Rattle.std.proofs.lemmas.List.{get_or_read}
+use Rattle.std.proofs.lemmas.List.{get_or_read, get_or-map, length-map}
 use Rattle.std.proofs.lemmas.List.Kept.{AllPairs-filter}
 use Rattle.std.specs.List.{filter, remove, All, Any, Contains}
-use Rattle.std.proofs.lemmas.List.Elements.{All-contains, All-contains_itself, All-filter, All-head, All-tail}
+use Rattle.std.proofs.lemmas.List.Elements.{All-contains, All-contains_itself, All-filter, All-head, All-map, All-tail, Contains-get_or}
 use Rattle.std.proofs.lemmas.Bool.{cases_lt}
 use Rattle.replay.specs.Images.{Image, IsLatest, IsRising, steps, without}
-use Rattle.replay.specs.Spacing.{Has, IsPrevious}
-use Rattle.replay.proofs.StepLemmas.{other}
+use Rattle.replay.specs.Spacing.{IsPrevious}
+use Rattle.replay.proofs.StepLemmas.{other, contains_cases, contains_none}
 
 -- the image at place k is the latest up to t, where all after it are later
 pub latest_at : (images : List Image) (t k m : ℕ) (c : Image) → m ≤ k + 1 → k < length images → c ≡ get_or images k c → c.0 ≤ t → AllWithin (λ i. t < i.0) images m (length images) → IsRising images → IsLatest images t c
@@ -48,27 +48,23 @@ without-place (i ∷ images) (suc k) step d rising in_range is =
     let t : not (i.0 == step) ≡ true = grind (arith, nat_tests) in
     rw t (ap (λ (rest : List Image). i ∷ rest) (without-place images k step d (λ a b e ab below. rising (suc a) (suc b) e (omega arith) (omega arith)) (omega arith) is))
 
--- a step of the images is one at a place
-Has-at : (images : List Image) (k : ℕ) (d : Image) → k < length images → Has (steps images) (get_or images k d).0
-Has-at [] k d h = absurd (omega arith)
-Has-at (i ∷ images) zero d h = inl refl
-Has-at (i ∷ images) (suc k) d h = inr (Has-at images k d (omega arith))
+-- an image is of one of the steps
+pub contains_step : (images : List Image) (c : Image) → Contains images c → Contains (steps images) c.0
+contains_step images c (k, below, is) = (k, rw length-map below, get_or-map (λ (i : Image). i.0) images k c c.0 below ∙ ap (λ (i : Image). i.0) is)
 
-pub Has-contained : (images : List Image) (c : Image) → Contains images c → Has (steps images) c.0
-Has-contained images c h = rw h.2 at (Has-at images h.0 c h.1)
+pub All-step : (P : ℕ → Type 0) (images : List Image) → All (λ i. P i.0) images → (x : ℕ) → Contains (steps images) x → P x
+All-step P images all x h = All-contains P (steps images) x (All-map P (λ (i : Image). i.0) images all) h
 
-pub All-step : (P : ℕ → Type 0) (images : List Image) → All (λ i. P i.0) images → (x : ℕ) → Has (steps images) x → P x
-All-step P [] all x h = elim h [ ]
-All-step P (i ∷ images) all x (inl e) = subst P e (All-head (λ (j : Image). P j.0) i images all)
-All-step P (i ∷ images) all x (inr h) = All-step P images (All-tail (λ (j : Image). P j.0) i images all) x h
+pub All-from_steps : (P : ℕ → Type 0) (images : List Image) → ((x : ℕ) → Contains (steps images) x → P x) → All (λ i. P i.0) images
+All-from_steps P images h k d below = h _ (contains_step images (get_or images k d) (Contains-get_or images k d below))
 
-pub All-from_steps : (P : ℕ → Type 0) (images : List Image) → ((x : ℕ) → Has (steps images) x → P x) → All (λ i. P i.0) images
-All-from_steps P images h k d below = h _ (Has-at images k d below)
-
-pub Any-step : (images : List Image) (x : ℕ) → Has (steps images) x → Any (λ i. i.0 ≡ x) images
-Any-step [] x h = elim h [ ]
-Any-step (i ∷ images) x (inl e) = (0, i, omega arith, refl, e)
-Any-step (i ∷ images) x (inr h) = let r = Any-step images x h in (suc r.0, r.1, omega (arith, r.2), r.3, r.4)
+-- something is kept with one of the steps
+pub Any-kept : {T : Type 0} (kept : List (ℕ × T)) (step : ℕ) → Contains (map (λ (k : ℕ × T). k.0) kept) step → Any (λ (k : ℕ × T). k.0 ≡ step) kept
+Any-kept [] step h = absurd (contains_none step h)
+Any-kept (k ∷ kept) step h = elim (contains_cases k.0 (map (λ (q : ℕ × _). q.0) kept) step h) [
+  | inl is ↦ (0, k, omega arith, refl, is)
+  | inr late ↦ let rest = Any-kept kept step late in (suc rest.0, rest.1, omega (arith, rest.2), rest.3, rest.4)
+]
 
 steps-cond : (b : Bool) (i : Image) (images : List Image) → steps (cond b (i ∷ images) images) ≡ cond b (i.0 ∷ steps images) (steps images)
 steps-cond true i images = refl
@@ -80,7 +76,7 @@ steps-without (i ∷ images) step = rw (steps-cond (other step i.0) i (without i
 
 pub IsPrevious-latest : (images : List Image) (t : ℕ) (c : Image) → IsLatest images t c → IsPrevious (steps images) (t + 1) c.0
 IsPrevious-latest images t c latest = record {
-  kept_too = Has-contained images c latest.kept;
+  kept_too = contains_step images c latest.kept;
   before = omega (arith, latest.within);
   greatest = λ x h below. All-step (λ s. s ≤ t → s ≤ c.0) images latest.greatest x h (omega arith);
 }

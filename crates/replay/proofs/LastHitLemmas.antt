@@ -1,9 +1,9 @@
 use Rattle.std.proofs.Common.{◌≡◌, ℕ, zero, suc, ◌+◌, ◌^◌, ◌<◌, ◌≤◌, Bool, true, false, cond, Option, Some, None, IfSome, inl, inr, refl, sym, ap, arith}
 use Rattle.std.proofs.lemmas.Bool.{cases_lt, cases_eq}
 use Rattle.std.specs.Option.{IfNone}
+use Rattle.std.specs.List.{Contains}
 use Rattle.cpu.specs.State.{State, Scenario}
 use Rattle.replay.specs.Images.{steps}
-use Rattle.replay.specs.Spacing.{Has}
 use Rattle.replay.specs.View.{SessionView, IsSound}
 use Rattle.replay.specs.LastHit.{last_hit, IsLastHit, HasSought}
 use Rattle.replay.proofs.StayingLemmas.{stays_covers}
@@ -53,7 +53,7 @@ between_more low k (Some t) false order h = (h.0, omega (arith, h.1))
 -- what a search leaves
 pub has_sought : (old s : SessionView) (p : ℕ) (r : Option ℕ) (scenario : Scenario) (shown : State) (meter : ℕ) → s ≡ old → IsSound s → p ≤ s.n → scenario ≡ s.scenario → meter < 2 ^ 128 → s.meter ≤ meter
     → IfSome r (λ t. t < p)
-    → IfSome r (λ t. (c : ℕ) → Has (steps s.images) c → c ≤ t → meter + c < s.meter + p) → IfNone r (meter ≤ s.meter + p) → HasSought old p r (record { scenario = scenario; meter = meter; images = s.images; present = s.present; shown = shown; n = s.n })
+    → IfSome r (λ t. (c : ℕ) → Contains (steps s.images) c → c ≤ t → meter + c < s.meter + p) → IfNone r (meter ≤ s.meter + p) → HasSought old p r (record { scenario = scenario; meter = meter; images = s.images; present = s.present; shown = shown; n = s.n })
 has_sought old s p None scenario shown meter is sound early same metered least below found none = rw (← is) (record {
   stands = (shown_sound s scenario shown meter sound same metered).stands;
   same = ap (λ (q : Scenario). let m : SessionView = record { scenario = q; meter = meter; images = s.images; present = s.present; shown = shown; n = s.n } in m) same;

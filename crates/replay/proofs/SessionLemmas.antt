@@ -3,7 +3,7 @@ use Rattle.std.proofs.Common.{◌≡◌, ℕ, suc, ◌+◌, ◌-◌, ◌^◌, �
 use Rattle.std.specs.List.{Contains}
 use Rattle.std.proofs.lemmas.Bool.{cases_lt}
 use Rattle.std.proofs.lemmas.List.{length-map, map-append}
-use Rattle.std.proofs.lemmas.List.Elements.{All-contains, All-push, Contains-get_or}
+use Rattle.std.proofs.lemmas.List.Elements.{All-contains, All-push, Contains-append_left, Contains-get_or, Contains-push}
 use Rattle.cpu.specs.State.{State, Scenario, start, FitsRun}
 use Rattle.cpu.specs.Next.{next}
 use Rattle.cpu.specs.Run.{run, out}
@@ -12,11 +12,11 @@ use Rattle.cpu.proofs.RunLaws.{run-zero, run-add-one, out-add-one, cycles-run}
 use Rattle.cpu.proofs.TakenLaws.{run-fits}
 use Rattle.replay.specs.Images.{Image, IsRising, steps}
 use Rattle.replay.specs.Memory.{Fits, step_limit}
-use Rattle.replay.specs.Spacing.{Has, AreStaying}
+use Rattle.replay.specs.Spacing.{AreStaying}
 use Rattle.std.proofs.Math.Nat.{one-dvd}
 use Rattle.replay.specs.View.{SessionView, Stands, AreOfRun, IsSound, HasShown}
 use Rattle.replay.proofs.FewImages.{Rises, Fits-staying, Fits-start}
-use Rattle.replay.proofs.StepLemmas.{Has-push, Has-push_last, Has-push_cases}
+use Rattle.replay.proofs.StepLemmas.{contains_none, contains_push_cases}
 use Rattle.replay.proofs.StayingLemmas.{stays_covers}
 
 Rises-steps : (images : List Image) → IsRising images → Rises (steps images)
@@ -41,7 +41,7 @@ starts_sound scenario images meter e metered =
     rw e (record {
       stands = rw e at stands;
       of_run = λ k d h. absurd (omega arith);
-      staying = λ c. (λ h. elim h [ ], λ is. absurd (omega (arith, is.0)));
+      staying = λ c. (λ h. absurd (contains_none c h), λ is. absurd (omega (arith, is.0)));
       metered = metered;
     })
 
@@ -50,13 +50,13 @@ pub staying_after : (n : ℕ) (images kept : List Image) (s : State) → AreStay
 staying_after n images kept s staying e c =
     let same : n + 1 - 1 ≡ n = omega arith in
     rw (same, e, map-append) (
-      λ h. elim (Has-push_cases (steps images) n c h) [
+      λ h. elim (contains_push_cases (steps images) n c h) [
         | inl old ↦ let is = (staying c).0 old in (omega (arith, is.0), is.1)
         | inr now ↦ (omega arith, (0, one-dvd c, omega arith))
       ],
       λ is. elim (cases_lt c n) [
-        | inl early ↦ Has-push (steps images) n c ((staying c).1 (early, is.1))
-        | inr late ↦ let now : n ≡ c = omega (arith, is.0) in rw (← now) (Has-push_last (steps images) n)
+        | inl early ↦ Contains-append_left (steps images) (n ∷ []) c ((staying c).1 (early, is.1))
+        | inr late ↦ let now : n ≡ c = omega (arith, is.0) in rw (← now) (Contains-push (steps images) n)
       ],
     )
 
@@ -121,7 +121,7 @@ has_shown_none old s t is sound late =
     }
 
 -- what showing an earlier step leaves, where the processor has gone no more steps than from any image that is early enough
-pub has_shown : (old s : SessionView) (t : ℕ) (scenario : Scenario) (shown : State) (meter : ℕ) → s ≡ old → IsSound s → t < s.n → scenario ≡ s.scenario → meter < 2 ^ 128 → s.meter ≤ meter → ((c : ℕ) → Has (steps s.images) c → c ≤ t → meter + c ≤ s.meter + t)
+pub has_shown : (old s : SessionView) (t : ℕ) (scenario : Scenario) (shown : State) (meter : ℕ) → s ≡ old → IsSound s → t < s.n → scenario ≡ s.scenario → meter < 2 ^ 128 → s.meter ≤ meter → ((c : ℕ) → Contains (steps s.images) c → c ≤ t → meter + c ≤ s.meter + t)
     → HasShown old t (record { scenario = scenario; meter = meter; images = s.images; present = s.present; shown = shown; n = s.n })
 has_shown old s t scenario shown meter is sound early same metered least most =
     let c = stays_covers s.n (steps s.images) sound.staying t early in

@@ -1,13 +1,13 @@
-use Rattle.std.proofs.Common.{◌≡◌, ◌≢◌, ℕ, zero, suc, ◌+◌, ◌<◌, List, [], ◌∷◌, ◌++◌, length, get_or, set, take, drop, inl, inr, refl, sym, ◌∙◌, ap, arith, length-append, length-set}
-use Rattle.std.specs.List.{All, Any, AllPairs, AllWithin, remove}
+use Rattle.std.proofs.Common.{◌≡◌, ◌≢◌, ℕ, zero, suc, ◌+◌, ◌<◌, List, [], ◌∷◌, ◌++◌, length, map, get_or, set, take, drop, inl, inr, refl, sym, ◌∙◌, ap, arith, length-append, length-set}
+use Rattle.std.specs.List.{All, AllPairs, AllWithin, remove}
 use Rattle.std.proofs.lemmas.Bool.{cases_lt}
 use Rattle.std.proofs.lemmas.List.{get_or-map, length-map, map-append, get_or-set_same, get_or-set_other, get_or_append_left, get_or_read}
 use Rattle.std.proofs.lemmas.List.Elements.{All-contains, All-push, All-append, All-take, All-drop, All-head, All-tail, Contains-push}
 use Rattle.std.proofs.lemmas.List.Quantifiers.{all_pairs_push, all_pairs_remove}
 use Rattle.std.proofs.lemmas.List.Edits.{length-remove, get_or-remove_below, get_or-remove_above}
 use Rattle.cpu.specs.State.{State, start}
-use Rattle.replay.specs.Images.{Image, without}
-use Rattle.replay.specs.Slots.{IsSlotted, image_at, images_in, IsRising-images_in}
+use Rattle.replay.specs.Images.{Image, IsRising, steps, without}
+use Rattle.replay.specs.Slots.{IsSlotted, image_at, images_in}
 use Rattle.replay.proofs.ImageLemmas.{without-place}
 
 images_in-set : (slots : List State) (s : ℕ) (x : State) (marks : List (ℕ × ℕ)) → All (λ m. m.1 ≢ s) marks → images_in (set slots s x) marks ≡ images_in slots marks
@@ -37,7 +37,7 @@ last_at : (xs : List ℕ) (s d : ℕ) → get_or (xs ++ s ∷ []) (length xs) d 
 last_at [] s d = refl
 last_at (x ∷ xs) s d = last_at xs s d
 
-pub slotted_taken : (slots : List State) (marks : List (ℕ × ℕ)) (free rest : List ℕ) (s step : ℕ) (x : State) → IsSlotted slots marks free → free ≡ rest ++ s ∷ [] → All (λ m. m.0 < step) marks → IsSlotted (set slots s x) (marks ++ (step, s) ∷ []) rest
+pub slotted_taken : (slots : List State) (marks : List (ℕ × ℕ)) (free rest : List ℕ) (s step : ℕ) (x : State) → IsSlotted slots marks free → free ≡ rest ++ s ∷ [] → All (λ i. i.0 < step) (images_in slots marks) → IsSlotted (set slots s x) (marks ++ (step, s) ∷ []) rest
 slotted_taken slots marks free rest s step x h e above =
     let unused = taken_unused slots marks free rest s h e in
     let pairs : AllPairs (λ a b. a ≢ b) (rest ++ s ∷ []) = rw e at h.free_apart in
@@ -49,7 +49,7 @@ slotted_taken slots marks free rest s step x h e above =
     let c : length marks + length (rest ++ s ∷ []) ≡ 79 = rw e at h.counted in
     record {
       all_slots = length-set slots s x ∙ h.all_slots;
-      rising = all_pairs_push (λ (m n : ℕ × ℕ). m.0 < n.0) marks (step, s) h.rising (λ k d below. above k d below);
+      rising = rw (images_taken slots marks free rest s step x h e) (all_pairs_push (λ (i j : Image). i.0 < j.0) (images_in slots marks) (step, x) h.rising (λ k d below. above k d below));
       apart = all_pairs_push (λ (m n : ℕ × ℕ). m.1 ≢ n.1) marks (step, s) h.apart (λ k d below. unused k d below);
       free_apart = front_pairs rest s pairs;
       unused = λ k d below.
@@ -63,6 +63,12 @@ slotted_taken slots marks free rest s step x h e above =
 All-remove : {X : Type 0} (P : X → Type 0) (xs : List X) (k : ℕ) → All P xs → All P (remove xs k)
 All-remove P xs k h = All-append P (take k xs) (drop (suc k) xs) (All-take P k xs h) (All-drop P (suc k) xs h)
 
+images_in-remove : (slots : List State) (marks : List (ℕ × ℕ)) (k : ℕ) → images_in slots (remove marks k) ≡ remove (images_in slots marks) k
+images_in-remove slots [] zero = refl
+images_in-remove slots [] (suc k) = refl
+images_in-remove slots (m ∷ marks) zero = refl
+images_in-remove slots (m ∷ marks) (suc k) = ap (λ (rest : List Image). image_at slots m ∷ rest) (images_in-remove slots marks k)
+
 pub slotted_removed : (slots : List State) (marks : List (ℕ × ℕ)) (free : List ℕ) (k : ℕ) (m : ℕ × ℕ) → IsSlotted slots marks free → k < length marks → m ≡ get_or marks k m → IsSlotted slots (remove marks k) (free ++ m.1 ∷ [])
 slotted_removed slots marks free k m h in_range is =
     let slot_is = ap (λ (m : ℕ × ℕ). m.1) is in
@@ -71,7 +77,7 @@ slotted_removed slots marks free k m h in_range is =
     let not_free : (j d : ℕ) → j < length free → get_or free j d ≢ m.1 = λ j d below same. h.unused j d below k m in_range (ap (λ (q : ℕ × ℕ). q.1) (sym is) ∙ sym same) in
     record {
       all_slots = h.all_slots;
-      rising = all_pairs_remove (λ (m n : ℕ × ℕ). m.0 < n.0) marks k in_range h.rising;
+      rising = rw (images_in-remove slots marks k) (all_pairs_remove (λ (i j : Image). i.0 < j.0) (images_in slots marks) k (rw length-map in_range) h.rising);
       apart = all_pairs_remove (λ (m n : ℕ × ℕ). m.1 ≢ n.1) marks k in_range h.apart;
       free_apart = all_pairs_push (λ (a b : ℕ). a ≢ b) free m.1 h.free_apart not_free;
       unused = All-push (λ (s : ℕ). All (λ (q : ℕ × ℕ). q.1 ≢ s) (remove marks k)) free m.1
@@ -85,34 +91,21 @@ slotted_removed slots marks free k m h in_range is =
       counted = omega (arith, length-remove marks k in_range, h.counted);
     }
 
-images_in-remove : (slots : List State) (marks : List (ℕ × ℕ)) (k : ℕ) → images_in slots (remove marks k) ≡ remove (images_in slots marks) k
-images_in-remove slots [] zero = refl
-images_in-remove slots [] (suc k) = refl
-images_in-remove slots (m ∷ marks) zero = refl
-images_in-remove slots (m ∷ marks) (suc k) = ap (λ (rest : List Image). image_at slots m ∷ rest) (images_in-remove slots marks k)
-
-pub images_removed : (slots : List State) (marks : List (ℕ × ℕ)) (k step : ℕ) → AllPairs (λ m n. m.0 < n.0) marks → k < length marks → (get_or marks k (0, 0)).0 ≡ step → images_in slots (remove marks k) ≡ without (images_in slots marks) step
+pub images_removed : (slots : List State) (marks : List (ℕ × ℕ)) (k step : ℕ) → IsRising (images_in slots marks) → k < length marks → (get_or marks k (0, 0)).0 ≡ step → images_in slots (remove marks k) ≡ without (images_in slots marks) step
 images_removed slots marks k step rising in_range is =
     let d = image_at slots (0, 0) in
     let at_k : get_or (images_in slots marks) k d ≡ image_at slots (get_or marks k (0, 0)) = get_or-map (image_at slots) marks k (0, 0) d in_range in
-    images_in-remove slots marks k ∙ without-place (images_in slots marks) k step d (IsRising-images_in slots marks rising) (rw length-map in_range) (ap (λ (i : Image). i.0) at_k ∙ is)
+    images_in-remove slots marks k ∙ without-place (images_in slots marks) k step d rising (rw length-map in_range) (ap (λ (i : Image). i.0) at_k ∙ is)
 
 pub later_images : (slots : List State) (marks : List (ℕ × ℕ)) (t low : ℕ) → AllWithin (λ m. t < m.0) marks low (length marks) → AllWithin (λ i. t < i.0) (images_in slots marks) low (length (images_in slots marks))
 later_images slots marks t low h k d above below =
     let in_range : k < length marks = rw length-map at below in
     rw (get_or-map (image_at slots) marks k (0, 0) d in_range) (h k (0, 0) above in_range)
 
-pub marks_before : (slots : List State) (marks : List (ℕ × ℕ)) (step : ℕ) → All (λ i. i.0 < step) (images_in slots marks) → All (λ m. m.0 < step) marks
-marks_before slots [] step h k d below = absurd (omega arith)
-marks_before slots (m ∷ marks) step h zero d below = h 0 (image_at slots m) (omega arith)
-marks_before slots (m ∷ marks) step h (suc k) d below = marks_before slots marks step (All-tail (λ (i : Image). i.0 < step) (image_at slots m) (images_in slots marks) h) k d (omega arith)
-
-pub mark_of : (slots : List State) (marks : List (ℕ × ℕ)) (step : ℕ) → Any (λ i. i.0 ≡ step) (images_in slots marks) → Any (λ m. m.0 ≡ step) marks
-mark_of slots [] step h = absurd (omega (arith, h.2))
-mark_of slots (m ∷ marks) step (zero, i, below, is, e) = (0, m, omega arith, refl, ap (λ (i : Image). i.0) is ∙ e)
-mark_of slots (m ∷ marks) step (suc k, i, below, is, e) =
-    let rest = mark_of slots marks step (k, i, omega arith, is, e) in
-    (suc rest.0, rest.1, omega (arith, rest.2), rest.3, rest.4)
+-- the images are of the steps of the marks
+pub steps-images_in : (slots : List State) (marks : List (ℕ × ℕ)) → steps (images_in slots marks) ≡ map (λ m. m.0) marks
+steps-images_in slots [] = refl
+steps-images_in slots (m ∷ marks) = ap (λ (rest : List ℕ). m.0 ∷ rest) (steps-images_in slots marks)
 
 pub image_is : (slots : List State) (marks : List (ℕ × ℕ)) (k : ℕ) (x : State) (d : Image) → k < length marks → (get_or marks k (0, 0)).1 < length slots → x ≡ get_or slots (get_or marks k (0, 0)).1 x → let c : Image = ((get_or marks k (0, 0)).0, x) in c ≡ get_or (images_in slots marks) k d
 image_is slots marks k x d in_range slot_in is =

@@ -1,13 +1,13 @@
 -- The images that stay serve each step, and are few. In specs/Spacing.antt stands which stay.
 use Rattle.std.specs.Int.{◌∣◌}
-use Rattle.std.proofs.Common.{◌≡◌, ℕ, suc, ◌+◌, ◌-◌, ◌*◌, ◌/◌, ◌%◌, ◌^◌, ◌<◌, ◌≤◌, List, inl, inr, sym, ◌∙◌, ap, arith}
+use Rattle.std.proofs.Common.{◌≡◌, ℕ, suc, ◌+◌, ◌-◌, ◌*◌, ◌/◌, ◌%◌, ◌^◌, ◌<◌, ◌≤◌, List, Contains, inl, inr, sym, ◌∙◌, ap, arith}
 use Rattle.std.proofs.Math.Pow.{pow_mono}
 use Rattle.std.proofs.lemmas.Bool.{cases_lt}
 use Rattle.std.proofs.lemmas.Nat.{pow-add, pow_pos, mod_below}
 use Rattle.std.proofs.lemmas.Nat.Gcd.{dvd_trans, le_of_dvd}
 use Rattle.std.proofs.Math.Nat.{pow-succ', dvd-sub, dvd-mul_right, dvd-mul_left, mod-add-div'}
 use Rattle.replay.specs.Memory.{floorlog}
-use Rattle.replay.specs.Spacing.{Has, Stays, AreStaying}
+use Rattle.replay.specs.Spacing.{Stays, AreStaying}
 use Rattle.replay.proofs.FloorlogLemmas.{floorlog-greatest, floorlog-power}
 
 -- multiples of m that differ are m apart
@@ -60,7 +60,7 @@ stays_sparse n a b c (i, di, ni) (j, dj, nj) (k, dk, nk) ab bc cn = elim (cases_
 ]
 
 -- from a kept step each step below n is reached in fewer steps than from there to n
-pub stays_covers : (n : ℕ) (kept : List ℕ) → AreStaying n n kept → (t : ℕ) → t < n → (c : ℕ) × Has kept c × (c ≤ t) × (2 * t < n + c)
+pub stays_covers : (n : ℕ) (kept : List ℕ) → AreStaying n n kept → (t : ℕ) → t < n → (c : ℕ) × Contains kept c × (c ≤ t) × (2 * t < n + c)
 stays_covers n kept staying t below =
     let far = n - t in
     let j = floorlog far in
@@ -77,7 +77,7 @@ stays_covers n kept staying t below =
     (c, (staying c).1 (omega (arith, whole), stays), omega (arith, whole), omega (arith, low, whole, rest))
 
 -- where a step is past, the first one is kept
-pub first_is_kept : (n : ℕ) (kept : List ℕ) → 0 < n → AreStaying n n kept → Has kept 0
+pub first_is_kept : (n : ℕ) (kept : List ℕ) → 0 < n → AreStaying n n kept → Contains kept 0
 first_is_kept n kept past staying =
     let c = stays_covers n kept staying 0 past in
     let e : c.0 ≡ 0 = omega (arith, c.2) in

@@ -1,44 +1,49 @@
--- Steps that are kept.
-use Rattle.std.proofs.Common.{◌≡◌, ℕ, ◌⊎◌, inl, inr, List, [], ◌∷◌, ◌++◌, cond, Bool, true, false, not, ◌==◌, refl}
-use Rattle.std.specs.List.{filter}
-use Rattle.replay.specs.Spacing.{Has}
+-- Elements of a list, and the steps that are kept.
+use Rattle.std.proofs.Common.{◌≡◌, ℕ, zero, suc, ◌⊎◌, inl, inr, List, [], ◌∷◌, ◌++◌, cond, Bool, true, false, not, ◌==◌, refl, arith}
+use Rattle.std.specs.List.{filter, Contains}
+use Rattle.std.proofs.lemmas.List.Elements.{Contains-append_cases}
 
-pub Has-push_cases : (xs : List ℕ) (y x : ℕ) → Has (xs ++ y ∷ []) x → Has xs x ⊎ (y ≡ x)
-Has-push_cases [] y x (inl e) = inr e
-Has-push_cases [] y x (inr n) = inl n
-Has-push_cases (z ∷ xs) y x (inl e) = inl (inl e)
-Has-push_cases (z ∷ xs) y x (inr h) = elim (Has-push_cases xs y x h) [ inl h ↦ inl (inr h) | inr e ↦ inr e ]
+pub contains_first : {X : Type 0} (y : X) (ys : List X) → Contains (y ∷ ys) y
+contains_first y ys = (0, omega arith, refl)
 
-pub Has-push : (xs : List ℕ) (y x : ℕ) → Has xs x → Has (xs ++ y ∷ []) x
-Has-push [] y x h = elim h [ ]
-Has-push (z ∷ xs) y x (inl e) = inl e
-Has-push (z ∷ xs) y x (inr h) = inr (Has-push xs y x h)
+pub contains_rest : {X : Type 0} (y : X) (ys : List X) (x : X) → Contains ys x → Contains (y ∷ ys) x
+contains_rest y ys x (k, below, is) = (suc k, omega arith, is)
 
-pub Has-push_last : (xs : List ℕ) (y : ℕ) → Has (xs ++ y ∷ []) y
-Has-push_last [] y = inl refl
-Has-push_last (z ∷ xs) y = inr (Has-push_last xs y)
+pub contains_cases : {X : Type 0} (y : X) (ys : List X) (x : X) → Contains (y ∷ ys) x → (y ≡ x) ⊎ Contains ys x
+contains_cases y ys x (zero, below, is) = inl is
+contains_cases y ys x (suc k, below, is) = inr (k, omega arith, is)
+
+pub contains_none : {X : Type 0} (x : X) → Contains [] x → ⊥
+contains_none x h = omega (arith, h.1)
+
+pub contains_push_cases : {X : Type 0} (xs : List X) (y x : X) → Contains (xs ++ y ∷ []) x → Contains xs x ⊎ (y ≡ x)
+contains_push_cases xs y x h = elim (Contains-append_cases xs (y ∷ []) x h) [
+  | inl early ↦ inl early
+  | inr late ↦ elim (contains_cases y [] x late) [ inl is ↦ inr is | inr none ↦ absurd (contains_none x none) ]
+]
 
 -- all steps but this one
 abbrev pub other : ℕ → ℕ → Bool
 other step x = not (x == step)
 
-Has-cond : (b : Bool) (z : ℕ) (rest : List ℕ) (x : ℕ) → Has (cond b (z ∷ rest) rest) x → ((z ≡ x) × (b ≡ true)) ⊎ Has rest x
-Has-cond true z rest x (inl e) = inl (e, refl)
-Has-cond true z rest x (inr h) = inr h
-Has-cond false z rest x h = inr h
+contains_cond : (b : Bool) (z : ℕ) (rest : List ℕ) (x : ℕ) → Contains (cond b (z ∷ rest) rest) x → ((z ≡ x) × (b ≡ true)) ⊎ Contains rest x
+contains_cond true z rest x h = elim (contains_cases z rest x h) [ inl is ↦ inl (is, refl) | inr late ↦ inr late ]
+contains_cond false z rest x h = inr h
 
-Has-cond_rest : (b : Bool) (z : ℕ) (rest : List ℕ) (x : ℕ) → Has rest x → Has (cond b (z ∷ rest) rest) x
-Has-cond_rest true z rest x h = inr h
-Has-cond_rest false z rest x h = h
+contains_cond_rest : (b : Bool) (z : ℕ) (rest : List ℕ) (x : ℕ) → Contains rest x → Contains (cond b (z ∷ rest) rest) x
+contains_cond_rest true z rest x h = contains_rest z rest x h
+contains_cond_rest false z rest x h = h
 
-pub Has-filter : (p : ℕ → Bool) (xs : List ℕ) (x : ℕ) → Has (filter p xs) x → Has xs x × (p x ≡ true)
-Has-filter p [] x h = elim h [ ]
-Has-filter p (z ∷ xs) x h = elim (Has-cond (p z) z (filter p xs) x h) [
-  | inl e ↦ (inl e.0, rw (← e.0) e.1)
-  | inr r ↦ let rest = Has-filter p xs x r in (inr rest.0, rest.1)
+pub contains_filter : (p : ℕ → Bool) (xs : List ℕ) (x : ℕ) → Contains (filter p xs) x → Contains xs x × (p x ≡ true)
+contains_filter p [] x h = absurd (contains_none x h)
+contains_filter p (z ∷ xs) x h = elim (contains_cond (p z) z (filter p xs) x h) [
+  | inl e ↦ (rw (← e.0) (contains_first z xs), rw (← e.0) e.1)
+  | inr r ↦ let rest = contains_filter p xs x r in (contains_rest z xs x rest.0, rest.1)
 ]
 
-pub Has-filter_back : (p : ℕ → Bool) (xs : List ℕ) (x : ℕ) → Has xs x → p x ≡ true → Has (filter p xs) x
-Has-filter_back p [] x h t = elim h [ ]
-Has-filter_back p (z ∷ xs) x (inl e) t = let t' : p z ≡ true = rw e t in rw t' (inl e)
-Has-filter_back p (z ∷ xs) x (inr h) t = Has-cond_rest (p z) z (filter p xs) x (Has-filter_back p xs x h t)
+pub contains_filter_back : (p : ℕ → Bool) (xs : List ℕ) (x : ℕ) → Contains xs x → p x ≡ true → Contains (filter p xs) x
+contains_filter_back p [] x h t = absurd (contains_none x h)
+contains_filter_back p (z ∷ xs) x h t = elim (contains_cases z xs x h) [
+  | inl e ↦ let t' : p z ≡ true = rw e t in rw (t', ← e) (contains_first z (filter p xs))
+  | inr late ↦ contains_cond_rest (p z) z (filter p xs) x (contains_filter_back p xs x late t)
+]

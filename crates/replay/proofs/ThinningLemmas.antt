@@ -1,6 +1,6 @@
 -- Which images fall out at a step, and that those are left which stay.
 use Rattle.std.specs.Int.{◌∣◌}
-use Rattle.std.specs.List.{filter}
+use Rattle.std.specs.List.{filter, Contains}
 use Rattle.std.proofs.Common.{◌≡◌, ℕ, zero, suc, ◌+◌, ◌-◌, ◌*◌, ◌/◌, ◌%◌, ◌^◌, ◌<◌, ◌≤◌, ◌≢◌, ◌⊎◌, List, true, inl, inr, refl, sym, ◌∙◌, ap, subst, arith}
 use Rattle.std.proofs.Math.Pow.{pow_mono}
 use Rattle.std.proofs.lemmas.Bool.{cases_lt}
@@ -8,8 +8,8 @@ use Rattle.std.proofs.lemmas.Bool.Decides.{nat_tests}
 use Rattle.std.proofs.lemmas.Nat.{pow_pos, mod_below}
 use Rattle.std.proofs.lemmas.Nat.Gcd.{dvd_refl, dvd-zero, dvd_of_mod-eq-zero, mod-eq-zero_of_dvd}
 use Rattle.std.proofs.Math.Nat.{pow-succ', dvd-sub, dvd-mod_iff, dvd-add_iff_left, div-add-mod, mul-suc, dvd-mul_right, dvd-mul_left, dvd_of_mul-dvd-mul_right, div-mul_cancel, mul_comm, mul_assoc}
-use Rattle.replay.specs.Spacing.{Has, Stays, AreStaying, FallOut}
-use Rattle.replay.proofs.StepLemmas.{other, Has-filter, Has-filter_back}
+use Rattle.replay.specs.Spacing.{Stays, AreStaying, FallOut}
+use Rattle.replay.proofs.StepLemmas.{other, contains_filter, contains_filter_back}
 use Rattle.replay.proofs.StayingLemmas.{apart, grows, divides, doubles}
 
 -- a multiple of a power of two is one of the next power, or it is half of that more
@@ -37,9 +37,9 @@ halves v c d =
 
 -- what is kept once, of the images that fall out at step n, those with i from low up to high are taken out
 pub record IsThinned (n low high : ℕ) (kept : List ℕ) : Type 0 where
-  pub stays : (c : ℕ) → Has kept c → (c < n) × Stays (n - 1) c
-  pub gone : (c i : ℕ) → Has kept c → low ≤ i → i < high → n + 1 ≢ c + 3 * 2 ^ i
-  pub full : (c : ℕ) → c < n → Stays (n - 1) c → ((i : ℕ) → low ≤ i → i < high → n + 1 ≢ c + 3 * 2 ^ i) → Has kept c
+  pub stays : (c : ℕ) → Contains kept c → (c < n) × Stays (n - 1) c
+  pub gone : (c i : ℕ) → Contains kept c → low ≤ i → i < high → n + 1 ≢ c + 3 * 2 ^ i
+  pub full : (c : ℕ) → c < n → Stays (n - 1) c → ((i : ℕ) → low ≤ i → i < high → n + 1 ≢ c + 3 * 2 ^ i) → Contains kept c
 
 -- none is taken out yet
 pub thinning_starts : (n high : ℕ) (kept : List ℕ) → AreStaying n (n - 1) kept → IsThinned n high high kept
@@ -50,7 +50,7 @@ thinning_starts n high kept staying = record {
 }
 
 -- the next one is kept still
-pub next_is_kept : (n i high : ℕ) (kept : List ℕ) → FallOut n high → i < high → IsThinned n (suc i) high kept → Has kept (n + 1 - 3 * 2 ^ i)
+pub next_is_kept : (n i high : ℕ) (kept : List ℕ) → FallOut n high → i < high → IsThinned n (suc i) high kept → Contains kept (n + 1 - 3 * 2 ^ i)
 next_is_kept n i high kept out below thinned =
     let fits = out.each i below in
     let some = pow_pos i in
@@ -62,8 +62,8 @@ pub thinned_next : (n i high : ℕ) (kept : List ℕ) → FallOut n high → i <
 thinned_next n i high kept out less thinned =
     let fits = out.each i less in
     let step = n + 1 - 3 * 2 ^ i in
-    let back = Has-filter (other step) kept in
-    let on = Has-filter_back (other step) kept in
+    let back = contains_filter (other step) kept in
+    let on = contains_filter_back (other step) kept in
     let is_other : (x : ℕ) → x ≢ step → other step x ≡ true = λ x ne. grind (arith, nat_tests) in
     let not_step : (x : ℕ) → other step x ≡ true → x ≢ step = λ x t e. grind (arith, nat_tests) in
     record {
@@ -92,7 +92,7 @@ none_falls n c i (v, d, near) even e =
 -- once all that fall out are taken out, those are kept that stay
 pub thinned_ends : (n high : ℕ) (kept : List ℕ) → 0 < n → FallOut n high → IsThinned n 0 high kept → AreStaying n n kept
 thinned_ends n high kept some out thinned =
-    let stays : (c : ℕ) → Has kept c → Stays n c = λ c h.
+    let stays : (c : ℕ) → Contains kept c → Stays n c = λ c h.
     let s = (thinned.stays c h).1 in
     let v = s.0 in
     let power = pow-succ' 2 v in

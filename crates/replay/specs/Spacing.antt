@@ -1,11 +1,6 @@
 -- At which steps images are kept.
 use Rattle.std.specs.Int.{◌∣◌}
-use Rattle.std.specs.Prelude.{◌≡◌, ◌↔◌, ℕ, suc, ◌+◌, ◌*◌, ◌^◌, ◌<◌, ◌≤◌, List, [], ◌∷◌, ◌⊎◌}
-
--- x is one of these steps
-abbrev pub Has : List ℕ → ℕ → Type 0
-Has [] x = ⊥
-Has (y ∷ ys) x = (y ≡ x) ⊎ Has ys x
+use Rattle.std.specs.Prelude.{◌↔◌, ℕ, suc, ◌+◌, ◌*◌, ◌^◌, ◌<◌, ◌≤◌, List, Contains}
 
 -- the image of step c stays at step n: n is less than three times a power of two after c of which c is a multiple
 abbrev pub Stays : ℕ → ℕ → Type 0
@@ -13,7 +8,7 @@ Stays n c = (v : ℕ) × (2 ^ v ∣ c) × (n + 2 ≤ c + 3 * 2 ^ v)
 
 -- the kept steps are those below n that stay at step m
 abbrev pub AreStaying : ℕ → ℕ → List ℕ → Type 0
-AreStaying n m kept = (c : ℕ) → Has kept c ↔ ((c < n) × Stays m c)
+AreStaying n m kept = (c : ℕ) → Contains kept c ↔ ((c < n) × Stays m c)
 
 -- of the images that stay at step n - 1, those fall out at step n whose distance is 3 · 2 ^ i - 1 for an i below j
 pub record FallOut (n j : ℕ) : Type 0 where
@@ -22,6 +17,6 @@ pub record FallOut (n j : ℕ) : Type 0 where
 
 -- older is the greatest kept step below t
 pub record IsPrevious (kept : List ℕ) (t older : ℕ) : Type 0 where
-  pub kept_too : Has kept older
+  pub kept_too : Contains kept older
   pub before : older < t
-  pub greatest : (x : ℕ) → Has kept x → x < t → x ≤ older
+  pub greatest : (x : ℕ) → Contains kept x → x < t → x ≤ older

@@ -1,9 +1,9 @@
 //! What keeps images of the machine.
 
-ghost use Rattle.std.specs.Prelude.{◌≡◌, ℕ, ◌+◌, ◌<◌, ◌≤◌, Bool, true, false, List, [], ◌∷◌, ◌++◌, length, slice_index_or, All, Any, IfOk, OnOk, OnErr, IsOk, IsErrOf, MatchOption};
+ghost use Rattle.std.specs.Prelude.{◌≡◌, ℕ, ◌+◌, ◌<◌, ◌≤◌, Bool, true, false, List, [], ◌∷◌, ◌++◌, length, slice_index_or, map, All, Contains, IfOk, OnOk, OnErr, IsOk, IsErrOf, MatchOption};
 ghost use Rattle.cpu.specs.State.{State};
 ghost use Rattle.replay.specs.Memory.{most_images};
-ghost use Rattle.replay.specs.Images.{Image, IsLatest, IsRising, without};
+ghost use Rattle.replay.specs.Images.{Image, IsLatest, IsRising, steps, without};
 
 use crate::refusal::Refusal;
 use cpu::Machine;
@@ -36,7 +36,7 @@ pub trait Keeper: Drop {
 
     /// Takes the image of this step out.
     fn remove(&mut self, step: u64)
-        requires { Any (λ i. i.0 ≡ step) (images self.old) }
+        requires { Contains (steps (images self.old)) step }
         ensures { images self.new ≡ without (images self.old) step };
 
     /// How many images there are.
@@ -49,7 +49,7 @@ pub trait Keeper: Drop {
 
 /// The place of a step in a list of steps, each with something kept, sought from the newest back.
 pub(crate) fn place_of<T>(kept: &[(u64, T)], step: u64) -> usize
-    requires { Any (λ k. k.0 ≡ step) kept.now }
+    requires { Contains (map (λ k. k.0) kept.now) step }
     ensures within { result < length kept.now }
     ensures step { (d : ℕ × T) → (slice_index_or kept.now result d).0 ≡ step }
 {

@@ -55,7 +55,7 @@ fn all_free() -> ArrayVec<usize, SLOTS>
 
 impl Keeper for SlotKeeper {
     ghost use Rattle.std.specs.Prelude.{false};
-    ghost use Rattle.replay.specs.Slots.{images_in, IsRising-images_in};
+    ghost use Rattle.replay.specs.Slots.{images_in};
 
     ghost images = { λ k. images_in k.slots.items k.marks.items };
 
@@ -99,7 +99,7 @@ impl Keeper for SlotKeeper {
         self.marks.len()
     }
 
-    ghost rising = { λ k. IsRising-images_in k.slots.items k.marks.items k.slotted.rising };
+    ghost rising = { λ k. k.slotted.rising };
 }
 
 #[cfg(test)]

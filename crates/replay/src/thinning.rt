@@ -2,13 +2,13 @@
 
 ghost use Rattle.std.specs.Prelude.{◌≡◌, ℕ, ◌-◌, ◌^◌, ◌<◌, Contains};
 ghost use Rattle.replay.specs.Images.{Image, steps};
-ghost use Rattle.replay.specs.Spacing.{Has, AreStaying, FallOut, IsPrevious};
+ghost use Rattle.replay.specs.Spacing.{AreStaying, FallOut, IsPrevious};
 
 use crate::keeper::Keeper;
 
 /// The step of the latest image before step `t`.
 pub(crate) fn step_before<K: Keeper>(keeper: &K, t: u64) -> u64
-    requires first { Has (steps (K.images keeper.now)) 0 }
+    requires first { Contains (steps (K.images keeper.now)) 0 }
     requires later { 0 < t }
     ensures { IsPrevious (steps (K.images keeper.now)) t result }
 {

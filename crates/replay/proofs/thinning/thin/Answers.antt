@@ -1,6 +1,6 @@
-use Rattle.std.proofs.Common.{◌≡◌, suc, ◌+◌, ◌-◌, ◌*◌, ◌/◌, ◌^◌, arith}
+use Rattle.std.proofs.Common.{◌≡◌, suc, ◌+◌, ◌-◌, ◌*◌, ◌^◌, arith}
 use Rattle.replay.specs.Images.{steps, without}
-use Rattle.replay.proofs.ImageLemmas.{Any-step, steps-without, Contains-without}
+use Rattle.replay.proofs.ImageLemmas.{steps-without, Contains-without}
 use Rattle.replay.proofs.ThinningLemmas.{IsThinned, thinning_starts, next_is_kept, thinned_next, thinned_ends, half_power, all_out}
 use Rattle.replay.proofs.thinning.thin.Goals as goal
 
@@ -31,7 +31,7 @@ remove-requires g c =
     let (low, high, is, below, out, thinned) = c.loop-gap.invariant.thinned in
     let (i, low_is, half) = half_power c.loop-gap.gap low is c.loop-gap-test.true in
     let thinned_here : IsThinned n (suc i) high (steps images) = rw low_is at thinned in
-    Any-step images (n + 1 - 3 * (c.loop-gap.gap / 2)) (rw half (next_is_kept n i high (steps images) out (omega arith) thinned_here))
+    rw half (next_is_kept n i high (steps images) out (omega arith) thinned_here)
 
 pub loop-gap-preserved : goal.loop-gap-preserved
 loop-gap-preserved g c =

@@ -1,11 +1,11 @@
 use Rattle.std.proofs.Common.{◌<◌, length}
-use Rattle.replay.proofs.SlotLemmas.{slotted_removed, images_removed, mark_of}
+use Rattle.replay.proofs.SlotLemmas.{slotted_removed, images_removed, steps-images_in}
 use Rattle.replay.proofs.slot_keeper.SlotKeeperKeeper.remove.Goals as goal
 
 pub place_of-place-requires : goal.place_of-place-requires
 place_of-place-requires c =
     let k = c.args.self.now in
-    rw c.as_slice.ensures.value (mark_of k.slots.items k.marks.items c.args.step c.requires)
+    rw (c.as_slice.ensures.value, ← steps-images_in k.slots.items k.marks.items) c.requires
 
 pub invariant_of-self : goal.invariant_of-self
 invariant_of-self c =
