@@ -8,7 +8,7 @@ use rope::RopeFault;
 use std::alloc::{AllocError, Global};
 use words::Buffer;
 use words::faulty::{FaultyReader, FaultyWriter, Trouble};
-use workshop::{Summary, WorkshopFault, report, run_engine};
+use workshop::{Summary, WorkshopFault, report, run_engine, write_end};
 use yayul::Fault;
 
 const ONE_LINE: &[u8] = b"7 CH 010 00012\n";
@@ -47,9 +47,37 @@ fn five_plus_five_writes_one_line(rt: HostRuntime) {
             steps: 4,
             cycles: 7,
             outputs: 1,
+            z: 0o4004,
         })
     );
     assert_eq!(rt; out.as_slice(), ONE_LINE);
+}
+
+#[test]
+fn end_of_a_run_is_told(rt: HostRuntime) {
+    let rows: [(&[u8], u64, &[u8]); 3] = [
+        (
+            FIVE_PLUS_FIVE,
+            4,
+            b"END STEPS 4 CYCLES 7 OUTPUTS 1 Z 4004\n",
+        ),
+        (
+            FIVE_PLUS_FIVE,
+            0,
+            b"END STEPS 0 CYCLES 0 OUTPUTS 0 Z 4000\n",
+        ),
+        (b"", 3, b"END STEPS 3 CYCLES 3 OUTPUTS 0 Z 0000\n"),
+    ];
+    for (source, steps, line) in rows {
+        let mut out = Buffer::new(rt.alloc());
+        let mut told = Buffer::new(rt.alloc());
+        if steps <= 4
+            && let Ok(summary) = run(rt.alloc(), source, b"", steps, &mut out)
+        {
+            assert_eq!(rt; write_end(&summary, &mut told), Ok(()));
+        }
+        assert_eq!(rt; told.as_slice(), line);
+    }
 }
 
 #[test]
@@ -58,6 +86,7 @@ fn no_steps_no_lines(rt: HostRuntime) {
         steps: 0,
         cycles: 0,
         outputs: 0,
+        z: 0o4000,
     };
     for source in [FIVE_PLUS_FIVE, b""] {
         let mut out = Buffer::new(rt.alloc());
@@ -75,6 +104,7 @@ fn empty_source_runs(rt: HostRuntime) {
             steps: 3,
             cycles: 3,
             outputs: 0,
+            z: 0,
         })
     );
     assert_eq!(rt; out.as_slice(), b"".as_slice());

@@ -1,18 +1,27 @@
 -- What an engine that runs a program answers, and what it has then written.
-use Rattle.std.specs.Prelude.{◌≡◌, ℕ, ◌≤◌, List, ◌++◌, length, Result, Ok, Err, IsOkAnd}
+use Rattle.std.specs.Prelude.{◌≡◌, ℕ, ◌≤◌, List, ◌++◌, length, codes, decimal, Result, Ok, Err, IsOkAnd}
 use Rattle.words.specs.Devices.{WritesBeginning}
+use Rattle.words.specs.Numerals.{octal_text}
 use Rattle.cpu.specs.State.{Scenario}
 use Rattle.cpu.specs.Run.{run, outs}
+use Rattle.cpu.specs.Effects.{next_address}
 use Rattle.workshop.specs.declared.engine.Summary.{Summary}
 use Rattle.workshop.specs.declared.fault.WorkshopFault.{WorkshopFault}
 use Rattle.workshop.specs.declared.fault.WorkshopFault.TheVariants.{NoMemory, ReadFailed, WriteFailed, Source, Feed, Rope, TooLong}
 use Rattle.debugger.specs.ChannelLines.{channel_lines}
 use Rattle.workshop.specs.Inputs.{prepared, scenario_of}
 
--- the summary of a run
+-- the summary of a run: its steps, its cycles, how many outputs it has, and Z at its end
 abbrev pub summary_of : Scenario → ℕ → Summary
 summary_of scenario steps =
-    record { steps = steps; cycles = (run scenario steps).cycles; outputs = length (outs scenario steps) }
+    let end = run scenario steps in
+    record { steps = steps; cycles = end.cycles; outputs = length (outs scenario steps); z = next_address end }
+
+-- the line that tells how a run has ended
+abbrev pub end_line : Summary → List ℕ
+end_line s =
+    codes "END STEPS " ++ decimal s.steps ++ codes " CYCLES " ++ decimal s.cycles ++ codes " OUTPUTS " ++ decimal s.outputs
+    ++ codes " Z " ++ octal_text 4 s.z ++ codes "\n"
 
 -- all steps are made, and the lines of their outputs written
 pub record Finishes (scenario : Scenario) (steps : ℕ) (old new : List ℕ) (summary : Summary) : Type 0 where

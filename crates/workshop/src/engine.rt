@@ -17,6 +17,7 @@ use crate::fault::WorkshopFault;
 use crate::inputs::read_inputs;
 use cpu::{Machine, Processor};
 use debugger::write_channel_line;
+use space::numbers::Eras;
 use std::alloc::Global;
 use words::{Read, Write, WriteFailed};
 
@@ -29,6 +30,8 @@ pub struct Summary {
     pub cycles: u64,
     /// How many lines were written.
     pub outputs: u64,
+    /// Z at the end, where the next word is fetched unless one waits.
+    pub z: u16,
 }
 
 /// The most steps of a run.
@@ -102,6 +105,7 @@ fn run<W: Write>(
         steps,
         cycles: machine.cycles(),
         outputs,
+        z: machine.reg(Eras::Z).to_u16(),
     })
 }
 

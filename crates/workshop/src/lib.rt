@@ -3,6 +3,7 @@
 
 mod assembly;
 mod debugging;
+mod ending;
 mod engine;
 mod fault;
 mod inputs;
@@ -10,6 +11,7 @@ mod upgrade;
 
 pub use assembly::asm_engine;
 pub use debugging::{Opened, debug_engine, follow_source, open_session};
+pub use ending::write_end;
 pub use engine::{MOST_STEPS, Summary, may_run, run_engine};
 pub use fault::{WorkshopFault, report};
 pub use rope::Version;
