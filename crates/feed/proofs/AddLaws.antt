@@ -135,11 +135,12 @@ gathered-more plain more series line cycle place input g at is few =
     }
 
 -- what a feed keeps with one input more
-pub feed-added : (plain more : List Plain) (series : List Series) (known at line cycle place : ℕ) (input : Input) → IsFeed plain series known at line → IsPlaceOf plain cycle place
-    → more ≡ insert plain place (record { cycle = cycle; line = line; input = input }) → length plain < most_inputs → IsFeed more series known 0 (line + 1)
-feed-added plain more series known at line cycle place input f is_at is few = record {
+pub feed-added : (plain more : List Plain) (series : List Series) (known at line cycle place : ℕ) (input : Input) (kept : Option Entry) → IsFeed plain series known at line kept → IsPlaceOf plain cycle place
+    → more ≡ insert plain place (record { cycle = cycle; line = line; input = input }) → length plain < most_inputs → IsFeed more series known 0 (line + 1) None
+feed-added plain more series known at line cycle place input kept f is_at is few = record {
   gathered = gathered-more plain more series line cycle place input f.gathered is_at is few;
   none = none_due-zero (merged more series) known;
+  next = tt;
   room =
       let r = f.room in
       let long = length-more plain more (plain_on line cycle input) (ap (map plain_entry) is ∙ inserted-at plain series line cycle place input f.gathered is_at) in

@@ -1,5 +1,5 @@
 -- What a feed keeps.
-use Rattle.std.specs.Prelude.{ℕ, ◌+◌, ◌-◌, ◌^◌, ◌<◌, ◌≤◌, ◌≡◌, List, length, slice_get, Option, None, Some}
+use Rattle.std.specs.Prelude.{ℕ, ◌+◌, ◌-◌, ◌^◌, ◌<◌, ◌≤◌, ◌≡◌, List, length, slice_get, Option, None, Some, IfSome}
 use Rattle.feed.specs.Added.{LinesBelow}
 use Rattle.feed.specs.Feed.{most_inputs}
 use Rattle.feed.specs.Heads.{AreSources}
@@ -30,8 +30,13 @@ pub record IsPlaceOf (plain : List Plain) (cycle place : ℕ) : Type 0 where
   pub before : (k : ℕ) → (q : Plain) → k < place → slice_get plain k ≡ Some q → q.cycle ≤ cycle
   pub after : (q : Plain) → slice_get plain place ≡ Some q → cycle < q.cycle
 
--- What is kept beside the sources: where no entry is due, and a line after all lines.
-pub record IsFeed (plain : List Plain) (series : List Series) (known cycle line : ℕ) : Type 0 where
+-- an entry, where it stands, is entry k
+abbrev pub IsEntry : List Entry → ℕ → Option Entry → Type 0
+IsEntry list k kept = IfSome kept (λ e. slice_get list k ≡ Some e)
+
+-- What is kept beside the sources: where no entry is due, an entry, and a line after all lines.
+pub record IsFeed (plain : List Plain) (series : List Series) (known cycle line : ℕ) (kept : Option Entry) : Type 0 where
   pub gathered : AreGathered plain series line
   pub none : NoneDue (merged plain series) known cycle
+  pub next : IsEntry (merged plain series) known kept
   pub room : line ≤ 2 ^ 40 + length plain

@@ -25,9 +25,10 @@ pub(crate) const MOST_INPUTS: usize = 65_536;
 pub struct Feed {
     plain: Vec<Plain>,
     sources: ArrayVec<Source, MOST_SERIES>,
-    // Entry `known`, counted from 0, is due at no cycle below `due_at`.
+    // Entry `known`, counted from 0, is due at no cycle below `due_at`, and it is `kept` where that is one.
     known: usize,
     due_at: u64,
+    kept: Option<Entry>,
     // A line after all others.
     line: u64,
 }
@@ -51,7 +52,7 @@ impl Model for Feed {
 
     ghost view = { λ f. merged f.plain.items f.sources.items };
 
-    ghost invariant = { λ f. IsFeed f.plain.items f.sources.items f.known f.due_at f.line };
+    ghost invariant = { λ f. IsFeed f.plain.items f.sources.items f.known f.due_at f.line f.kept };
 }
 
 impl Feed {
@@ -72,6 +73,7 @@ impl Feed {
             sources,
             known: 0,
             due_at: 0,
+            kept: None,
             line: u64::from(line),
         }
     }
@@ -120,14 +122,29 @@ impl Feed {
             Ok(()) => {
                 self.line = line + 1;
                 self.due_at = 0;
+                self.kept = None;
                 Ok(())
             }
             Err(_) => Err(AddFault::NoMemory),
         }
     }
 
-    // The next entry for a machine, whose cycle is kept where the counts are seen to fit.
+    // The next entry for a machine: the one that is kept, or else each source is looked at.
     fn next(&mut self, taken: usize, counts: &[u32; MOST_SERIES]) -> Option<Entry>
+        ensures same { self.new ≡ self.old }
+        ensures entry { Fits self.old taken counts.now → slice_get self.old taken ≡ result }
+        ensures series { IfSome result (λ e. IfSome e.series (λ j. j < 16)) }
+        ensures inputs { AreInputs self.old }
+    {
+        match self.kept {
+            Some(entry) if taken == self.known => Some(entry),
+            Some(_) => self.look(taken, counts),
+            None => self.look(taken, counts),
+        }
+    }
+
+    // The next entry for a machine, by a look at each source. It is kept where the counts are seen to fit.
+    fn look(&mut self, taken: usize, counts: &[u32; MOST_SERIES]) -> Option<Entry>
         ensures same { self.new ≡ self.old }
         ensures entry { Fits self.old taken counts.now → slice_get self.old taken ≡ result }
         ensures series { IfSome result (λ e. IfSome e.series (λ j. j < 16)) }
@@ -137,6 +154,7 @@ impl Feed {
         if known {
             self.known = taken;
             self.due_at = due_from(&next);
+            self.kept = next;
         }
         next
     }

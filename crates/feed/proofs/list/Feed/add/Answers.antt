@@ -26,7 +26,7 @@ pub invariant_of-self : goal.invariant_of-self
 invariant_of-self c =
     let place = subst (λ (l : List Plain). IsPlaceOf l c.args.cycle c.place_of-place.result) c.deref.ensures.value c.place_of-place.ensures in
     let long = ap length c.as_slice.ensures.value in
-    feed-added c.self.inside.plain.items c.insert.new.self.items c.self.inside.sources.items c.self.inside.known c.self.inside.due_at c.self.inside.line c.args.cycle c.place_of-place.result c.args.input c.self.invariant place
+    feed-added c.self.inside.plain.items c.insert.new.self.items c.self.inside.sources.items c.self.inside.known c.self.inside.due_at c.self.inside.line c.args.cycle c.place_of-place.result c.args.input c.self.inside.kept c.self.invariant place
     c.in-Ok.ensures.items (omega (arith, long))
 
 adds-last : goal.returns-in-Ok-clause-added

@@ -1,17 +1,14 @@
-use Rattle.std.proofs.Common.{◌∙◌, length, refl}
+use Rattle.std.proofs.Common.{refl}
+use Rattle.feed.specs.Merged.{merged}
 use Rattle.feed.proofs.GrowLaws.{inputs-of}
-use Rattle.feed.proofs.KeptLaws.{written_back, feed-next}
+use Rattle.feed.proofs.KeptLaws.{entry-series}
 use Rattle.feed.proofs.list.Feed.next.Goals as goal
 
-pub invariant_of-self : goal.invariant_of-self
-invariant_of-self c =
-    let same = c.next_of-next.ensures.same ∙ c.deref_mut.ensures.value in
-    let back = written_back c.self.inside.sources.items c.next_of-next.new.sources (length c.self.inside.sources.items) same refl in
-    feed-next c.self.inside.plain.items c.deref.result.now c.self.inside.sources.items c.deref_mut.result.now _ c.self.inside.known c.self.inside.due_at c.self.inside.line c.args.taken c.due_from-self-inside.result c.args.counts.now c.next_of-next.result.0
-    c.self.invariant c.deref.ensures.value c.deref_mut.ensures.value back (c.next_of-next.ensures.fits c.if-known.true) c.next_of-next.ensures.entry c.due_from-self-inside.ensures
+pub returns-in-Some-clause-series : goal.returns-in-Some-clause-series
+returns-in-Some-clause-series c =
+    let list = merged c.self.inside.plain.items c.self.inside.sources.items in
+    let inputs = inputs-of c.self.inside.plain.items c.self.inside.sources.items c.self.inside.line list c.self.invariant.gathered refl in
+    entry-series list c.self.inside.known c.in-Some.entry c.self.inside.kept inputs c.self.invariant.next c.in-Some.is
 
-pub returns-then-known-clause-inputs : goal.returns-then-known-clause-inputs
-returns-then-known-clause-inputs c = inputs-of c.self.inside.plain.items c.self.inside.sources.items c.self.inside.line c.args.self.now c.self.invariant.gathered c.self.view_is
-
-pub returns-else-known-clause-inputs : goal.returns-else-known-clause-inputs
-returns-else-known-clause-inputs c = inputs-of c.self.inside.plain.items c.self.inside.sources.items c.self.inside.line c.args.self.now c.self.invariant.gathered c.self.view_is
+pub returns-in-Some-clause-inputs : goal.returns-in-Some-clause-inputs
+returns-in-Some-clause-inputs c = inputs-of c.self.inside.plain.items c.self.inside.sources.items c.self.inside.line c.args.self.now c.self.invariant.gathered c.self.view_is
