@@ -1,7 +1,7 @@
 //! Lines, fields and numbers of texts.
 
 use agc_text::{
-    Field, Line, Number, decimal, decimal_value, next_field, next_line, octal, octal_value,
+    Field, Line, Number, decimal, decimal_value, is_text, next_field, next_line, octal, octal_value,
 };
 
 fn text_of<'a>(field: Option<Field<'a>>) -> &'a [u8] {
@@ -106,4 +106,22 @@ fn numbers_of_few_digits(rt: HostRuntime) {
     assert_eq!(rt; decimal(b"999999999999999", 15), Some(999999999999999));
     assert_eq!(rt; decimal(b"0999999999999999", 15), None);
     assert_eq!(rt; decimal(b"", 15), None);
+}
+
+#[test]
+fn each_byte_of_a_line_counts(rt: HostRuntime) {
+    let mut line = [b'a'; 40];
+    assert!(rt; is_text(&line));
+    assert!(rt; is_text(b""));
+    for place in 0..40 {
+        for byte in [b' ', b'~', b'\t'] {
+            line[place] = byte;
+            assert!(rt; is_text(&line));
+        }
+        for byte in [0, 8, b'\n', 0x1f, 0x7f, 0x80, 0xff] {
+            line[place] = byte;
+            assert!(rt; !is_text(&line));
+        }
+        line[place] = b'a';
+    }
 }
