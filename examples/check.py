@@ -1,14 +1,21 @@
 #!/usr/bin/env python3
 """Runs the built program on the examples and on what README.md and docs/MANUAL.md show, and compares what it writes, byte for byte.
 
-In these a fenced block says by its first word what it is:
-  agc      a source
-  feed     the feed of the next run, else the feed is empty
+In these each fenced block says by its first word what it is:
+  agc      a source, which stands in the file my.agc until the next one
+  feed     the feed of the next run or session, else the feed is empty; it stands in my.feed
   listing  what `agcws asm` writes for the last source
   run N    what `agcws run` writes for the last source in N steps
   debug SRC FEED   a session of `agcws debug`: commands, each after '> ', and the replies to each. A block `debug` goes on with it
+  debug my.agc     a session over the last source and feed
   image V  the bytes with which the image of version V of the last source begins, in hexadecimal
-and a row of a table of refusals, as `| E14 | cause | `source;lines` | 2 |`, a source (or, from E30 on, a feed) that is refused so.
+  shell    commands, each after '$ ', and what each writes, run in a folder with my.agc, my.feed and examples/, where agcws is found
+  text     nothing that a program takes or writes, as a picture
+and a row of a table of refusals, as `| E14 | cause | `source;lines` | 2 |`, a source (or, from E30 on, a feed) that is refused so; in
+it `\r`, `\f` and `\xFF` stand for bytes.
+
+Each program of examples/ is run, as runs.txt says, and gives NAME.out, or is assembled, and gives the listing NAME.lst. Each operator of the
+language stands in a source whose listing is compared. The manual and the examples name each other, and their links lead somewhere.
 
 The last line is 'N passed, M failed'."""
 
@@ -77,9 +84,9 @@ class Session:
         compare(label, (self.ran.returncode, out, err), 0, b"")
 
 
-def asked(text):
-    """The commands of a text, each with the replies that follow it."""
-    for part in re.split(r"^> ", text, flags=re.M)[1:]:
+def asked(text, mark="> "):
+    """The commands of a text, each after a mark, with the replies that follow it."""
+    for part in re.split(f"^{mark}", text, flags=re.M)[1:]:
         command, _, replies = part.partition("\n")
         yield f"{command}\n".encode(), replies.encode()
 
@@ -88,16 +95,74 @@ def compare(label, got, status, out, err=b""):
     told(label, got == (status, out, err), f"wanted {(status, out, err)!r}, got {got!r}")
 
 
-def check_examples():
-    with open(f"{EXAMPLES}/runs.txt", encoding="utf-8") as file:
-        rows = [line.split() for line in file if line.strip() and not line.startswith("#")]
+def with_ending(ending):
+    """The names of the files of examples/ with an ending, without it."""
+    return {it.removesuffix(ending) for it in os.listdir(EXAMPLES) if it.endswith(ending)}
+
+
+def check_examples(room):
+    rows = [line.split() for line in text_of("examples/runs.txt").split("\n") if line and not line.startswith("#")]
     for name, feed, steps in rows:
-        with open(f"{EXAMPLES}/{name}.out", "rb") as file:
-            wanted = file.read()
+        wanted = read(f"{EXAMPLES}/{name}.out")
         compare(f"examples/{name}", agcws("run", f"{EXAMPLES}/{name}.agc", f"{EXAMPLES}/{feed}", steps), 0, wanted)
-    listed = {f"{row[0]}.agc" for row in rows}
-    others = [it for it in os.listdir(EXAMPLES) if it.endswith(".agc") and it not in listed]
-    told("each example is run", not others, " ".join(others))
+    for name in sorted(with_ending(".lst")):
+        wanted = read(f"{EXAMPLES}/{name}.lst")
+        compare(f"examples/{name}", agcws("asm", f"{EXAMPLES}/{name}.agc", f"{room}/example.rope"), 0, wanted)
+    others = with_ending(".agc") - {row[0] for row in rows} - with_ending(".lst")
+    told("each example is run or listed", not others, " ".join(others))
+    others = with_ending(".feed") - {row[1].removesuffix(".feed") for row in rows}
+    told("each feed is run", not others, " ".join(others))
+    check_names()
+
+
+def fields_of(line):
+    """The label of a line of a source, or '', and its other fields."""
+    fields = line.split("#")[0].split()
+    return ("", fields) if line[:1] in ("", " ", "\t", "#") else (fields[0], fields[1:])
+
+
+def check_names():
+    """What an example calls by a name of names.agc is what that calls so."""
+    known = {}
+    for name in ["names"] + sorted(with_ending(".agc")):
+        for label, others in map(fields_of, text_of(f"examples/{name}.agc").split("\n")):
+            if others[:1] == ["EQUALS"]:
+                value = known.setdefault(label, others[1]) if name == "names" else known.get(label, others[1])
+                told(f"{label} in examples/{name}.agc", value == others[1], f"{others[1]} and not {value}")
+
+
+def check_operators():
+    """Each operator of the language stands in a source whose listing is compared."""
+    table = text_of("crates/yayul/specs/Operators.antt")
+    operators = set(re.findall(r'\(codes "([^"]+)"', table))
+    told("the operators of the language are found", {"SETLOC", "=", "2CADR", "NOOP"} <= operators)
+    sources = [text_of(f"examples/{name}.agc") for name in with_ending(".lst")]
+    shown = list(blocks(text_of("docs/MANUAL.md")))
+    sources += [body.decode() for (words, body, _), (after, _, _) in zip(shown, shown[1:]) if (words[0], after[0]) == ("agc", "listing")]
+    for source in sources:
+        for _, others in map(fields_of, source.split("\n")):
+            operators -= set(others[:1])
+    told("each operator's word is compared", not operators, " ".join(sorted(operators)))
+
+
+def check_links():
+    """The manual and the examples name each other; each link of a document leads to a file, and to a heading of it."""
+    manual, list_of_examples = text_of("docs/MANUAL.md"), text_of("examples/README.md")
+    for name in sorted(with_ending(".agc")):
+        told(f"the manual names {name}", f"examples/{name}.agc" in manual)
+        told(f"examples/README.md names {name}", f"| [`{name}`]({name}.agc) |" in list_of_examples)
+    for document in ["README.md", "docs/MANUAL.md", "examples/README.md"]:
+        for target in re.findall(r"\]\(([^)]+)\)", text_of(document)):
+            path, _, heading = target.partition("#")
+            path = os.path.normpath(f"{os.path.dirname(document)}/{path}" if path else document).lstrip("/")
+            there = os.path.exists(f"{ROOT}/{path}")
+            told(f"{document} links to {target}", there and (not heading or heading in headings(path)))
+
+
+def headings(name):
+    """The headings of a document, as links name them."""
+    found = re.findall(r"^#+ (.+)$", text_of(name), re.M)
+    return {re.sub(r"[^a-z0-9 -]", "", it.lower()).replace(" ", "-") for it in found}
 
 
 def blocks(text):
@@ -106,37 +171,80 @@ def blocks(text):
         yield found.group(1).split(), found.group(2).encode(), text.count("\n", 0, found.start()) + 1
 
 
-def check_document(room, name):
-    """Tries all that a document shows."""
-    with open(f"{ROOT}/{name}", encoding="utf-8") as file:
-        text = file.read()
-    source, feed, rope = f"{room}/manual.agc", f"{room}/manual.feed", f"{room}/manual.rope"
-    write(feed, b"")
-    session = None
-    for words, body, line in blocks(text):
-        label = f"{name}:{line}"
-        if words[0] == "agc":
-            write(source, body)
-        elif words[0] == "feed":
-            write(feed, body)
-        elif words[0] == "listing":
-            compare(label, agcws("asm", source, rope), 0, body)
-        elif words[0] == "image":
-            status, _, _ = agcws("asm", "--rope", words[1], source, rope)
-            told(label, status == 0 and read(rope).startswith(bytes.fromhex(body.decode())))
-        elif words[0] == "run":
-            compare(label, agcws("run", source, feed, words[1]), 0, body)
-            write(feed, b"")
-        elif words[0] == "debug":
-            session = Session(f"{ROOT}/{words[1]}", f"{ROOT}/{words[2]}") if words[1:] else session
-            for command, replies in asked(body.decode()):
-                session.ask(label, command, replies)
-        else:
-            told(label, False, f"no such block: {words[0]}")
-    if session:
-        session.end(f"the last session of {name}")
-    for number, shown, line in re.findall(r"^\| E(\d+) \|[^|]*\| `([^`]*)` \| (\d+) \|$", text, re.M):
-        check_refusal(room, int(number), shown.replace(";", "\n").encode() + b"\n", line)
+class Document:
+    """Tries all that a document shows, block by block."""
+
+    def __init__(self, room, name):
+        self.room, self.name, self.session = room, name, None
+        self.source, self.feed, self.rope = f"{room}/my.agc", f"{room}/my.feed", f"{room}/my.rope"
+        write(self.feed, b"")
+
+    def check(self):
+        text = text_of(self.name)
+        for words, body, line in blocks(text):
+            shown = getattr(self, f"try_{words[0]}", None)
+            if shown:
+                shown(f"{self.name}:{line}", words[1:], body)
+            else:
+                told(f"{self.name}:{line}", False, f"no such block: {words[0]}")
+        self.end()
+        for number, shown, line in re.findall(r"^\| E(\d+) \|[^|]*\| `([^`]*)` \| (\d+) \|$", text, re.M):
+            check_refusal(self.room, int(number), bytes_of(shown.replace(";", "\n")) + b"\n", line)
+
+    def try_agc(self, label, words, body):
+        write(self.source, body)
+        write(self.feed, b"")
+
+    def try_feed(self, label, words, body):
+        write(self.feed, body)
+
+    def try_listing(self, label, words, body):
+        compare(label, agcws("asm", self.source, self.rope), 0, body)
+
+    def try_image(self, label, words, body):
+        status, _, _ = agcws("asm", "--rope", words[0], self.source, self.rope)
+        told(label, status == 0 and read(self.rope).startswith(bytes.fromhex(body.decode())))
+
+    def try_run(self, label, words, body):
+        compare(label, agcws("run", self.source, self.feed, words[0]), 0, body)
+
+    def try_debug(self, label, words, body):
+        if words:
+            self.end()
+            source, feed = (self.source, self.feed) if words == ["my.agc"] else [f"{ROOT}/{it}" for it in words]
+            self.session = Session(source, feed)
+        for command, replies in asked(body.decode(), "> "):
+            self.session.ask(label, command, replies)
+
+    def try_shell(self, label, words, body):
+        for command, wanted in asked(body.decode(), r"\$ "):
+            ran = subprocess.run(["bash", "-c", command], cwd=self.room, env={**os.environ, "PATH": f"{self.room}:{os.environ['PATH']}"},
+                                 stdin=subprocess.DEVNULL, stdout=subprocess.PIPE, stderr=subprocess.STDOUT, timeout=60)
+            told(f"{label}: {command!r}", ran.stdout == wanted, f"wanted {wanted!r}, got {ran.stdout!r}")
+
+    def try_text(self, label, words, body):
+        told(label, not words)
+
+    def end(self):
+        if self.session:
+            self.session.end(f"a session of {self.name}")
+            self.session = None
+
+
+def check_documents(room):
+    """What the README and the manual show."""
+    os.symlink(PROGRAM, f"{room}/agcws")
+    os.symlink(EXAMPLES, f"{room}/examples")
+    for name in ["README.md", "docs/MANUAL.md"]:
+        Document(room, name).check()
+    unnamed = re.findall(r"^```\n[^`]+^```$", re.sub(r"^```\S[^`]*^```$", "", text_of("docs/MANUAL.md"), flags=re.M), re.M)
+    told("each block of the manual says what it is", not unnamed, repr(unnamed))
+
+
+def bytes_of(shown):
+    """The bytes of a source as a table shows it."""
+    text = shown.replace("\\r", "\r").replace("\\f", "\f").encode()
+    return re.sub(rb"\\x([0-9A-F]{2})", lambda found: bytes([int(found.group(1), 16)]), text)
 
 
 def check_refusal(room, number, text, line):
@@ -176,6 +284,8 @@ def check_devices(room):
     """Files that are not there, that cannot be made, and a writer that fails."""
     source, empty = f"{EXAMPLES}/five_plus_five.agc", f"{EXAMPLES}/empty.feed"
     compare("a source that is not there", agcws("run", f"{room}/none", empty, "4"), 3, b"", b"agcws: E6\n")
+    write(f"{room}/wrong.agc", b" FROB 1\n")
+    compare("a wrong source, and a feed that is not there", agcws("run", f"{room}/wrong.agc", f"{room}/none", "4"), 3, b"", b"agcws: E6\n")
     compare("a feed that is not there", agcws("run", source, f"{room}/none", "4"), 3, b"", b"agcws: E6\n")
     compare("a source that is a folder", agcws("asm", room, f"{room}/x"), 3, b"", b"agcws: E6\n")
     compare("an image that cannot be made", agcws("asm", source, f"{room}/none/x"), 3, b"", b"agcws: E7\n")
@@ -317,6 +427,11 @@ def check_command_line():
     compare("+4 steps", agcws("run", source, empty, "+4"), 0, b"7 CH 010 00012\n")
 
 
+def text_of(name):
+    """The text of a file of the repository."""
+    return read(f"{ROOT}/{name}").decode()
+
+
 def read(path):
     with open(path, "rb") as file:
         return file.read()
@@ -333,9 +448,10 @@ def main():
         print("0 passed, 1 failed")
         return 1
     with tempfile.TemporaryDirectory(prefix="agcws-") as room:
-        check_examples()
-        check_document(room, "README.md")
-        check_document(room, "docs/MANUAL.md")
+        check_examples(room)
+        check_operators()
+        check_links()
+        check_documents(room)
         check_long_texts(room)
         check_devices(room)
         check_debugger(room)
@@ -346,4 +462,5 @@ def main():
     return 1 if failed else 0
 
 
-sys.exit(main())
+if __name__ == "__main__":
+    sys.exit(main())

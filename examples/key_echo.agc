@@ -3,12 +3,13 @@
 
 ARUPT   EQUALS  10              # and LRUPT after it
 QRUPT   EQUALS  12
+KEYRUPT1 EQUALS 4024
 
         SETLOC  4000
         RELINT
 IDLE    TCF     IDLE
 
-        SETLOC  4024            # KEYRUPT1
+        SETLOC  KEYRUPT1        # four words, so that the rest stands elsewhere
         DXCH    ARUPT           # A and L are kept
         TCF     KEY
 

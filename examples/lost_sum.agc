@@ -2,6 +2,7 @@
 # puts out a wrong sum: the chapter on the debugger, in docs/MANUAL.md, finds why.
 
 TIME3   EQUALS  26
+T3RUPT  EQUALS  4014
 
         SETLOC  100
 COUNT   ERASE
@@ -11,7 +12,7 @@ TICKS   ERASE
         SETLOC  4000
         TCF     START
 
-        SETLOC  4014            # T3RUPT: a tick is counted
+        SETLOC  T3RUPT          # a tick is counted
         CAF     ONE
         ADS     TICKS
         RESUME

@@ -3,6 +3,7 @@
 
 ARUPT   EQUALS  10              # where a program keeps A while it serves an interrupt
 TIME3   EQUALS  26
+T3RUPT  EQUALS  4014
 
         SETLOC  100
 SECONDS ERASE
@@ -13,7 +14,7 @@ SECONDS ERASE
         RELINT
 IDLE    TCF     IDLE
 
-        SETLOC  4014            # T3RUPT: four words, so that the rest stands elsewhere
+        SETLOC  T3RUPT          # four words, so that the rest stands elsewhere
         TCF     TICK
 
         SETLOC  4100
