@@ -1,5 +1,5 @@
 #!/usr/bin/env python3
-"""Runs the built program on the examples and on what README.md and docs/MANUAL.md show, and compares what it writes, byte for byte.
+"""Runs the built program on the examples and on what README.md, examples/README.md and docs/MANUAL.md show, and compares what it writes, byte for byte.
 
 In these each fenced block says by its first word what it is:
   agc      a source, which stands in the file my.agc until the next one
@@ -149,7 +149,7 @@ def check_links():
     """The manual and the examples name each other; each link of a document leads to a file, and to a heading of it."""
     manual, list_of_examples = text_of("docs/MANUAL.md"), text_of("examples/README.md")
     for name in sorted(with_ending(".agc")):
-        told(f"the manual names {name}", f"examples/{name}.agc" in manual)
+        told(f"the manual names {name}", f"](../examples/{name}.agc)" in manual)
         told(f"examples/README.md names {name}", f"| [`{name}`]({name}.agc) |" in list_of_examples)
     for document in ["README.md", "docs/MANUAL.md", "examples/README.md"]:
         for target in re.findall(r"\]\(([^)]+)\)", text_of(document)):
@@ -235,7 +235,7 @@ def check_documents(room):
     """What the README and the manual show."""
     os.symlink(PROGRAM, f"{room}/agcws")
     os.symlink(EXAMPLES, f"{room}/examples")
-    for name in ["README.md", "docs/MANUAL.md"]:
+    for name in ["README.md", "examples/README.md", "docs/MANUAL.md"]:
         Document(room, name).check()
     unnamed = re.findall(r"^```\n[^`]+^```$", re.sub(r"^```\S[^`]*^```$", "", text_of("docs/MANUAL.md"), flags=re.M), re.M)
     told("each block of the manual says what it is", not unnamed, repr(unnamed))
