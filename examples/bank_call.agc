@@ -31,3 +31,6 @@ DOUBLED DXCH    BACK            # the way back is kept
         DTCB
 
 VALUE   OCT     123
+
+# By hand: CAF 2, EXTEND 3, WRITE 5, EXTEND 6, DCA 9, DTCB 12; DXCH 15, CA 17, DOUBLE
+# 19, TS 21, DXCH 24, DTCB 27; CA 29, EXTEND 30, WRITE 32. Twice 123 is octal 246.

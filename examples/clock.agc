@@ -29,3 +29,7 @@ TICK    XCH     ARUPT           # A is kept
         RESUME
 
 SOON    OCT     37776           # two pulses before overflow
+
+# By hand: the second pulse comes at 40. It takes 1 cycle and the entry 3; TCF 1, XCH 2,
+# CAF 2, TS 2, INCR 2, CA 2, EXTEND 1, WRITE 2: the output comes 18 cycles after the
+# pulse, at 58. The fourth pulse, at 80, is the second after that: 98.

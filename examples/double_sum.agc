@@ -30,3 +30,7 @@ SECOND  OCT     2
         OCT     1
 THIRD   OCT     0
         OCT     5
+
+# By hand: the lower words 37777 and 1 make 40000, which is 0 and a carry; the upper
+# words 1 and 2 and the carry make 4; the third number adds 5 to the lower word.
+# EXTEND, DCA and DAS are 7, three times 21; CA, EXTEND, WRITE 5: 26, and 31.

@@ -6,3 +6,5 @@
  WRITE 10           # channel 010 := A
  TCF 4000           # again
 FIVE OCT 5
+
+# By hand: CA 2 cycles, AD 4, EXTEND 5, WRITE 7. Ten is octal 12.

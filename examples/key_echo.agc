@@ -24,3 +24,6 @@ KEY     EXTEND
         QXCH    QRUPT           # Q is as it was
         DXCH    ARUPT           # A and L are as they were
         RESUME
+
+# By hand: a key takes no cycle, and the entry 3; DXCH 3, TCF 1, EXTEND 1, QXCH 2,
+# EXTEND 1, READ 2, EXTEND 1, WRITE 2: each key comes out 16 cycles after it came in.

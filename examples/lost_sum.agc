@@ -42,3 +42,9 @@ TABLE   DEC     10
         DEC     30
         DEC     40
         DEC     -50
+
+# What it puts out, by hand, for those who have found the cause: the pulse comes at 27,
+# after INDEX, which bars interrupts until AD has been executed. So the tick comes
+# between AD and TS: its CAF and ADS leave 1 in A, and TS stores that for -50 + 40 = -10.
+# The sum is 1 + 30 + 20 + 10 = 61, octal 75. Without a tick it would come at cycle 1 + 7
+# + 60 + 4 + 5 = 77; the pulse 1, the entry 3, CAF 2, ADS 2, RESUME 2 make it 87.

@@ -38,3 +38,8 @@ DONE    TCF     DONE
 
 ONE     OCT     1
 THREE   OCT     3
+
+# By hand: CAF 2, TS 4, CAF 6; from TS COLUMN to WRITE 2 + 2 + 1 + 3 + 2 + 1 + 2 = 13,
+# so the first product comes at 19. To the next column CS 2, AD 2, EXTEND 1, BZF 2, CA
+# 2, AD 2, TCF 1 are 12, and 13: 25 later. To the next row CS 2, AD 2, EXTEND 1, BZF 1,
+# then 2 + 2 + 1 + 2, CA 2, AD 2, TCF 1, TS 2, CAF 2 are 22, and 13: 35 later.

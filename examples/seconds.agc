@@ -29,3 +29,8 @@ TICK    XCH     ARUPT           # A is kept
         RESUME
 
 SECOND  OCT     37634           # a hundred pulses before overflow
+
+# By hand: pulse i comes at i * 2560 / 3. That of cycle 0 comes before TIME3 is set, so
+# pulses 100, 200, .. overflow it: at 85333, 170666, 256000, .. Each is taken at its cycle,
+# for the machine idles in steps of one cycle, and as in clock.agc the output comes 18
+# cycles later.

@@ -27,3 +27,6 @@ TABLE   DEC     10
         DEC     30
         DEC     40
         DEC     -50
+
+# By hand: 10 + 20 + 30 + 40 - 50 = 50, octal 62. CAF 2; five times TS, CA, INDEX, AD,
+# TS, CCS, of 2 each, and four times TCF: 2 + 60 + 4 = 66; CA, EXTEND, WRITE 5: 71.
