@@ -15,7 +15,7 @@ and a row of a table of refusals, as `| E14 | cause | `source;lines` | 2 |`, a s
 it `\r`, `\f` and `\xFF` stand for bytes.
 
 Each program of examples/ is run, as runs.txt says, and gives NAME.out, or is assembled, and gives the listing NAME.lst. Each operator of the
-language stands in a source whose listing is compared. The manual and the examples name each other, and their links lead somewhere.
+language stands in a source whose listing is compared, and each instruction in a program that is run. The manual and the examples name each other, and their links lead somewhere.
 
 The last line is 'N passed, M failed'."""
 
@@ -131,18 +131,23 @@ def check_names():
                 told(f"{label} in examples/{name}.agc", value == others[1], f"{others[1]} and not {value}")
 
 
+def operators_in(sources):
+    """The operators of some sources."""
+    return {others[0] for source in sources for _, others in map(fields_of, source.split("\n")) if others}
+
+
 def check_operators():
-    """Each operator of the language stands in a source whose listing is compared."""
-    table = text_of("crates/yayul/specs/Operators.antt")
-    operators = set(re.findall(r'\(codes "([^"]+)"', table))
-    told("the operators of the language are found", {"SETLOC", "=", "2CADR", "NOOP"} <= operators)
-    sources = [text_of(f"examples/{name}.agc") for name in with_ending(".lst")]
+    """Each operator of the language stands in a source whose listing is compared, and each instruction in a program that is run."""
+    operators = re.findall(r'\(codes "([^"]+)"', text_of("crates/yayul/specs/Operators.antt"))
+    told("the operators of the language are found", {"SETLOC", "=", "2CADR", "TC", "NOOP"} <= set(operators))
+    listed = [text_of(f"examples/{name}.agc") for name in with_ending(".lst")]
     shown = list(blocks(text_of("docs/MANUAL.md")))
-    sources += [body.decode() for (words, body, _), (after, _, _) in zip(shown, shown[1:]) if (words[0], after[0]) == ("agc", "listing")]
-    for source in sources:
-        for _, others in map(fields_of, source.split("\n")):
-            operators -= set(others[:1])
-    told("each operator's word is compared", not operators, " ".join(sorted(operators)))
+    listed += [body.decode() for (words, body, _), (after, _, _) in zip(shown, shown[1:]) if (words[0], after[0]) == ("agc", "listing")]
+    missing = set(operators) - operators_in(listed)
+    told("each operator's word is compared", not missing, " ".join(sorted(missing)))
+    # The table has the instructions last, from TC on.
+    missing = set(operators[operators.index("TC"):]) - operators_in(text_of(f"examples/{name}.agc") for name in with_ending(".out"))
+    told("each instruction stands in a program that is run", not missing, " ".join(sorted(missing)))
 
 
 def check_links():

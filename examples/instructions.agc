@@ -171,7 +171,8 @@ SEEN    CA      Q               # and so Q is 2
         CAF     COUNTX          # INCR X
         XXALQ                   # the words in A and L are executed
         TCF     WRONG
-LAST    NOOP
+LAST    NOOP                    # a jump to the next line
+        INHINT                  # interrupts are inhibited from the start: nothing changes
         CAE     X               # 0 + 1
         EXTEND
         WRITE   20              # 00001
