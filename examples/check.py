@@ -277,6 +277,7 @@ def check_long_texts(room):
         compare(f"a long or wrong source, {error.decode().strip()}", agcws("run", source, empty, "1"), 1, b"", error)
     write(source, b"")
     for text, error in [
+        (b"#" * 121 + b"\n", b"agcws: E30 LINE 1\n"),
         (b"0 RUPT 1\n" * 65537, b"agcws: E32\n"),
         (b"EVERY 0 1 1 1 RUPT 1\n" * 17, b"agcws: E35 LINE 17\n"),
         (b"\n" * 8388609, b"agcws: E34\n"),
