@@ -193,8 +193,16 @@ class Document:
             else:
                 told(f"{self.name}:{line}", False, f"no such block: {words[0]}")
         self.end()
-        for number, shown, line in re.findall(r"^\| E(\d+) \|[^|]*\| `([^`]*)` \| (\d+) \|$", text, re.M):
-            check_refusal(self.room, int(number), bytes_of(shown.replace(";", "\n")) + b"\n", line)
+        self.try_refusals(text)
+
+    def try_refusals(self, text):
+        for row in re.findall(r"^\| E\d+ \|[^|]*\|[^|]*\|[^|]*\|$", text, re.M):
+            found = re.match(r"\| E(\d+) \|[^|]*\| `([^`]*)` \| (\d+) \|$", row)
+            if found:
+                number, shown, line = found.groups()
+                check_refusal(self.room, int(number), bytes_of(shown.replace(";", "\n")) + b"\n", line)
+            else:
+                told(f"{self.name} draws {row}", re.search(r"\| \(a [^|]*\) \| \|$", row))
 
     def try_agc(self, label, words, body):
         write(self.source, body)
@@ -242,8 +250,8 @@ def check_documents(room):
     os.symlink(EXAMPLES, f"{room}/examples")
     for name in ["README.md", "examples/README.md", "docs/MANUAL.md"]:
         Document(room, name).check()
-    unnamed = re.findall(r"^```\n[^`]+^```$", re.sub(r"^```\S[^`]*^```$", "", text_of("docs/MANUAL.md"), flags=re.M), re.M)
-    told("each block of the manual says what it is", not unnamed, repr(unnamed))
+    fences = re.findall(r"^```.*$", text_of("docs/MANUAL.md"), re.M)
+    told("each block of the manual says what it is", "```" not in fences[::2] and set(fences[1::2]) == {"```"})
 
 
 def bytes_of(shown):
