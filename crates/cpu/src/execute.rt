@@ -34,7 +34,7 @@ impl Machine {
     }
 
     /// The word at Z, where the bank registers count.
-    #[inline(never)]
+    #[inline(always)]
     fn word_in_window(&self, rope: &Rope) -> Word
         ensures { result ≡ word_at_z rope.now self.now }
     {

@@ -19,6 +19,7 @@ const SIGN: u16 = 0o100000;
 
 impl Machine {
     /// TC
+    #[inline(always)]
     #[tactic(auto, unfolding(crate::specs::Effects::tc, crate::specs::Effects::tcf))]
     pub(crate) fn transfer_control(&mut self, address: Addr12)
         ensures { self.new ≡ changes self.old (tc self.old address) }
@@ -31,6 +32,7 @@ impl Machine {
     }
 
     /// CCS
+    #[inline(always)]
     #[tactic(auto, unfolding(crate::specs::Effects::ccs))]
     pub(crate) fn count_compare_and_skip(&mut self, rope: &Rope, address: Addr10)
         ensures { self.new ≡ changes self.old (ccs rope.now self.old address) }
@@ -44,6 +46,7 @@ impl Machine {
     }
 
     /// TCF
+    #[inline(always)]
     #[tactic(auto, unfolding(crate::specs::Effects::tcf))]
     pub(crate) fn jump(&mut self, address: Addr12)
         ensures { self.new ≡ changes self.old (tcf address) }
@@ -52,6 +55,7 @@ impl Machine {
     }
 
     /// CA
+    #[inline(always)]
     #[tactic(auto, unfolding(crate::specs::Effects::ca))]
     pub(crate) fn clear_and_add(&mut self, rope: &Rope, address: Addr12)
         ensures { self.new ≡ changes self.old (ca rope.now self.old address) }
@@ -63,6 +67,7 @@ impl Machine {
     }
 
     /// CS
+    #[inline(always)]
     #[tactic(auto, unfolding(crate::specs::Effects::cs))]
     pub(crate) fn clear_and_subtract(&mut self, rope: &Rope, address: Addr12)
         ensures { self.new ≡ changes self.old (cs rope.now self.old address) }
@@ -74,6 +79,7 @@ impl Machine {
     }
 
     /// AD
+    #[inline(always)]
     #[tactic(auto, unfolding(crate::specs::Effects::ad))]
     pub(crate) fn add(&mut self, rope: &Rope, address: Addr12)
         ensures { self.new ≡ changes self.old (ad rope.now self.old address) }
@@ -98,6 +104,7 @@ impl Machine {
     }
 
     /// MASK
+    #[inline(always)]
     #[tactic(auto, unfolding(crate::specs::Effects::mask))]
     pub(crate) fn mask(&mut self, rope: &Rope, address: Addr12)
         ensures { self.new ≡ changes self.old (mask rope.now self.old address) }
@@ -110,6 +117,7 @@ impl Machine {
     }
 
     /// TS
+    #[inline(always)]
     #[tactic(auto, unfolding(crate::specs::Effects::ts))]
     pub(crate) fn transfer_to_storage(&mut self, address: Addr10)
         ensures { self.new ≡ changes self.old (ts self.old address) }
@@ -134,6 +142,7 @@ impl Machine {
     }
 
     /// A register and a place are exchanged.
+    #[inline(always)]
     fn exchange(&mut self, register: Eras, place: Eras)
         ensures { self.new ≡ changes self.old (exchange self.old register place) }
     {
@@ -144,6 +153,7 @@ impl Machine {
     }
 
     /// XCH
+    #[inline(always)]
     #[tactic(auto, unfolding(crate::specs::Effects::xch))]
     pub(crate) fn exchange_a(&mut self, address: Addr10)
         ensures { self.new ≡ changes self.old (xch self.old address) }
@@ -193,6 +203,7 @@ impl Machine {
     }
 
     /// INCR
+    #[inline(always)]
     #[tactic(auto, unfolding(crate::specs::Effects::incr))]
     pub(crate) fn increment(&mut self, address: Addr10)
         ensures { self.new ≡ changes self.old (incr self.old address) }
@@ -276,6 +287,7 @@ impl Machine {
     }
 
     /// INDEX
+    #[inline(always)]
     #[tactic(auto, unfolding(crate::specs::Effects::index))]
     pub(crate) fn index(&mut self, rope: &Rope, address: Addr12)
         ensures { self.new ≡ changes self.old (index rope.now self.old address) }
