@@ -168,9 +168,8 @@ def none_in_a_session(room, source, feed):
     for file in (opened, refused):
         if os.path.exists(file):
             os.remove(file)
-    with subprocess.Popen([PROGRAM, "debug", source, feed], stdin=subprocess.PIPE, stdout=subprocess.PIPE, stderr=subprocess.PIPE, env=env) as ran:
+    with subprocess.Popen([PROGRAM, "debug", source, feed], stdin=subprocess.PIPE, stdout=subprocess.PIPE, stderr=subprocess.PIPE, env=env, bufsize=0) as ran:
         ran.stdin.write(b"regs\n")
-        ran.stdin.flush()
         first = ran.stdout.readline()
         write(opened, b"")
         out, err = ran.communicate(script.removeprefix(b"regs\n"), timeout=600)

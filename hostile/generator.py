@@ -8,7 +8,9 @@ NUMBERS = ["0", "5", "7", "10", "44", "100", "377", "1400", "4000", "5777", "100
 COUNTERS = "TIME1 TIME2 TIME3 TIME4 TIME5 TIME6 CDUX CDUY CDUZ OPTY OPTX PIPAX PIPAY PIPAZ INLINK CHAN RUPT FROB".split()
 SEQUENCES = "PINC MINC DINC PCDU MCDU SHINC SHANC 015 00021 3 0 11 99999".split()
 COMMANDS = "step run back goto seek break clear regs mem chan last sym changed tail add quit".split()
-WORDS = ["at", "word", "chan", "0", "1", "4", "17", "100", "4000", "02,4001", "43,0017", "SUM", "START", "999999999999999", "1099511627775", "-1", "TIME1", "PINC", "#", "x" * 70]
+WORDS = ["at", "word", "chan", "0", "1", "4", "17", "100", "4000", "02,4001", "43,0017", "SUM", "START", "-1", "TIME1", "PINC", "#", "x" * 70]
+# (not of step and run, which would make so many steps)
+LARGE = ["999999999999999", "1099511627775", "9999999999999999"]
 IMAGE_BYTES = 73728
 
 
@@ -41,7 +43,12 @@ def feed(rng):
 
 
 def commands(rng):
-    return text_of(rng, [" ".join([rng.choice(COMMANDS), *(rng.choice(WORDS) for _ in range(rng.choice([0, 0, 1, 1, 2, 3])))]) for _ in range(rng.randrange(25))])
+    def line():
+        command = rng.choice(COMMANDS)
+        words = WORDS if command in ("step", "run") else WORDS + LARGE
+        return " ".join([command, *(rng.choice(words) for _ in range(rng.choice([0, 0, 1, 1, 2, 3])))])
+
+    return text_of(rng, [line() for _ in range(rng.randrange(25))])
 
 
 def image(rng):
