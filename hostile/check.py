@@ -30,9 +30,10 @@ import generator
 PROGRAM = os.environ.get("AGCWS", f"{ROOT}/crates/agcws/out/agcws")
 EXAMPLES = f"{ROOT}/examples"
 FIVE, EMPTY = f"{EXAMPLES}/five_plus_five.agc", f"{EXAMPLES}/empty.feed"
-# The most seconds that a call may take, and the most memory in bytes: so much, and so much for each byte that is read.
+# The most seconds that a call may take, and the most memory in bytes: so much, and so much for each byte that is read. (The system counts what the process that starts
+# the call has itself, some 33 MiB.)
 MOST_SECONDS = 10
-MOST_MEMORY, MEMORY_PER_BYTE = 32 << 20, 64
+MOST_MEMORY, MEMORY_PER_BYTE = 64 << 20, 64
 REFUSALS = {"source": range(10, 27), "feed": (30, 31, 32, 33, 35), "image": (3, 4, 5)}
 
 passed, failed = 0, []
@@ -141,9 +142,11 @@ def memory(room):
         "upgrade": (("upgrade", old, rope), b""),
     }
     for name, (words, commands) in calls.items():
+        if os.path.exists(rope):
+            os.remove(rope)
         right = sessions(source, feed) if name == "debug" else [agcws(*words)[1]]
         image = read(rope) if os.path.exists(rope) else b""
-        at, wrong, is_met = 0, [], True
+        at, wrong, again, is_met = 0, [], 0, True
         while is_met and at < 100_000:
             at += 1
             if os.path.exists(rope):
@@ -152,10 +155,13 @@ def memory(room):
             made = read(rope) if os.path.exists(rope) else b""
             is_e2 = (status, err) == (3, b"agcws: E2\n") and right[0].startswith(out) and image.startswith(made)
             is_told = name == "debug" and (status, err) == (0, b"") and out in right[1:]
-            is_whole = not is_met and (status, err) == (0, b"") and out == right[0]
+            # (a vector that is refused room for more than it needs asks again, for what it needs)
+            is_whole = (status, err) == (0, b"") and out == right[0] and made == image
+            again += is_whole and is_met
             if not (is_e2 or is_told or is_whole):
                 wrong.append((at, status, out[-80:], err[-200:]))
-        told(f"memory: {name}, each of {at - 1} requests refused", not wrong and not is_met, f"{len(wrong)} wrong, the first: {wrong[:3]}")
+        told(f"memory: {name}, each of {at - 1} requests refused", not wrong and not is_met and again <= 2, f"{len(wrong)} wrong, the first: {wrong[:3]}; {again} asked again")
+        print(f"memory: {name}: {at - 1} requests, each refused once; {again} of them were made again for less", flush=True)
     none_in_a_session(room, source, feed)
 
 

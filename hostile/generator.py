@@ -52,15 +52,13 @@ def commands(rng):
 
 
 def image(rng):
-    """Words of version 1 or 2, most of them whole."""
-    some = rng.randbytes(512)
-    made = bytearray((some * (IMAGE_BYTES // 512 + 1))[:IMAGE_BYTES])
-    parity = rng.random() < 0.3
-    for at in range(1, IMAGE_BYTES, 2):
-        made[at] &= 0xFE
-        if parity and (made[at - 1].bit_count() + made[at].bit_count()) % 2 == 0:
-            made[at] |= 1
-    return bytes(made)
+    """Words of version 1 or 2, the same in each quarter of a bank."""
+    some, has_parity = bytearray(rng.randbytes(512)), rng.random() < 0.3
+    for at in range(1, len(some), 2):
+        some[at] &= 0xFE
+        if has_parity and (some[at - 1].bit_count() + some[at].bit_count()) % 2 == 0:
+            some[at] |= 1
+    return bytes(some) * (IMAGE_BYTES // len(some))
 
 
 MAKERS = {"source": source, "feed": feed, "commands": commands, "image": image}
