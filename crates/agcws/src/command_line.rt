@@ -1,8 +1,11 @@
 //! The command line, and its help.
 
-use clap::{Arg, Command, value_parser};
+use clap::{Arg, ArgAction, Command, value_parser};
 use std::alloc::{AllocError, Global};
 use workshop::MOST_STEPS;
+
+/// The version of the program, as `--version` tells it.
+const PROGRAM_VERSION: &str = "0.1.0";
 
 /// The name of the subcommand that assembles a program.
 pub const ASM: &str = "asm";
@@ -45,6 +48,9 @@ pub const FEED: &str = "FEED";
 /// The argument that is the number of steps.
 pub const STEPS: &str = "N";
 
+/// The option that tells how a run has ended.
+pub const END: &str = "END";
+
 const ASM_HELP: &str = "Files:
   SRC   a source in the assembler's language, at most 65536 lines of at most
         120 bytes. A label begins at the first byte of its line; operator,
@@ -54,6 +60,8 @@ const ASM_HELP: &str = "Files:
         word. In version 2 the lowest bit is a parity bit, by which every two
         bytes have an odd number of one bits; in version 1 it is 0.
         The file is made at the first write: a refused source leaves none.
+  SRC and ROPE must be two paths. They are compared as they are written, and
+  not what they lead to: p.agc and ./p.agc pass, and then the source is lost.
 
 Output: the listing, a row for each line of the source with its number, its
 place and its word in octal, and then the symbols.
@@ -72,6 +80,8 @@ const UPGRADE_HELP: &str = "Files:
   NEW  the image of the same words in version 2, where the lowest bit of every
        two bytes is a parity bit: they have an odd number of one bits.
        The file is made at the first write: a refused image leaves none.
+  OLD and NEW must be two paths. They are compared as they are written, and
+  not what they lead to: p.rope and ./p.rope pass, and then OLD is lost.
 
 Exit status:
   0  done
@@ -90,6 +100,12 @@ const RUN_HELP: &str = "Files:
           CYCLE CHAN CHANNEL WORD     a word on an input channel, in octal
           CYCLE RUPT K                interrupt K is asked for, 1 to 10
           CYCLE COUNTER SEQUENCE      a pulse, as 100 TIME3 PINC
+        each counter with its sequences:
+          TIME1 TIME2 TIME3 TIME4 TIME5     PINC
+          TIME6                             DINC
+          CDUX CDUY CDUZ OPTY OPTX          PCDU MCDU
+          PIPAX PIPAY PIPAZ                 PINC MINC
+          INLINK                            SHINC SHANC
         and at most 16 series, each one input COUNT times:
           EVERY FIRST NUM DEN COUNT, and an input without its CYCLE
         Input I of it, from 0 on, comes at FIRST + (I * NUM) / DEN, rounded
@@ -100,6 +116,9 @@ const RUN_HELP: &str = "Files:
 Output: one line for each word written to a channel, as
   7 CH 010 00012
 with the cycles in decimal, and the channel and the word in octal.
+With --end, when all steps are made, also one line to standard error, as
+  END STEPS 4 CYCLES 7 OUTPUTS 1 Z 4004
+with the lines written as OUTPUTS, and in octal Z, where the program stands.
 
 Exit status:
   0  done
@@ -157,6 +176,7 @@ Status 1 and 3 print one line to standard error, as agcws: E14 LINE 9.";
 pub fn command<'a>(alloc: Global) -> Result<Command<'a>, AllocError> {
     Command::new(alloc, "agcws")
         .about("Assembles, runs and debugs programs for the Apollo Guidance Computer")
+        .version(PROGRAM_VERSION)
         .after_help(
             "See the --help of agcws asm, run, debug and upgrade for the files and the exit\nstatuses.",
         )
@@ -209,7 +229,7 @@ fn upgrade_command<'a>(alloc: Global) -> Result<Command<'a>, AllocError> {
         )
 }
 
-/// `agcws run SRC FEED N`.
+/// `agcws run [--end] SRC FEED N`.
 fn run_command<'a>(alloc: Global) -> Result<Command<'a>, AllocError> {
     Command::new(alloc, RUN)
         .about("Writes what a program puts out on channels in some steps")
@@ -229,6 +249,12 @@ fn run_command<'a>(alloc: Global) -> Result<Command<'a>, AllocError> {
                 .required(true)
                 .value_parser(value_parser!(u64).range(0..=MOST_STEPS as i64))
                 .help("How many steps, 0 to 1099511627774"),
+        )?
+        .arg(
+            Arg::new(alloc, END)
+                .long("end")
+                .action(ArgAction::SetTrue)
+                .help("Tells how the run has ended, on standard error"),
         )
 }
 

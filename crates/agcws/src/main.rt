@@ -8,7 +8,7 @@ mod read_ahead;
 use clap::ArgMatches;
 use clap::error::ErrorKind;
 use command_line::{
-    ASM, DEBUG, FEED, NEW, OLD, ROPE, RUN, SOURCE, STEPS, UPGRADE, VERSION, VERSION_ONE,
+    ASM, DEBUG, END, FEED, NEW, OLD, ROPE, RUN, SOURCE, STEPS, UPGRADE, VERSION, VERSION_ONE,
     VERSION_TWO, command,
 };
 use lazy_file::LazyFile;
@@ -19,7 +19,8 @@ use std::process::ExitCode;
 use std::{env, fs, io};
 use words::{Std, Write, write_all};
 use workshop::{
-    Version, WorkshopFault, asm_engine, debug_engine, may_run, report, run_engine, upgrade_engine,
+    Summary, Version, WorkshopFault, asm_engine, debug_engine, may_run, report, run_engine,
+    upgrade_engine, write_end,
 };
 
 /// The exit status where all is done.
@@ -48,7 +49,7 @@ fn perform(rt: &HostRuntime) -> Result<u8, WorkshopFault> {
         Err(error) if error.kind() == io::ErrorKind::OutOfMemory => {
             return Err(WorkshopFault::NoMemory);
         }
-        Err(_) => return refuse_arguments(rt),
+        Err(_) => return refuse_arguments(rt, b"error: an argument is not valid UTF-8\n"),
     };
     let command = command(rt.alloc()).map_err(no_memory)?;
     match command.try_get_matches_from(words.as_slice()) {
@@ -74,16 +75,16 @@ fn answer(rt: &HostRuntime, error: &clap::Error) -> Result<u8, WorkshopFault> {
     }
 }
 
-/// Says that an argument is no text.
-fn refuse_arguments(rt: &HostRuntime) -> Result<u8, WorkshopFault> {
-    let text = b"error: an argument is not valid UTF-8\n";
+/// Says what is wrong with the arguments, where `clap` does not tell it.
+fn refuse_arguments(rt: &HostRuntime, text: &[u8]) -> Result<u8, WorkshopFault> {
     match write_all(&mut Std::new(rt.stderr()), text) {
         Ok(()) => Ok(WRONG_ARGUMENTS),
         Err(_) => Err(WorkshopFault::WriteFailed),
     }
 }
 
-/// `agcws asm [--rope VERSION] SRC ROPE`. The file ROPE is made at the first write, so that a refused source leaves none.
+/// `agcws asm [--rope VERSION] SRC ROPE`. The file ROPE is made at the first write, so that a refused source leaves none. One
+/// path for both is refused before anything is opened.
 fn asm(rt: &HostRuntime, matches: &ArgMatches<'_>) -> Result<u8, WorkshopFault> {
     let (Some(source), Some(rope)) = (matches.get_str(SOURCE), matches.get_str(ROPE)) else {
         return Ok(WRONG_ARGUMENTS);
@@ -93,6 +94,9 @@ fn asm(rt: &HostRuntime, matches: &ArgMatches<'_>) -> Result<u8, WorkshopFault> 
         Some(VERSION_TWO) => Version::Two,
         _ => return Ok(WRONG_ARGUMENTS),
     };
+    if source == rope {
+        return refuse_arguments(rt, b"error: SRC and ROPE are the same path\n");
+    }
     let mut source = Std::new(fs::open(rt, source).map_err(not_opened)?);
     let mut image = Std::new(LazyFile::new(rt, rope));
     let buffered = BufWriter::new(rt.alloc(), io::writer(rt)).map_err(not_buffered)?;
@@ -104,7 +108,7 @@ fn asm(rt: &HostRuntime, matches: &ArgMatches<'_>) -> Result<u8, WorkshopFault> 
     }
 }
 
-/// `agcws run SRC FEED N`. Both files are opened before anything is read.
+/// `agcws run [--end] SRC FEED N`. Both files are opened before anything is read.
 fn run(rt: &HostRuntime, matches: &ArgMatches<'_>) -> Result<u8, WorkshopFault> {
     let (Some(source), Some(feed), Some(steps)) = (
         matches.get_str(SOURCE),
@@ -122,9 +126,17 @@ fn run(rt: &HostRuntime, matches: &ArgMatches<'_>) -> Result<u8, WorkshopFault> 
     let mut out = Std::new(buffered);
     let outcome = run_engine(rt.alloc(), &mut source, &mut feed, steps, &mut out);
     match out.flush() {
-        Ok(()) => outcome.map(|_| DONE),
+        Ok(()) => end(rt, matches, &outcome?),
         Err(_) => Err(WorkshopFault::WriteFailed),
     }
+}
+
+/// Ends a run that is done: where `--end` stands, its summary is told on standard error.
+fn end(rt: &HostRuntime, matches: &ArgMatches<'_>, summary: &Summary) -> Result<u8, WorkshopFault> {
+    if matches.get_flag(END) {
+        write_end(summary, &mut Std::new(rt.stderr()))?;
+    }
+    Ok(DONE)
 }
 
 /// `agcws debug SRC FEED`. Both files are opened before anything is read; commands come from standard input.
@@ -144,11 +156,15 @@ fn debug(rt: &HostRuntime, matches: &ArgMatches<'_>) -> Result<u8, WorkshopFault
     }
 }
 
-/// `agcws upgrade OLD NEW`. The file NEW is made at the first write, so that a refused image leaves none.
+/// `agcws upgrade OLD NEW`. The file NEW is made at the first write, so that a refused image leaves none. One path for both
+/// is refused before anything is opened.
 fn upgrade(rt: &HostRuntime, matches: &ArgMatches<'_>) -> Result<u8, WorkshopFault> {
     let (Some(old), Some(new)) = (matches.get_str(OLD), matches.get_str(NEW)) else {
         return Ok(WRONG_ARGUMENTS);
     };
+    if old == new {
+        return refuse_arguments(rt, b"error: OLD and NEW are the same path\n");
+    }
     let mut image = ReadAhead::new(fs::open(rt, old).map_err(not_opened)?);
     let mut out = Std::new(LazyFile::new(rt, new));
     upgrade_engine(rt.alloc(), &mut image, &mut out).map(|_| DONE)

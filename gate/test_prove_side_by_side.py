@@ -1,0 +1,132 @@
+#!/usr/bin/env python3
+"""Tests of prove_side_by_side: the order and the number of its proofs, and the whole on a repository of three small crates. The last line is 'N passed, M failed'."""
+import importlib.machinery
+import importlib.util
+import os
+import subprocess
+import sys
+import tempfile
+import threading
+import time
+import unittest
+from unittest import mock
+
+sys.dont_write_bytecode = True
+RUNNER = os.path.join(os.path.dirname(os.path.realpath(__file__)), "prove_side_by_side")
+loader = importlib.machinery.SourceFileLoader("prove_side_by_side", RUNNER)
+runner = importlib.util.module_from_spec(importlib.util.spec_from_loader("prove_side_by_side", loader))
+loader.exec_module(runner)
+
+HEAD = "//! A small crate.\n#![tactic(auto)]\n\nghost use Rattle.std.specs.Prelude.{◌≡◌, ◌+◌};\n\n"
+ONE_MORE = "/// One more.\npub fn one_more(x: u8) -> u16\n    ensures { result ≡ x + 1 }\n{\n    u16::from(x) + 1\n}\n"
+TWO_MORE = "use low::one_more;\n\n/// Two more.\npub fn two_more(x: u8) -> u16\n    ensures { result ≡ x + 2 }\n{\n    one_more(x) + 1\n}\n"
+TOP = "//! A small program.\n#![tactic(auto)]\n\nuse middle::two_more;\n\nfn main() {\n    let _sum = two_more(1);\n}\n"
+
+
+class Small:
+    """What prove_all asks of a crate."""
+
+    def __init__(self, name, *deps, lines=100):
+        self.name, self.deps, self.lines = name, deps, lines
+
+    def below(self):
+        found = []
+        for dep in self.deps:
+            found += [it for it in [*dep.below(), dep] if it not in found]
+        return found
+
+    def count(self, _):
+        return self.lines
+
+
+def diamond():
+    low = Small("low")
+    left, right = Small("left", low), Small("right", low)
+    return [low, left, right, Small("top", left, right)]
+
+
+class Orders(unittest.TestCase):
+    def proved(self, crates, refused=(), processors=4, memory=10**12):
+        """Proves crates by proofs that only wait: what became of them, what was said, the order of begins and ends, and the most at once."""
+        events, said, running, most = [], [], set(), [0]
+        changing = threading.Lock()
+
+        def prove(crate, jobs):
+            with changing:
+                running.add(crate.name)
+                most[0] = max(most[0], len(running))
+                events.append(("begins", crate.name, jobs))
+            time.sleep(0.05)
+            with changing:
+                running.remove(crate.name)
+                events.append(("ends", crate.name, jobs))
+            return crate.name not in refused, f"text of {crate.name}"
+
+        fakes = {"processors": lambda: processors, "free": lambda: memory}
+        with mock.patch.multiple(runner.rt, **fakes), mock.patch.object(runner, "prove", prove):
+            return runner.prove_all(crates, said.append), said, events, most[0]
+
+    def test_each_waits_for_those_below_and_no_longer(self):
+        became, said, events, most = self.proved(diamond())
+        self.assertEqual(became, dict.fromkeys(["low", "left", "right", "top"], runner.PROVED))
+        order = [it[:2] for it in events]
+        self.assertEqual([order[:2], order[-2:]], [[("begins", "low"), ("ends", "low")], [("begins", "top"), ("ends", "top")]])
+        self.assertEqual((most, len(said)), (2, 4))
+
+    def test_free_processors_go_to_the_crates_that_are_ready(self):
+        jobs = {name: jobs for _, name, jobs in self.proved(diamond())[2]}
+        self.assertEqual(jobs, {"low": 4, "left": 2, "right": 2, "top": 4})
+
+    def test_what_stands_on_a_refused_crate_is_left(self):
+        became, said, _, _ = self.proved(diamond(), refused=["right"])
+        self.assertEqual((became["left"], became["right"], became["top"]), (runner.PROVED, runner.REFUSED, runner.LEFT))
+        self.assertIn("text of right", said)
+        self.assertNotIn("text of left", said)
+
+    def test_no_more_at_once_than_processors_or_memory(self):
+        many = [Small(f"crate{number}") for number in range(6)]
+        self.assertEqual(self.proved(many, processors=3)[3], 3)
+        self.assertEqual(self.proved(many, memory=11_000_000_000)[3], 2)
+        self.assertEqual(self.proved(many, memory=1_000_000_000)[3], 1)
+
+
+def write(path, text):
+    os.makedirs(os.path.dirname(path), exist_ok=True)
+    with open(path, "w", encoding="utf-8") as it:
+        it.write(text)
+
+
+def ran(room, *words):
+    return subprocess.run([sys.executable, RUNNER, *words], cwd=room, capture_output=True, text=True, check=False)
+
+
+class WholeRuns(unittest.TestCase):
+    def test_refused_then_mended_then_kept(self):
+        with tempfile.TemporaryDirectory() as room:
+            os.mkdir(f"{room}/.git")
+            write(f"{room}/crates.txt", "low:\nmiddle: low\ntop: middle\n")
+            write(f"{room}/crates/low/src/lib.rt", HEAD + ONE_MORE)
+            write(f"{room}/crates/middle/src/lib.rt", HEAD + TWO_MORE.replace("(x) + 1", "(x) + 2"))
+            write(f"{room}/crates/top/src/main.rt", TOP)
+            first = ran(room, "top")
+            for wanted in ("s  low is proved\n", "s  middle is NOT proved\n", "fn middle::two_more: no proof", "not proved: top\n"):
+                self.assertIn(wanted, first.stdout, first.stdout + first.stderr)
+            self.assertEqual((first.returncode, "top is" in first.stdout), (1, False))
+            write(f"{room}/crates/middle/src/lib.rt", HEAD + TWO_MORE)
+            second = ran(room, "top")
+            self.assertEqual(second.returncode, 0, second.stdout + second.stderr)
+            self.assertEqual(sorted(it.split()[2] for it in second.stdout.splitlines()), ["low", "middle", "top"])
+            later = subprocess.run(["rt", "check", "--jobs", "1"], cwd=f"{room}/crates/top", capture_output=True, text=True, check=False)
+            self.assertRegex(later.stdout, r"(?m)^crate top: modules loaded=\d+ checked=0$")
+
+    def test_names_that_are_no_crates(self):
+        told = ran(os.path.dirname(RUNNER), "no_such_crate")
+        self.assertEqual((told.stderr, told.returncode), ("prove_side_by_side: there is no crate no_such_crate\n", 1))
+        self.assertIn("usage", ran(os.path.dirname(RUNNER)).stderr)
+
+
+if __name__ == "__main__":
+    result = unittest.main(exit=False).result
+    failed = len(result.failures) + len(result.errors)
+    print(f"{result.testsRun - failed} passed, {failed} failed")
+    sys.exit(1 if failed else 0)
