@@ -430,10 +430,15 @@ def check_upgrade(room):
 
 
 def check_command_line():
-    """Help, and command lines that are wrong."""
-    for words in [["--help"], ["asm", "--help"], ["run", "--help"], ["debug", "--help"], ["upgrade", "--help"]]:
-        status, out, err = agcws(*words)
-        told(f"agcws {' '.join(words)}", (status, err) == (0, b"") and all(len(it) <= 80 for it in out.decode().split("\n")))
+    """Help, and command lines that are wrong, against the texts of examples/help; and the version."""
+    for name in ["agcws", "asm", "run", "debug", "upgrade"]:
+        got = agcws(*([] if name == "agcws" else [name]), "--help")
+        compare(f"the help of {name}", got, 0, read(f"{EXAMPLES}/help/{name}.txt"))
+        told(f"the width of the help of {name}", all(len(it) <= 80 for it in got[1].decode().split("\n")))
+    compare("a subcommand that is none", agcws("fly"), 2, b"", read(f"{EXAMPLES}/help/unknown_subcommand.txt"))
+    compare("a missing argument", agcws("run", "five.agc", "empty.feed"), 2, b"", read(f"{EXAMPLES}/help/missing_argument.txt"))
+    version = re.search(rb'PROGRAM_VERSION: &str = "(.*)";', read(f"{ROOT}/crates/agcws/src/command_line.rt")).group(1)
+    compare("agcws --version", agcws("--version"), 0, b"agcws " + version + b"\n")
     source, empty = f"{EXAMPLES}/five_plus_five.agc", f"{EXAMPLES}/empty.feed"
     for words in [[], ["fly"], ["asm", source], ["run", source, empty], ["run", source, empty, "-1"], ["run", source, empty, "1099511627775"], ["asm", "--rope", "3", source, "x"], ["debug", source], ["upgrade", source]]:
         status, out, err = agcws(*words)
@@ -444,6 +449,33 @@ def check_command_line():
 def text_of(name):
     """The text of a file of the repository."""
     return read(f"{ROOT}/{name}").decode()
+
+
+def check_one_path_for_two(room):
+    """One path for two files is refused before it is opened: it keeps its bytes, and need not be there."""
+    for command, label in [("asm", b"SRC and ROPE"), ("upgrade", b"OLD and NEW")]:
+        path, error = f"{room}/{command}.kept", b"error: " + label + b" are the same path\n"
+        compare(f"agcws {command} with one path that is not there", agcws(command, path, path), 2, b"", error)
+        told(f"agcws {command} makes no file of that path", not os.path.exists(path))
+        write(path, b" FROB 1\n")
+        compare(f"agcws {command} with one path", agcws(command, path, path), 2, b"", error)
+        told(f"agcws {command} with one path keeps the file", read(path) == b" FROB 1\n")
+
+
+def check_end(room):
+    """The line that tells how a run has ended: only where it is asked for and all steps are made."""
+    source, empty, wrong = f"{EXAMPLES}/five_plus_five.agc", f"{EXAMPLES}/empty.feed", f"{room}/wrong.agc"
+    line = b"7 CH 010 00012\n"
+    compare("a run's end", agcws("run", "--end", source, empty, "4"), 0, line, b"END STEPS 4 CYCLES 7 OUTPUTS 1 Z 4004\n")
+    compare("a run's end, asked for last", agcws("run", source, empty, "0", "--end"), 0, b"", b"END STEPS 0 CYCLES 0 OUTPUTS 0 Z 4000\n")
+    compare("a run's end that is not asked for", agcws("run", source, empty, "4"), 0, line)
+    write(wrong, b" FROB 1\n")
+    compare("a refused run's end", agcws("run", "--end", wrong, empty, "4"), 1, b"", b"agcws: E15 LINE 1\n")
+    with open("/dev/full", "wb") as full:
+        ran = subprocess.run([PROGRAM, "run", "--end", source, empty, "4"], stdout=full, stderr=subprocess.PIPE, timeout=60)
+        told("the end of a run that cannot be written", (ran.returncode, ran.stderr) == (3, b"agcws: E7\n"))
+        ran = subprocess.run([PROGRAM, "run", "--end", source, empty, "4"], stdout=subprocess.PIPE, stderr=full, timeout=60)
+        told("an end that cannot be told", (ran.returncode, ran.stdout) == (3, line))
 
 
 def read(path):
@@ -472,6 +504,8 @@ def main():
         check_one_processor()
         check_upgrade(room)
         check_command_line()
+        check_one_path_for_two(room)
+        check_end(room)
     print(f"{passed} passed, {len(failed)} failed")
     return 1 if failed else 0
 
