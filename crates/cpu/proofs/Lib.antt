@@ -6,3 +6,9 @@ mod ChangeLaws
 mod BitLaws
 mod RowLaws
 mod RequestLemmas
+pub mod Holding
+pub mod Held
+mod HeldSteps
+pub mod HeldRuns
+pub mod FiveRun
+pub mod ClockRun

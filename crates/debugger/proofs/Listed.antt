@@ -1,0 +1,92 @@
+-- Histories whose first steps are listed.
+use Rattle.std.proofs.Common.{◌≡◌, ℕ, zero, suc, true, false, List, [], ◌∷◌, map, None, ap, refl, ◌∙◌}
+use Rattle.rope.specs.Places.{Placed}
+use Rattle.feed.specs.declared.entry.Entry.{Entry}
+use Rattle.space.specs.Cells.{erasable_bank, fixed_bank}
+use Rattle.cpu.specs.Effects.{place_in, next_address}
+use Rattle.cpu.specs.State.{State, start}
+use Rattle.cpu.specs.Run.{run, out, outs}
+use Rattle.cpu.proofs.Holding.{word_placed, held, get_held, channel_held, superbank_held, at-holding, get-holding, get_channel-holding, superbank-holding}
+use Rattle.cpu.proofs.Held.{Held, state, scenario, rope, word_at-rope, place_held, place_in-held, z_held, word_held, instruction_word-held}
+use Rattle.cpu.proofs.HeldRuns.{Move, Goes, Agrees, states, told, sent, run-agrees, out-agrees, outs-agree}
+use Rattle.debugger.specs.History.{Sight, History, history, sight}
+
+-- what is seen of a state whose cells are listed
+abbrev seen : List Placed → Held → Sight
+seen ps h =
+    record {
+      cycles = h.cycles;
+      reading = get_held h.cells;
+      channel = channel_held h.cells;
+      eb = held h.cells erasable_bank;
+      fb = held h.cells fixed_bank;
+      sup = superbank_held h.cells;
+      extra = h.extra;
+      inhibit = true;
+      inside = false;
+      place = place_held h (z_held h);
+      instruction = word_held ps h;
+    }
+
+place-held : (h : Held) → place_in (state h) (next_address (state h)) ≡ place_held h (z_held h)
+place-held h = ap (place_in (state h)) (get-holding h.cells 5) ∙ place_in-held h (z_held h)
+
+sight-held : (ps : List Placed) (h : Held) → sight (rope ps) (state h) ≡ seen ps h
+sight-held ps h =
+    λ i. record {
+      cycles = h.cycles;
+      reading = λ p. get-holding h.cells p i;
+      channel = λ n. get_channel-holding h.cells n i;
+      eb = at-holding h.cells erasable_bank i;
+      fb = at-holding h.cells fixed_bank i;
+      sup = superbank-holding h.cells i;
+      extra = h.extra;
+      inhibit = true;
+      inside = false;
+      place = place-held h i;
+      instruction = instruction_word-held ps h i;
+    }
+
+-- what is seen of the states of moves
+abbrev sights : List Placed → Held → List Move → List Sight
+sights ps h moves = seen ps h ∷ map (λ (m : Move). seen ps m.0) moves
+
+agree-sights : (ps : List Placed) (h : Held) (moves : List Move) (f : ℕ → State) → Agrees (states h moves) f
+    → Agrees (sights ps h moves) (λ k. sight (rope ps) (f k))
+agree-sights ps h [] f a = (ap (sight (rope ps)) a.0 ∙ sight-held ps h, tt)
+agree-sights ps h (m ∷ more) f a = (ap (sight (rope ps)) a.0 ∙ sight-held ps h, agree-sights ps m.0 more (λ k. f (suc k)) a.1)
+
+-- a function whose first values are listed
+abbrev first_or : {X : Type 0} → List X → (ℕ → X) → ℕ → X
+first_or [] f k = f k
+first_or (x ∷ xs) f zero = x
+first_or (x ∷ xs) f (suc k) = first_or xs (λ j. f (suc j)) k
+
+same-first : {X : Type 0} (xs : List X) (f : ℕ → X) → Agrees xs f → (k : ℕ) → f k ≡ first_or xs f k
+same-first [] f a k = refl
+same-first (x ∷ xs) f a zero = a.0
+same-first (x ∷ xs) f a (suc k) = same-first xs (λ j. f (suc j)) a.1 k
+
+-- the history of some words over inputs, of which the first steps are listed
+abbrev pub listed : List Placed → List Entry → Held → List Move → History
+listed ps inputs h moves =
+    record {
+      fixed = word_placed ps;
+      after = first_or (sights ps h moves) (λ k. sight (rope ps) (run (scenario ps inputs) k));
+      output = first_or (None ∷ told moves) (out (scenario ps inputs));
+      outputs = first_or (sent [] moves) (outs (scenario ps inputs));
+    }
+
+pub history-listed : (ps : List Placed) (inputs : List Entry) (h : Held) (moves : List Move) → start ≡ state h → Goes (scenario ps inputs) h moves
+    → history (scenario ps inputs) ≡ listed ps inputs h moves
+unfolding history
+history-listed ps inputs h moves e g =
+    let a = agree-sights ps h moves (run (scenario ps inputs)) (run-agrees (scenario ps inputs) h moves e g) in
+    let b = out-agrees (scenario ps inputs) h moves e g in
+    let c = outs-agree (scenario ps inputs) h moves e g in
+    λ i. record {
+      fixed = λ bank offset. word_at-rope ps bank offset i;
+      after = λ k. same-first (sights ps h moves) (λ j. sight (rope ps) (run (scenario ps inputs) j)) a k i;
+      output = λ k. same-first (None ∷ told moves) (out (scenario ps inputs)) b k i;
+      outputs = λ k. same-first (sent [] moves) (outs (scenario ps inputs)) c k i;
+    }
