@@ -3,6 +3,7 @@
 ghost use Rattle.std.specs.Prelude.{◌≡◌, true, false, Ok, IfOk, IfErr, IsErr, IsOkAnd, All};
 ghost use Rattle.std.specs.Fn.{FnReturnsAt};
 ghost use Rattle.words.specs.Readings.{TakesAtMost};
+ghost use Rattle.debugger.specs.Transcript.{most_command_bytes};
 ghost use Rattle.replay.specs.Calls.{IsAllowed};
 ghost use Rattle.replay.specs.View.{Stands};
 ghost use Rattle.workshop.specs.Debugging.{opened, DebugAnswers, Travels};
@@ -75,6 +76,16 @@ pub fn debug_engine<S: Read, F: Read, R: Read, W: Write>(
     // E6 only where a reader has failed, E7 only where the writer has.
     ensures readers { OneOfThreeFails (has_read_failed result) (S.failures source.old) (S.failures source.new) (F.failures feed.old) (F.failures feed.new) (R.failures commands.old) (R.failures commands.new) }
     ensures writer { W.failures out.new ≡ failures_if (has_write_failed result) (W.failures out.old) }
+
+    // Nothing of the feed is read before the source is assembled, and no command before the feed is read.
+    ensures source_first { S.told ≡ true → IsErr (assembled (S.left source.old)) → F.failures feed.new ≡ F.failures feed.old }
+    ensures feed_kept { S.told ≡ true → IsErr (assembled (S.left source.old)) → F.left feed.new ≡ F.left feed.old }
+    ensures commands_kept { S.told ≡ true → F.told ≡ true → IsErr (prepared (S.left source.old) (F.left feed.old)) → R.left commands.new ≡ R.left commands.old }
+
+    // No more is read than it takes to tell that there is too much, and no more commands than count.
+    ensures source_read { S.told ≡ true → TakesAtMost (most_read result) (S.left source.old) (S.left source.new) }
+    ensures feed_read { F.told ≡ true → TakesAtMost (most_read result) (F.left feed.old) (F.left feed.new) }
+    ensures commands_read { R.told ≡ true → TakesAtMost most_command_bytes (R.left commands.old) (R.left commands.new) }
 {
     match open_session(alloc, source, feed) {
         Ok(opened) => {
