@@ -97,7 +97,7 @@ pub fn debug_engine<S: Read, F: Read, R: Read, W: Write>(
                 Err(DebugFault::WriteFailed) => Err(WorkshopFault::WriteFailed),
             }
         }
-        Err(fault) => Err(fault),
+        Err(refused) => Err(refused),
     }
 }
 
