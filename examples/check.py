@@ -388,12 +388,14 @@ def check_debugger(room):
 
 
 def check_one_processor():
-    """A session steps no processor but its own: the debugger makes none, and no fixed memory or machine either."""
-    folder = f"{ROOT}/crates/debugger/src"
-    for name in sorted(os.listdir(folder)):
-        with open(f"{folder}/{name}", encoding="utf-8") as file:
-            made = re.findall(r"Processor::new|Rope::(?:empty|read)|Machine::start|Feed::|\bassemble\(", file.read())
-        told(f"crates/debugger/src/{name} makes no second processor", not made, " ".join(made))
+    """A session steps no processor but its own: neither it, nor the debugger, nor what reads commands makes one, or a fixed memory of its own."""
+    makers = r"Processor::new|Rope::(?:empty|read)|Feed::(?:new|empty)|\bassemble\("
+    for crate, calls in [("commands", makers), ("debugger", rf"{makers}|Machine::start"), ("replay", makers)]:
+        folder = f"{ROOT}/crates/{crate}/src"
+        for name in sorted(os.listdir(folder)):
+            with open(f"{folder}/{name}", encoding="utf-8") as file:
+                made = re.findall(calls, file.read())
+            told(f"crates/{crate}/src/{name} makes no second processor", not made, " ".join(made))
 
 
 def check_long_reply(source, empty):

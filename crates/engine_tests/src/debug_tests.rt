@@ -272,3 +272,23 @@ fn refused_sources_have_no_session(rt: HostRuntime) {
     assert_eq!(rt; out.as_slice(), b"".as_slice());
     assert_eq!(rt; commands, b"step 1\n".as_slice());
 }
+
+#[test]
+fn seek_comes_to_the_start(rt: HostRuntime) -> Result<(), Fail> {
+    let commands = b"break at 4000\nrun 3\nseek\nseek\nregs\nrun 1\nback 2\nseek\n";
+    let replies = b"BREAK 1\nAT 3 5 4003\nHIT 1\nAT 0 0 4000\nNONE
+A 000000 L 00000 Q 000000 Z 4000 EB 0 FB 00 SUP 0 EXT 0 INH 1 INT 0\nNEXT 34005 CA 4005
+7 CH 010 00012\nAT 4 7 4004\nAT 2 4 4002\nHIT 1\nAT 0 0 4000\n";
+    assert_replies(&rt, rt.alloc(), FIVE_PLUS_FIVE, b"", commands, replies)
+}
+
+#[test]
+fn present_and_position(rt: HostRuntime) -> Result<(), Fail> {
+    let commands = b"run 7\nback 4\nadd 12 TIME1 PINC\nadd 13 TIME1 PINC #\xff\nadd 13 TIME1 PINC
+changed 3\ntail\nregs\nlast 0\nlast 1\nstep 0\nrun 0\nrun 2\nmem 25\n";
+    let replies = b"7 CH 010 00012\nAT 7 12 4002\nAT 3 5 4003\nE42 TOO EARLY\nE50 COMMAND\nADDED
+0005\nCOUNT 1\n7 CH 010 00012\nTAIL 1
+A 000012 L 00000 Q 000000 Z 4003 EB 0 FB 00 SUP 0 EXT 1 INH 1 INT 0\nNEXT 01010 WRITE 010
+LAST 2\nNONE\nAT 3 5 4003\nAT 7 12 4002\nAT 9 14 4003\nMEM 00001\n";
+    assert_replies(&rt, rt.alloc(), FIVE_PLUS_FIVE, b"", commands, replies)
+}

@@ -8,6 +8,8 @@ mod command_tests;
 #[cfg(test)]
 mod debug_tests;
 #[cfg(test)]
+mod memory_tests;
+#[cfg(test)]
 mod run_tests;
 #[cfg(test)]
 mod sources;

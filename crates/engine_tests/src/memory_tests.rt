@@ -1,0 +1,118 @@
+//! Calls that take memory, with enough of it.
+
+use crate::sources::FIVE_PLUS_FIVE;
+use cpu::{Input, Machine, Output, Processor};
+use debugger::debug_session;
+use feed::input::{Counter, Sequence};
+use feed::read;
+use replay::{Call, Keeper, Observer, Refusal, Session, SlotKeeper, VecKeeper};
+use std::alloc::Global;
+use std::process::Abort;
+use std::test::Fail;
+use words::Buffer;
+use workshop::{
+    Version, asm_engine, debug_engine, follow_source, open_session, run_engine, upgrade_engine,
+};
+use yayul::assemble;
+
+/// A pulse that is far off.
+const PULSE: Input = Input::Count(Counter::Time1, Sequence::Pinc);
+
+/// An observer that counts what is refused.
+#[derive(Drop)]
+struct Refusals {
+    count: u64,
+}
+
+impl Observer for Refusals {
+    ghost sees = { λ old told new. Unit {0} };
+
+    fn went(&mut self, _output: Option<Output>) {}
+
+    fn shown(&mut self, _t: u64, _machine: &Machine) {}
+
+    fn shown_beside(&mut self, _t: u64, _old: &Machine, _present: &Machine, _over: &Processor) {}
+
+    fn sought(&mut self, _p: u64, _found: Option<u64>) {}
+
+    fn added(&mut self, _cycle: u64, _input: &Input) {}
+
+    fn refused(&mut self, _call: Call, _refusal: Refusal) {
+        self.count = self.count.wrapping_add(1);
+    }
+}
+
+/// Asserts that a session over such a keeper is opened, goes on, and takes an input, and that its commands are answered.
+fn assert_goes<K: Keeper>(rt: &impl Abort, alloc: Global) -> Result<(), Fail> {
+    let (rope, symbols) = assemble(alloc, FIVE_PLUS_FIVE)?.split();
+    let mut feed = b"9 RUPT 1\n".as_slice();
+    let inputs = read(alloc, &mut feed)?;
+    let mut session = Session::<K>::open(alloc, Processor::new(rope, inputs))?;
+    let mut commands = b"run 100\nadd 99999 TIME1 PINC\nrun 100\ngoto 50\ntail\n".as_slice();
+    let mut out = Buffer::new(alloc);
+    let ended = debug_session(alloc, &mut session, &symbols, &mut commands, &mut out);
+    assert!(rt; ended.is_ok());
+    assert_eq!(rt; session.steps(), 200);
+    for _ in 0..100 {
+        assert!(rt; session.forward().is_ok());
+    }
+    assert_eq!(rt; session.add(99_999, PULSE), Ok(()));
+    Ok(())
+}
+
+#[test]
+fn always_out_of_memory(rt: HostRuntime) -> Result<(), Fail> {
+    let alloc = rt.alloc();
+    assert_goes::<SlotKeeper>(&rt, alloc)?;
+    assert_goes::<VecKeeper>(&rt, alloc)?;
+    let (mut source, mut feed, mut commands) = (
+        FIVE_PLUS_FIVE,
+        b"".as_slice(),
+        b"run 4\n".as_slice(),
+    );
+    let mut out = Buffer::new(alloc);
+    assert!(rt; debug_engine(alloc, &mut source, &mut feed, &mut commands, &mut out).is_ok());
+    let (mut source, mut feed) = (FIVE_PLUS_FIVE, b"".as_slice());
+    assert!(rt; run_engine(alloc, &mut source, &mut feed, 4, &mut out).is_ok());
+    let (mut source, mut image) = (FIVE_PLUS_FIVE, Buffer::new(alloc));
+    assert!(rt; asm_engine(alloc, &mut source, &mut image, &mut out, Version::One).is_ok());
+    let mut old = image.as_slice();
+    assert!(rt; upgrade_engine(alloc, &mut old, &mut out).is_ok());
+    Ok(())
+}
+
+#[test]
+fn sources_are_opened(rt: HostRuntime) -> Result<(), Fail> {
+    let alloc = rt.alloc();
+    let (mut source, mut feed) = (FIVE_PLUS_FIVE, b"3 TIME1 PINC\n".as_slice());
+    let mut opened = match open_session(alloc, &mut source, &mut feed) {
+        Ok(opened) => opened,
+        Err(_) => return Err(Fail::new("five plus five is not opened")),
+    };
+    assert_eq!(rt; opened.session.steps(), 0);
+    assert!(rt; opened.symbols.symbol(b"FIVE").is_some());
+    for _ in 0..5 {
+        assert!(rt; opened.session.forward().is_ok());
+    }
+    assert_eq!(rt; opened.session.present().cycles(), 8);
+    let calls = [
+        Call::Forward,
+        Call::Forward,
+        Call::Show(1),
+        Call::Show(3),
+        Call::Add(99, PULSE),
+    ];
+    let (mut source, mut feed) = (FIVE_PLUS_FIVE, b"".as_slice());
+    let mut refusals = Refusals { count: 0 };
+    let steps = follow_source(
+        alloc,
+        &mut source,
+        &mut feed,
+        &calls,
+        &|machine: &Machine| machine.cycles() > 3,
+        &mut refusals,
+    );
+    assert!(rt; steps == Ok(2));
+    assert_eq!(rt; refusals.count, 1);
+    Ok(())
+}
