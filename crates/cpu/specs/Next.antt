@@ -85,6 +85,10 @@ extra_after (Su k) extra = false
 extra_after (Bzmf k) extra = false
 extra_after (Mp k) extra = false
 
+-- whether a word, under extracode or not, puts extracode in force for the word after it
+abbrev pub extracode_after : Bool → ℕ → Bool
+extracode_after extra word = extra_after (code_of extra word).instruction extra
+
 -- the channel that an instruction writes
 abbrev pub written_channel : Instruction → Option ℕ
 written_channel Relint = None

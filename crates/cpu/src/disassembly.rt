@@ -3,10 +3,12 @@
 ghost use Rattle.std.specs.Prelude.{◌≡◌, ◌≤◌, ◌<◌, ◌^◌, ◌++◌, length, codes};
 ghost use Rattle.words.specs.Numerals.{octal_text};
 ghost use Rattle.cpu.specs.Codes.{rows_serving};
+ghost use Rattle.cpu.specs.Next.{extracode_after};
 ghost use Rattle.cpu.specs.Texts.{with_address, numbered, instruction_text, disassembly};
 
 use crate::address::before;
 use crate::dispatch::decode;
+use crate::execute::extra_after;
 use crate::instruction::Instruction;
 use arrayvec::ArrayVec;
 use words::{Word, push_all, push_octal};
@@ -22,6 +24,14 @@ pub fn disassemble(word: Word, extra: bool) -> ArrayVec<u8, 10>
     ensures row { rows_serving extra word ≡ 1 }
 {
     instruction_text(&decode(word.to_u16(), extra).instruction)
+}
+
+/// Whether a word, under extracode or not, puts extracode in force for the word after it: EXTEND does, and INDEX under
+/// extracode.
+pub fn extracode_after(word: Word, extra: bool) -> bool
+    ensures { result ≡ extracode_after extra word }
+{
+    extra_after(&decode(word.to_u16(), extra).instruction, extra)
 }
 
 /// An instruction as text.

@@ -258,7 +258,7 @@ impl Machine {
 }
 
 /// Whether extracode is in force after an instruction.
-fn extra_after(instruction: &Instruction, extra: bool) -> bool
+pub(crate) fn extra_after(instruction: &Instruction, extra: bool) -> bool
     ensures { result ≡ extra_after instruction.now extra }
 {
     match *instruction {

@@ -14,7 +14,7 @@ mod machine;
 mod output;
 mod processor;
 
-pub use disassembly::disassemble;
+pub use disassembly::{disassemble, extracode_after};
 pub use feed::AddFault;
 pub use feed::input::Input;
 pub use machine::Machine;
