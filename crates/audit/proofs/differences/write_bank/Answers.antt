@@ -1,0 +1,51 @@
+use Rattle.std.proofs.Common.{◌∙◌, refl, sym, arith}
+use Rattle.rope.specs.Places.{bank_words}
+use Rattle.audit.specs.Differences.{differing_at, differing_in}
+use Rattle.audit.proofs.Places.{lines_none, writes_places, begins_places, count_more, places_end, count_ends}
+use Rattle.audit.proofs.Steps.{extracode_first, extracode_next}
+use Rattle.audit.proofs.differences.write_bank.Goals as goal
+
+pub loop-number-init : goal.loop-number-init
+loop-number-init g c = record {
+  old = sym (extracode_first c.args.old.now c.args.bank);
+  new = sym (extracode_first c.args.new.now c.args.bank);
+  count = refl;
+  few = omega arith;
+  written = λ told. lines_none c.args.old.now c.args.new.now _;
+  failures = refl;
+}
+
+pub returns-in-Err-clause-written : goal.returns-in-Err-clause-written
+unfolding differing_in
+returns-in-Err-clause-written g c = λ told.
+    begins_places c.args.old.now c.args.new.now (differing_at c.args.old.now c.args.new.now c.args.bank) c.loop-number.number bank_words _ _ _
+    c.loop-number-test.true (c.loop-number.invariant.written told) (rw c.offset_of-offset.ensures at (c.in-Err.ensures.written told))
+
+pub loop-number-preserved : goal.loop-number-preserved
+loop-number-preserved g c = record {
+  old =
+      extracode_next c.args.old.now c.args.bank c.loop-number.number c.offset_of-offset.result c.word.result c.loop-number.extra.0 _
+      c.offset_of-offset.ensures c.loop-number.invariant.old c.word.ensures c.extracode_after.ensures;
+  new =
+      extracode_next c.args.new.now c.args.bank c.loop-number.number c.offset_of-offset.result c.word-in-loop-number.result c.loop-number.extra.1 _
+      c.offset_of-offset.ensures c.loop-number.invariant.new c.word-in-loop-number.ensures c.extracode_after-in-loop-number.ensures;
+  count =
+      count_more (differing_at c.args.old.now c.args.new.now c.args.bank) c.loop-number.number c.loop-number.count c.in-Ok.more
+      c.loop-number.invariant.count (rw c.offset_of-offset.ensures at c.in-Ok.ensures.count);
+  few = omega (arith, c.loop-number.invariant.few, c.in-Ok.ensures.few);
+  written = λ told.
+      writes_places c.args.old.now c.args.new.now (differing_at c.args.old.now c.args.new.now c.args.bank) c.loop-number.number _ _ _
+      (c.loop-number.invariant.written told) (rw c.offset_of-offset.ensures at (c.in-Ok.ensures.written told));
+  failures = c.in-Ok.ensures.failures ∙ c.loop-number.invariant.failures;
+}
+
+pub returns-clause-written : goal.returns-clause-written
+unfolding differing_in
+returns-clause-written g c = λ told.
+    places_end c.args.old.now c.args.new.now (differing_at c.args.old.now c.args.new.now c.args.bank) c.loop-number.number bank_words _ _ (omega arith)
+    (c.loop-number.invariant.written told)
+
+pub returns-clause-count : goal.returns-clause-count
+unfolding differing_in
+returns-clause-count g c =
+    count_ends (differing_at c.args.old.now c.args.new.now c.args.bank) c.loop-number.number bank_words c.loop-number.count (omega arith) c.loop-number.invariant.count

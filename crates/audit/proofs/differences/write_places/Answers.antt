@@ -1,0 +1,42 @@
+use Rattle.std.proofs.Common.{◌∙◌, refl, arith}
+use Rattle.rope.specs.Places.{banks}
+use Rattle.audit.specs.Differences.{differing_in, differing}
+use Rattle.audit.proofs.Places.{lines_none, writes_places, begins_places, count_more, places_end, count_ends}
+use Rattle.audit.proofs.differences.write_places.Goals as goal
+
+pub loop-bank-init : goal.loop-bank-init
+loop-bank-init g c = record {
+  count = refl;
+  few = omega arith;
+  written = λ told. lines_none c.args.old.now c.args.new.now _;
+  failures = refl;
+}
+
+pub returns-in-Err-clause-written : goal.returns-in-Err-clause-written
+unfolding differing
+returns-in-Err-clause-written g c = λ told.
+    begins_places c.args.old.now c.args.new.now (differing_in c.args.old.now c.args.new.now) c.loop-bank.bank banks _ _ _
+    c.loop-bank-test.true (c.loop-bank.invariant.written told) (rw c.bank_of.ensures at (c.in-Err.ensures.written told))
+
+pub loop-bank-preserved : goal.loop-bank-preserved
+loop-bank-preserved g c = record {
+  count =
+      count_more (differing_in c.args.old.now c.args.new.now) c.loop-bank.bank c.loop-bank.count c.in-Ok.more
+      c.loop-bank.invariant.count (rw c.bank_of.ensures at c.in-Ok.ensures.count);
+  few = omega (arith, c.loop-bank.invariant.few, c.in-Ok.ensures.few);
+  written = λ told.
+      writes_places c.args.old.now c.args.new.now (differing_in c.args.old.now c.args.new.now) c.loop-bank.bank _ _ _
+      (c.loop-bank.invariant.written told) (rw c.bank_of.ensures at (c.in-Ok.ensures.written told));
+  failures = c.in-Ok.ensures.failures ∙ c.loop-bank.invariant.failures;
+}
+
+pub returns-clause-written : goal.returns-clause-written
+unfolding differing
+returns-clause-written g c = λ told.
+    places_end c.args.old.now c.args.new.now (differing_in c.args.old.now c.args.new.now) c.loop-bank.bank banks _ _ (omega arith)
+    (c.loop-bank.invariant.written told)
+
+pub returns-clause-count : goal.returns-clause-count
+unfolding differing
+returns-clause-count g c =
+    count_ends (differing_in c.args.old.now c.args.new.now) c.loop-bank.bank banks c.loop-bank.count (omega arith) c.loop-bank.invariant.count

@@ -1,0 +1,36 @@
+-- The places at which two fixed memories differ, as text.
+use Rattle.std.specs.Prelude.{ℕ, ◌==◌, List, [], ◌∷◌, ◌++◌, length, codes, decimal, if◌then◌else◌}
+use Rattle.std.specs.List.{range_with_len, flat_map}
+use Rattle.words.specs.Numerals.{octal_text}
+use Rattle.rope.specs.Places.{banks, bank_words, Words, word_at}
+use Rattle.audit.specs.WordLines.{place_text, instruction_at}
+
+-- a bank and an offset, where the words there differ
+abbrev pub differing_at : Words → Words → ℕ → ℕ → List (ℕ × ℕ)
+differing_at old new bank offset = if word_at old bank offset == word_at new bank offset then [] else (bank, offset) ∷ []
+
+-- the places of a bank where the words differ, by rising offsets
+unfoldable pub differing_in : Words → Words → ℕ → List (ℕ × ℕ)
+differing_in old new bank = flat_map (differing_at old new bank) (range_with_len 0 bank_words)
+
+-- all places where the words differ, by the numbers of their banks
+unfoldable pub differing : Words → Words → List (ℕ × ℕ)
+differing old new = flat_map (differing_in old new) (range_with_len 0 banks)
+
+-- the line of a place: both words, and the instruction that each is among the words of its own memory
+unfoldable pub difference_line : Words → Words → ℕ × ℕ → List ℕ
+difference_line old new place =
+    place_text place.0 place.1 ++ codes " " ++ octal_text 5 (word_at old place.0 place.1) ++ codes " " ++ octal_text 5 (word_at new place.0 place.1)
+    ++ codes " " ++ instruction_at old place.0 place.1 ++ codes ", " ++ instruction_at new place.0 place.1 ++ codes "\n"
+
+-- the lines of some places
+unfoldable pub difference_lines : Words → Words → List (ℕ × ℕ) → List ℕ
+difference_lines old new places = flat_map (difference_line old new) places
+
+-- the line that tells how many places differ
+abbrev pub count_line : ℕ → List ℕ
+count_line count = codes "COUNT " ++ decimal count ++ codes "\n"
+
+-- a line for each place where the words differ, and then how many there are
+unfoldable pub differences : Words → Words → List ℕ
+differences old new = difference_lines old new (differing old new) ++ count_line (length (differing old new))
