@@ -1,4 +1,5 @@
 mod Feeds
+mod Imaging
 mod Preparing
 mod RunSteps
 pub mod Opening

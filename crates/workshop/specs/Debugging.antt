@@ -19,6 +19,18 @@ opened l = record { scenario = scenario_of l; meter = 0; images = []; present = 
 abbrev pub setting_of : Loaded → Setting
 setting_of l = record { may_refuse = false; symbols = l.program.symbols; scenario = scenario_of l }
 
+-- what answering the commands of a session comes to: the transcript is written; nothing where memory ran out; the replies to
+-- the whole lines before a failed read; a beginning of the transcript after a failed write
+abbrev pub AnswersCommands : Setting → Commands → List ℕ → List ℕ → Result (Unit {0}) WorkshopFault → Type 0
+AnswersCommands s commands old new (Ok x) = WritesReplies s (command_lines commands.before) old new
+AnswersCommands s commands old new (Err NoMemory) = new ≡ old
+AnswersCommands s commands old new (Err ReadFailed) = EndsReading s commands old new
+AnswersCommands s commands old new (Err WriteFailed) = BeginsReplies s (command_lines commands.before) old new
+AnswersCommands s commands old new (Err (Source fault)) = ⊥
+AnswersCommands s commands old new (Err (Feed fault)) = ⊥
+AnswersCommands s commands old new (Err (Rope fault)) = ⊥
+AnswersCommands s commands old new (Err TooLong) = ⊥
+
 -- what the engine is given: the source, the feed, and the commands, of which some are left at its end
 pub record Debugging : Type 0 where
   pub source : List ℕ

@@ -2,8 +2,10 @@ pub mod Assemblies
 pub mod Debugging
 pub mod Failures
 pub mod Faults
+pub mod Images
 pub mod Inputs
 pub mod Refusals
+pub mod Ropes
 pub mod Runs
 pub mod Steps
 pub mod Upgrades

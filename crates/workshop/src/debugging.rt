@@ -6,7 +6,7 @@ ghost use Rattle.words.specs.Readings.{TakesAtMost};
 ghost use Rattle.debugger.specs.Transcript.{most_command_bytes};
 ghost use Rattle.replay.specs.Calls.{IsAllowed};
 ghost use Rattle.replay.specs.View.{Stands};
-ghost use Rattle.workshop.specs.Debugging.{opened, DebugAnswers, Travels};
+ghost use Rattle.workshop.specs.Debugging.{opened, AnswersCommands, DebugAnswers, Travels};
 ghost use Rattle.workshop.specs.Failures.{has_read_failed, has_write_failed, failures_if, OneFails, OneOfThreeFails, most_read};
 ghost use Rattle.workshop.specs.Inputs.{assembled, prepared};
 ghost use Rattle.workshop.specs.Refusals.{Refuses};
@@ -88,16 +88,31 @@ pub fn debug_engine<S: Read, F: Read, R: Read, W: Write>(
     ensures commands_read { R.told ≡ true → TakesAtMost most_command_bytes (R.left commands.old) (R.left commands.new) }
 {
     match open_session(alloc, source, feed) {
-        Ok(opened) => {
-            let mut session = opened.session;
-            match debug_session(alloc, &mut session, &opened.symbols, commands, out) {
-                Ok(()) => Ok(()),
-                Err(DebugFault::NoMemory) => Err(WorkshopFault::NoMemory),
-                Err(DebugFault::ReadFailed) => Err(WorkshopFault::ReadFailed),
-                Err(DebugFault::WriteFailed) => Err(WorkshopFault::WriteFailed),
-            }
-        }
+        Ok(opened) => answer_commands(alloc, opened, commands, out),
         Err(refused) => Err(refused),
+    }
+}
+
+/// Answers the commands over a session that was opened.
+pub(crate) fn answer_commands<R: Read, W: Write>(
+    alloc: Global,
+    opened: Opened,
+    commands: &mut R,
+    out: &mut W,
+) -> Result<(), WorkshopFault>
+    requires { opened.session.n ≡ 0 }
+    ensures answer { R.told ≡ true → W.told ≡ true →
+        AnswersCommands (record { may_refuse = false; symbols = opened.symbols; scenario = opened.session.scenario }) (record { before = R.left commands.old; left = R.left commands.new }) (W.written out.old) (W.written out.new) result }
+    ensures reader { R.failures commands.new ≡ failures_if (has_read_failed result) (R.failures commands.old) }
+    ensures writer { W.failures out.new ≡ failures_if (has_write_failed result) (W.failures out.old) }
+    ensures read { R.told ≡ true → TakesAtMost most_command_bytes (R.left commands.old) (R.left commands.new) }
+{
+    let mut session = opened.session;
+    match debug_session(alloc, &mut session, &opened.symbols, commands, out) {
+        Ok(()) => Ok(()),
+        Err(DebugFault::NoMemory) => Err(WorkshopFault::NoMemory),
+        Err(DebugFault::ReadFailed) => Err(WorkshopFault::ReadFailed),
+        Err(DebugFault::WriteFailed) => Err(WorkshopFault::WriteFailed),
     }
 }
 

@@ -82,7 +82,7 @@ pub fn run_engine<S: Read, F: Read, W: Write>(
 }
 
 /// Makes some steps from the start, and writes the lines of what they put out.
-fn run<W: Write>(
+pub(crate) fn run<W: Write>(
     processor: &mut Processor,
     steps: u64,
     out: &mut W,

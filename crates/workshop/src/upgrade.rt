@@ -34,7 +34,7 @@ pub fn upgrade_engine<R: Read, W: Write>(
 }
 
 /// A fault of an image, as an engine tells it.
-fn told(fault: RopeFault) -> WorkshopFault
+pub(crate) fn told(fault: RopeFault) -> WorkshopFault
     ensures { result ≡ of_rope_fault fault }
 {
     match fault {

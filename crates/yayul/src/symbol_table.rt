@@ -31,7 +31,7 @@ impl Model for Symbols {
 
 impl Symbols {
     /// A table without symbols. Nothing is allocated.
-    pub(crate) fn new(alloc: Global) -> Symbols
+    pub fn new(alloc: Global) -> Symbols
         ensures { result ≡ [] }
     {
         Symbols {
