@@ -19,6 +19,15 @@ pub const DEBUG: &str = "debug";
 /// The name of the subcommand that upgrades an image.
 pub const UPGRADE: &str = "upgrade";
 
+/// The name of the subcommand that shows the words of an image.
+pub const WORDS: &str = "words";
+
+/// The name of the subcommand that compares two images.
+pub const COMPARE: &str = "compare";
+
+/// The name of the subcommand that sums the banks of an image.
+pub const SUMS: &str = "sums";
+
 /// The argument that names the source.
 pub const SOURCE: &str = "SRC";
 
@@ -35,6 +44,25 @@ pub const VERSION_ONE: &str = "1";
 pub const VERSION_TWO: &str = "2";
 
 static VERSIONS: [&str; 2] = [VERSION_ONE, VERSION_TWO];
+
+/// The option by which the first argument names an image in place of a source.
+pub const IMAGE: &str = "IMAGE";
+
+/// The option that is the version of the first of two images.
+pub const OLD_VERSION: &str = "OLD_VERSION";
+
+/// The option that is the version of the second of two images.
+pub const NEW_VERSION: &str = "NEW_VERSION";
+
+/// The argument that is a bank.
+pub const BANK: &str = "BANK";
+
+/// The banks by their numbers, as they are named.
+pub static BANKS: [&str; 36] = [
+    "00", "01", "02", "03", "04", "05", "06", "07", "10", "11", "12", "13", "14", "15", "16", "17",
+    "20", "21", "22", "23", "24", "25", "26", "27", "30", "31", "32", "33", "34", "35", "36", "37",
+    "40", "41", "42", "43",
+];
 
 /// The argument that names the file of an image of version 1.
 pub const OLD: &str = "OLD";
@@ -91,10 +119,69 @@ Exit status:
   3  a file, a device or memory failed
 Status 1 and 3 print one line to standard error, as agcws: E5.";
 
+const WORDS_HELP: &str = "Files:
+  ROPE  a rope image, as agcws asm writes it.
+
+Output: one line for each word of the bank, or of all banks in the order of
+their numbers, as
+  02,4001 64005 AD 4005
+with the place as in a listing, the word in octal, and the instruction that the
+word is. A word is read as an extracode where the words before it in its bank
+put extracode in force: EXTEND does for the next word, and INDEX that is read as
+an extracode keeps it. So a number that stands among the instructions may be
+shown as an instruction, and the word after it as an extracode that it is not.
+
+Exit status:
+  0  done
+  1  the image is refused: it is short (E3) or long (E4), or the lowest bit of
+     two of its bytes is wrong (E5)
+  2  the command line is wrong
+  3  a file, a device or memory failed
+Status 1 and 3 print one line to standard error, as agcws: E5.";
+
+const COMPARE_HELP: &str = "Files:
+  OLD  a rope image, as agcws asm writes it.
+  NEW  another.
+
+Output: one line for each place where the words differ, banks in the order of
+their numbers, as
+  02,4001 64005 64006 AD 4005, AD 4006
+with the place as in a listing, the word in OLD and in NEW in octal, and the
+instruction that each is, read as agcws words reads it. Then COUNT, and how many
+places differ.
+
+Exit status:
+  0  the words are equal
+  1  they differ; or an image is refused: it is short (E3) or long (E4), or the
+     lowest bit of two of its bytes is wrong (E5)
+  2  the command line is wrong
+  3  a file, a device or memory failed
+A refusal and status 3 print one line to standard error, as agcws: E5, and write
+no COUNT.";
+
+const SUMS_HELP: &str = "Files:
+  ROPE  a rope image, as agcws asm writes it.
+
+Output: one line for each bank in the order of their numbers, as
+  02 00002
+with the bank and the sum of its words in octal. It is the ones' complement sum
+that a program makes which checks its own memory: AD, and where that overflows,
+plus or minus one is added to what TS stores. In a flight rope the sum is the
+bank's number, or its complement.
+
+Exit status:
+  0  done
+  1  the image is refused: it is short (E3) or long (E4), or the lowest bit of
+     two of its bytes is wrong (E5)
+  2  the command line is wrong
+  3  a file, a device or memory failed
+Status 1 and 3 print one line to standard error, as agcws: E5.";
+
 const RUN_HELP: &str = "Files:
   SRC   a source in the assembler's language, at most 65536 lines of at most
         120 bytes. A label begins at the first byte of its line; operator,
         operand and offset follow, and # begins a comment.
+        With --image it is a rope image, as agcws asm writes it.
   FEED  the timed inputs of the run, at most 65536, one a line, whose cycles
         do not fall; blank lines and comments after # are passed over:
           CYCLE CHAN CHANNEL WORD     a word on an input channel, in octal
@@ -122,13 +209,14 @@ with the lines written as OUTPUTS, and in octal Z, where the program stands.
 
 Exit status:
   0  done
-  1  the source or the feed is refused
+  1  the source, or the image, or the feed is refused
   2  the command line is wrong
   3  a file, a device or memory failed
 Status 1 and 3 print one line to standard error, as agcws: E14 LINE 9.";
 
 const DEBUG_HELP: &str = "Files:
-  SRC   a source, as agcws run takes it
+  SRC   a source, as agcws run takes it, or with --image a rope image: then
+        there are no symbols
   FEED  the timed inputs, as agcws run takes them
 
 Input: commands, one a line of at most 80 bytes; # begins a comment. The run
@@ -167,7 +255,7 @@ bytes. E2 MEMORY and E40 LIMIT end a command at step N.
 
 Exit status:
   0  done
-  1  the source or the feed is refused
+  1  the source, or the image, or the feed is refused
   2  the command line is wrong
   3  a file, a device or memory failed
 Status 1 and 3 print one line to standard error, as agcws: E14 LINE 9.";
@@ -177,15 +265,16 @@ pub fn command<'a>(alloc: Global) -> Result<Command<'a>, AllocError> {
     Command::new(alloc, "agcws")
         .about("Assembles, runs and debugs programs for the Apollo Guidance Computer")
         .version(PROGRAM_VERSION)
-        .after_help(
-            "See the --help of agcws asm, run, debug and upgrade for the files and the exit\nstatuses.",
-        )
+        .after_help("See the --help of each for its files, its output and its exit statuses.")
         .subcommand_required(true)
         .disable_help_subcommand(true)
         .subcommand(asm_command(alloc)?)?
         .subcommand(run_command(alloc)?)?
         .subcommand(debug_command(alloc)?)?
-        .subcommand(upgrade_command(alloc)?)
+        .subcommand(upgrade_command(alloc)?)?
+        .subcommand(words_command(alloc)?)?
+        .subcommand(compare_command(alloc)?)?
+        .subcommand(sums_command(alloc)?)
 }
 
 /// `agcws asm [--rope VERSION] SRC ROPE`.
@@ -229,11 +318,73 @@ fn upgrade_command<'a>(alloc: Global) -> Result<Command<'a>, AllocError> {
         )
 }
 
-/// `agcws run [--end] SRC FEED N`.
+/// `agcws words [--rope VERSION] ROPE [BANK]`.
+fn words_command<'a>(alloc: Global) -> Result<Command<'a>, AllocError> {
+    Command::new(alloc, WORDS)
+        .about("Shows the words of a rope image as instructions")
+        .after_help(WORDS_HELP)
+        .arg(image_argument(alloc, ROPE))?
+        .arg(
+            Arg::new(alloc, BANK)
+                .value_parser(BANKS.as_slice())
+                .hide_possible_values(true)
+                .help("The bank, 00 to 43 (octal, two digits); all where none is given"),
+        )?
+        .arg(version_option(alloc, VERSION, "rope"))
+}
+
+/// `agcws compare [--old VERSION] [--new VERSION] OLD NEW`.
+fn compare_command<'a>(alloc: Global) -> Result<Command<'a>, AllocError> {
+    Command::new(alloc, COMPARE)
+        .about("Shows where the words of two rope images differ")
+        .after_help(COMPARE_HELP)
+        .arg(image_argument(alloc, OLD))?
+        .arg(image_argument(alloc, NEW))?
+        .arg(version_option(alloc, OLD_VERSION, "old"))?
+        .arg(version_option(alloc, NEW_VERSION, "new"))
+}
+
+/// `agcws sums [--rope VERSION] ROPE`.
+fn sums_command<'a>(alloc: Global) -> Result<Command<'a>, AllocError> {
+    Command::new(alloc, SUMS)
+        .about("Sums the words of each bank of a rope image")
+        .after_help(SUMS_HELP)
+        .arg(image_argument(alloc, ROPE))?
+        .arg(version_option(alloc, VERSION, "rope"))
+}
+
+/// An argument that names an image.
+fn image_argument<'a>(alloc: Global, name: &'a str) -> Arg<'a> {
+    Arg::new(alloc, name)
+        .required(true)
+        .help("The rope image, a file")
+}
+
+/// An option that is the version of an image.
+fn version_option<'a>(alloc: Global, name: &'a str, long: &'a str) -> Arg<'a> {
+    Arg::new(alloc, name)
+        .long(long)
+        .value_name(VERSION)
+        .value_parser(VERSIONS.as_slice())
+        .default_value(VERSION_TWO)
+        .help("The image's version")
+}
+
+/// The option by which an image is run in place of a source.
+fn image_option<'a>(alloc: Global) -> Arg<'a> {
+    Arg::new(alloc, IMAGE)
+        .long("image")
+        .action(ArgAction::SetTrue)
+        .help("The first file is a rope image")
+}
+
+/// `agcws run [--end] [--image] [--rope VERSION] SRC FEED N`.
 fn run_command<'a>(alloc: Global) -> Result<Command<'a>, AllocError> {
     Command::new(alloc, RUN)
         .about("Writes what a program puts out on channels in some steps")
         .after_help(RUN_HELP)
+        .arg(image_option(alloc))?
+        .arg(version_option(alloc, VERSION, "rope").requires_arg(IMAGE)?)?
         .arg(
             Arg::new(alloc, SOURCE)
                 .required(true)
@@ -258,11 +409,13 @@ fn run_command<'a>(alloc: Global) -> Result<Command<'a>, AllocError> {
         )
 }
 
-/// `agcws debug SRC FEED`.
+/// `agcws debug [--image] [--rope VERSION] SRC FEED`.
 fn debug_command<'a>(alloc: Global) -> Result<Command<'a>, AllocError> {
     Command::new(alloc, DEBUG)
         .about("Replies to commands about a run, forwards and backwards")
         .after_help(DEBUG_HELP)
+        .arg(image_option(alloc))?
+        .arg(version_option(alloc, VERSION, "rope").requires_arg(IMAGE)?)?
         .arg(
             Arg::new(alloc, SOURCE)
                 .required(true)

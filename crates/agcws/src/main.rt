@@ -1,4 +1,4 @@
-//! `agcws`: assembles, runs and debugs programs for the Apollo Guidance Computer.
+//! `agcws`: assembles, runs and debugs programs for the Apollo Guidance Computer, and shows rope images.
 #![tactic(auto)]
 
 mod command_line;
@@ -8,8 +8,8 @@ mod read_ahead;
 use clap::ArgMatches;
 use clap::error::ErrorKind;
 use command_line::{
-    ASM, DEBUG, END, FEED, NEW, OLD, ROPE, RUN, SOURCE, STEPS, UPGRADE, VERSION, VERSION_ONE,
-    VERSION_TWO, command,
+    ASM, BANK, BANKS, COMPARE, DEBUG, END, FEED, IMAGE, NEW, NEW_VERSION, OLD, OLD_VERSION, ROPE,
+    RUN, SOURCE, STEPS, SUMS, UPGRADE, VERSION, VERSION_ONE, VERSION_TWO, WORDS, command,
 };
 use lazy_file::LazyFile;
 use read_ahead::ReadAhead;
@@ -19,12 +19,16 @@ use std::process::ExitCode;
 use std::{env, fs, io};
 use words::{Std, Write, write_all};
 use workshop::{
-    Summary, Version, WorkshopFault, asm_engine, debug_engine, may_run, report, run_engine,
-    upgrade_engine, write_end,
+    Bank, Summary, Version, WorkshopFault, asm_engine, compare_engine, debug_engine,
+    debug_image_engine, may_run, report, run_engine, run_image_engine, sums_engine, upgrade_engine,
+    words_engine, write_end,
 };
 
 /// The exit status where all is done.
 const DONE: u8 = 0;
+
+/// The exit status where two images differ.
+const DIFFERENT: u8 = 1;
 
 /// The exit status where the arguments are wrong.
 const WRONG_ARGUMENTS: u8 = 2;
@@ -58,6 +62,9 @@ fn perform(rt: &HostRuntime) -> Result<u8, WorkshopFault> {
             Some((RUN, matches)) => run(rt, matches),
             Some((DEBUG, matches)) => debug(rt, matches),
             Some((UPGRADE, matches)) => upgrade(rt, matches),
+            Some((WORDS, matches)) => show_words(rt, matches),
+            Some((COMPARE, matches)) => compare(rt, matches),
+            Some((SUMS, matches)) => show_sums(rt, matches),
             _ => Ok(WRONG_ARGUMENTS),
         },
         Err(error) => answer(rt, &error),
@@ -89,10 +96,8 @@ fn asm(rt: &HostRuntime, matches: &ArgMatches<'_>) -> Result<u8, WorkshopFault> 
     let (Some(source), Some(rope)) = (matches.get_str(SOURCE), matches.get_str(ROPE)) else {
         return Ok(WRONG_ARGUMENTS);
     };
-    let version = match matches.get_str(VERSION) {
-        Some(VERSION_ONE) => Version::One,
-        Some(VERSION_TWO) => Version::Two,
-        _ => return Ok(WRONG_ARGUMENTS),
+    let Some(version) = version(matches, VERSION) else {
+        return Ok(WRONG_ARGUMENTS);
     };
     if source == rope {
         return refuse_arguments(rt, b"error: SRC and ROPE are the same path\n");
@@ -108,7 +113,25 @@ fn asm(rt: &HostRuntime, matches: &ArgMatches<'_>) -> Result<u8, WorkshopFault> 
     }
 }
 
-/// `agcws run [--end] SRC FEED N`. Both files are opened before anything is read.
+/// The version of an image that an option names.
+fn version(matches: &ArgMatches<'_>, option: &str) -> Option<Version> {
+    match matches.get_str(option) {
+        Some(VERSION_ONE) => Some(Version::One),
+        Some(VERSION_TWO) => Some(Version::Two),
+        _ => None,
+    }
+}
+
+/// The version of the image that is to be run in place of a source, where one is.
+fn image_version(matches: &ArgMatches<'_>) -> Option<Version> {
+    if matches.get_flag(IMAGE) {
+        version(matches, VERSION)
+    } else {
+        None
+    }
+}
+
+/// `agcws run [--end] [--image] [--rope VERSION] SRC FEED N`. Both files are opened before anything is read.
 fn run(rt: &HostRuntime, matches: &ArgMatches<'_>) -> Result<u8, WorkshopFault> {
     let (Some(source), Some(feed), Some(steps)) = (
         matches.get_str(SOURCE),
@@ -120,11 +143,17 @@ fn run(rt: &HostRuntime, matches: &ArgMatches<'_>) -> Result<u8, WorkshopFault> 
     if !may_run(steps) {
         return Ok(WRONG_ARGUMENTS);
     }
-    let mut source = Std::new(fs::open(rt, source).map_err(not_opened)?);
+    let first = fs::open(rt, source).map_err(not_opened)?;
     let mut feed = Std::new(fs::open(rt, feed).map_err(not_opened)?);
     let buffered = BufWriter::new(rt.alloc(), io::writer(rt)).map_err(not_buffered)?;
     let mut out = Std::new(buffered);
-    let outcome = run_engine(rt.alloc(), &mut source, &mut feed, steps, &mut out);
+    let outcome = match image_version(matches) {
+        Some(version) => {
+            let mut image = ReadAhead::new(first);
+            run_image_engine(rt.alloc(), &mut image, version, &mut feed, steps, &mut out)
+        }
+        None => run_engine(rt.alloc(), &mut Std::new(first), &mut feed, steps, &mut out),
+    };
     match out.flush() {
         Ok(()) => end(rt, matches, &outcome?),
         Err(_) => Err(WorkshopFault::WriteFailed),
@@ -139,17 +168,33 @@ fn end(rt: &HostRuntime, matches: &ArgMatches<'_>, summary: &Summary) -> Result<
     Ok(DONE)
 }
 
-/// `agcws debug SRC FEED`. Both files are opened before anything is read; commands come from standard input.
+/// `agcws debug [--image] [--rope VERSION] SRC FEED`. Both files are opened before anything is read; commands come from standard input.
 fn debug(rt: &HostRuntime, matches: &ArgMatches<'_>) -> Result<u8, WorkshopFault> {
     let (Some(source), Some(feed)) = (matches.get_str(SOURCE), matches.get_str(FEED)) else {
         return Ok(WRONG_ARGUMENTS);
     };
-    let mut source = Std::new(fs::open(rt, source).map_err(not_opened)?);
+    let first = fs::open(rt, source).map_err(not_opened)?;
     let mut feed = Std::new(fs::open(rt, feed).map_err(not_opened)?);
     let mut commands = Std::new(rt.stdin());
     let buffered = BufWriter::new(rt.alloc(), io::writer(rt)).map_err(not_buffered)?;
     let mut out = Std::new(buffered);
-    let outcome = debug_engine(rt.alloc(), &mut source, &mut feed, &mut commands, &mut out);
+    let outcome = match image_version(matches) {
+        Some(version) => {
+            let mut image = ReadAhead::new(first);
+            debug_image_engine(
+                rt.alloc(),
+                &mut image,
+                version,
+                &mut feed,
+                &mut commands,
+                &mut out,
+            )
+        }
+        None => {
+            let mut source = Std::new(first);
+            debug_engine(rt.alloc(), &mut source, &mut feed, &mut commands, &mut out)
+        }
+    };
     match out.flush() {
         Ok(()) => outcome.map(|_| DONE),
         Err(_) => Err(WorkshopFault::WriteFailed),
@@ -168,6 +213,76 @@ fn upgrade(rt: &HostRuntime, matches: &ArgMatches<'_>) -> Result<u8, WorkshopFau
     let mut image = ReadAhead::new(fs::open(rt, old).map_err(not_opened)?);
     let mut out = Std::new(LazyFile::new(rt, new));
     upgrade_engine(rt.alloc(), &mut image, &mut out).map(|_| DONE)
+}
+
+/// `agcws words [--rope VERSION] ROPE [BANK]`.
+fn show_words(rt: &HostRuntime, matches: &ArgMatches<'_>) -> Result<u8, WorkshopFault> {
+    let (Some(rope), Some(version)) = (matches.get_str(ROPE), version(matches, VERSION)) else {
+        return Ok(WRONG_ARGUMENTS);
+    };
+    let bank = matches.get_str(BANK).and_then(bank_named);
+    let mut image = ReadAhead::new(fs::open(rt, rope).map_err(not_opened)?);
+    let buffered = BufWriter::new(rt.alloc(), io::writer(rt)).map_err(not_buffered)?;
+    let mut out = Std::new(buffered);
+    let outcome = words_engine(rt.alloc(), &mut image, version, bank, &mut out);
+    match out.flush() {
+        Ok(()) => outcome.map(|_| DONE),
+        Err(_) => Err(WorkshopFault::WriteFailed),
+    }
+}
+
+/// The bank of a name.
+fn bank_named(name: &str) -> Option<Bank> {
+    for (number, bank) in BANKS.iter().enumerate() {
+        if *bank == name {
+            return Bank::try_new(number as u16);
+        }
+    }
+    None
+}
+
+/// `agcws compare [--old VERSION] [--new VERSION] OLD NEW`. Both files are opened before anything is read.
+fn compare(rt: &HostRuntime, matches: &ArgMatches<'_>) -> Result<u8, WorkshopFault> {
+    let (Some(old), Some(new)) = (matches.get_str(OLD), matches.get_str(NEW)) else {
+        return Ok(WRONG_ARGUMENTS);
+    };
+    let (Some(old_version), Some(new_version)) = (
+        version(matches, OLD_VERSION),
+        version(matches, NEW_VERSION),
+    ) else {
+        return Ok(WRONG_ARGUMENTS);
+    };
+    let mut old = ReadAhead::new(fs::open(rt, old).map_err(not_opened)?);
+    let mut new = ReadAhead::new(fs::open(rt, new).map_err(not_opened)?);
+    let buffered = BufWriter::new(rt.alloc(), io::writer(rt)).map_err(not_buffered)?;
+    let mut out = Std::new(buffered);
+    let outcome = compare_engine(
+        rt.alloc(),
+        &mut old,
+        old_version,
+        &mut new,
+        new_version,
+        &mut out,
+    );
+    match out.flush() {
+        Ok(()) => outcome.map(|count| if count == 0 { DONE } else { DIFFERENT }),
+        Err(_) => Err(WorkshopFault::WriteFailed),
+    }
+}
+
+/// `agcws sums [--rope VERSION] ROPE`.
+fn show_sums(rt: &HostRuntime, matches: &ArgMatches<'_>) -> Result<u8, WorkshopFault> {
+    let (Some(rope), Some(version)) = (matches.get_str(ROPE), version(matches, VERSION)) else {
+        return Ok(WRONG_ARGUMENTS);
+    };
+    let mut image = ReadAhead::new(fs::open(rt, rope).map_err(not_opened)?);
+    let buffered = BufWriter::new(rt.alloc(), io::writer(rt)).map_err(not_buffered)?;
+    let mut out = Std::new(buffered);
+    let outcome = sums_engine(rt.alloc(), &mut image, version, &mut out);
+    match out.flush() {
+        Ok(()) => outcome.map(|_| DONE),
+        Err(_) => Err(WorkshopFault::WriteFailed),
+    }
 }
 
 fn no_memory(_: AllocError) -> WorkshopFault {
