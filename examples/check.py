@@ -9,7 +9,8 @@ In these each fenced block says by its first word what it is:
   debug SRC FEED   a session of `agcws debug`: commands, each after '> ', and the replies to each. A block `debug` goes on with it
   debug my.agc     a session over the last source and feed
   image V  the bytes with which the image of version V of the last source begins, in hexadecimal
-  shell    commands, each after '$ ', and what each writes, run in a folder with my.agc, my.feed and examples/, where agcws is found
+  shell    commands, each after '$ ', and what each writes, run in a folder with my.agc, my.feed and examples/, where agcws is found;
+           a last line '..' stands for the rest
   text     nothing that a program takes or writes, as a picture
 and a row of a table of refusals, as `| E14 | cause | `source;lines` | 2 |`, a source (or, from E30 on, a feed) that is refused so; in
 it `\r`, `\f` and `\xFF` stand for bytes.
@@ -233,7 +234,8 @@ class Document:
         for command, wanted in asked(body.decode(), r"\$ "):
             ran = subprocess.run(["bash", "-c", command], cwd=self.room, env={**os.environ, "PATH": f"{self.room}:{os.environ['PATH']}"},
                                  stdin=subprocess.DEVNULL, stdout=subprocess.PIPE, stderr=subprocess.STDOUT, timeout=60)
-            told(f"{label}: {command!r}", ran.stdout == wanted, f"wanted {wanted!r}, got {ran.stdout!r}")
+            is_right = ran.stdout.startswith(wanted[:-3]) if wanted.endswith(b"\n..\n") else ran.stdout == wanted
+            told(f"{label}: {command!r}", is_right, f"wanted {wanted!r}, got {ran.stdout!r}")
 
     def try_text(self, label, words, body):
         told(label, not words)
@@ -431,9 +433,49 @@ def check_upgrade(room):
     compare("an upgrade that cannot be made", agcws("upgrade", one, f"{room}/none/x"), 3, b"", b"agcws: E7\n")
 
 
+def check_ropes(room):
+    """Each example from its image as from its source, its words as in its listing; and images that are compared, summed and refused."""
+    one, two, other = f"{room}/image.one", f"{room}/image.two", f"{room}/image.other"
+    with open(f"{EXAMPLES}/runs.txt", encoding="utf-8") as file:
+        rows = [line.split() for line in file if line.strip() and not line.startswith("#")]
+    for name, feed, steps in rows:
+        source = f"{EXAMPLES}/{name}.agc"
+        agcws("asm", "--rope", "1", source, one)
+        _, listing, _ = agcws("asm", source, two)
+        wanted = agcws("run", source, f"{EXAMPLES}/{feed}", steps)
+        compare(f"the image of {name}", agcws("run", "--image", two, f"{EXAMPLES}/{feed}", steps), *wanted)
+        compare(f"the image without parity of {name}", agcws("run", "--rope", "1", "--image", one, f"{EXAMPLES}/{feed}", steps), *wanted)
+        compare(f"both images of {name}", agcws("compare", "--old", "1", one, two), 0, b"COUNT 0\n")
+        listed = set(re.findall(rb"^ *\d+ (\d\d,\d{4} \d{5})(?:  |$)", listing, re.M))
+        _, out, err = agcws("words", two)
+        shown = [line[:13] for line in out.splitlines()]
+        told(f"the words of {name}", (len(shown), len(set(shown)), err) == (36864, 36864, b"") and listed and listed <= set(shown))
+        told(f"no other words in {name}", all(line in listed or line.endswith(b" 00000") for line in shown))
+        compare(f"the words of {name} without parity", agcws("words", "--rope", "1", one), 0, out)
+        compare(f"bank 02 of {name}", agcws("words", two, "02"), 0, b"".join(line for line in out.splitlines(True) if line.startswith(b"02,")))
+    image = read(two)
+    agcws("asm", f"{EXAMPLES}/five_plus_five.agc", other)
+    status, out, err = agcws("compare", two, other)
+    told("images that differ", (status, err) == (1, b"") and out.endswith(b"COUNT %d\n" % (len(out.splitlines()) - 1)))
+    for label, text, number in [
+        ("an image without its last byte", image[:-1], 3), ("an image and a byte", image + b"\1", 4), ("an image of version 1", read(one), 5),
+    ]:
+        write(two, text)
+        error = f"agcws: E{number}\n".encode()
+        for words in [["words", two], ["sums", two], ["compare", two, other], ["compare", other, two], ["run", "--image", two, f"{EXAMPLES}/empty.feed", "4"], ["debug", "--image", two, f"{EXAMPLES}/empty.feed"]]:
+            compare(f"{label} by {words[0]}", agcws(*words), 1, b"", error)
+    compare("a feed that is refused after an image", agcws("run", "--image", other, other, "4"), 1, b"", b"agcws: E30 LINE 1\n")
+    compare("words of an image that is not there", agcws("words", f"{room}/none"), 3, b"", b"agcws: E6\n")
+    with open("/dev/full", "wb") as full:
+        ran = subprocess.run([PROGRAM, "words", other], stdin=subprocess.DEVNULL, stdout=full, stderr=subprocess.PIPE, timeout=60)
+    told("words that cannot be written", (ran.returncode, ran.stderr) == (3, b"agcws: E7\n"))
+    ran = subprocess.run([PROGRAM, "debug", "--image", other, f"{EXAMPLES}/empty.feed"], input=b"step 4\nsym FIVE\n", capture_output=True, timeout=WAIT)
+    compare("a session over an image", (ran.returncode, ran.stdout, ran.stderr), 0, b"7 CH 010 00012\nAT 4 7 4004\nE17 UNDEFINED\n")
+
+
 def check_command_line():
     """Help, and command lines that are wrong, against the texts of examples/help; and the version."""
-    for name in ["agcws", "asm", "run", "debug", "upgrade"]:
+    for name in ["agcws", "asm", "run", "debug", "upgrade", "words", "compare", "sums"]:
         got = agcws(*([] if name == "agcws" else [name]), "--help")
         compare(f"the help of {name}", got, 0, read(f"{EXAMPLES}/help/{name}.txt"))
         told(f"the width of the help of {name}", all(len(it) <= 80 for it in got[1].decode().split("\n")))
@@ -442,7 +484,7 @@ def check_command_line():
     version = re.search(rb'PROGRAM_VERSION: &str = "(.*)";', read(f"{ROOT}/crates/agcws/src/command_line.rt")).group(1)
     compare("agcws --version", agcws("--version"), 0, b"agcws " + version + b"\n")
     source, empty = f"{EXAMPLES}/five_plus_five.agc", f"{EXAMPLES}/empty.feed"
-    for words in [[], ["fly"], ["asm", source], ["run", source, empty], ["run", source, empty, "-1"], ["run", source, empty, "1099511627775"], ["asm", "--rope", "3", source, "x"], ["debug", source], ["upgrade", source]]:
+    for words in [[], ["fly"], ["asm", source], ["run", source, empty], ["run", source, empty, "-1"], ["run", source, empty, "1099511627775"], ["asm", "--rope", "3", source, "x"], ["debug", source], ["upgrade", source], ["words"], ["words", source, "44"], ["compare", source], ["sums"], ["run", "--rope", "1", source, empty, "4"]]:
         status, out, err = agcws(*words)
         told(f"agcws {' '.join(words[:1])} with {len(words)} words", (status, out) == (2, b"") and err)
     compare("+4 steps", agcws("run", source, empty, "+4"), 0, b"7 CH 010 00012\n")
@@ -505,6 +547,7 @@ def main():
         check_debugger(room)
         check_one_processor()
         check_upgrade(room)
+        check_ropes(room)
         check_command_line()
         check_one_path_for_two(room)
         check_end(room)
