@@ -48,10 +48,8 @@ fn input_added_above_the_present(rt: HostRuntime) -> Result<(), Fail> {
 }
 
 /// What was shown before inputs were added is shown after, and the run goes on as one that had them from the start.
-#[test]
-fn inputs_added_change_nothing_past(rt: HostRuntime) -> Result<(), Fail> {
-    let alloc = rt.alloc();
-    let mut session = Session::<SlotKeeper>::open(alloc, jump_in_place(alloc, b"")?)?;
+fn adds_nothing_past<K: Keeper>(alloc: Global) -> Result<(), Fail> {
+    let mut session = Session::<K>::open(alloc, jump_in_place(alloc, b"")?)?;
     for _ in 0..20 {
         session.forward()?;
     }
@@ -68,6 +66,12 @@ fn inputs_added_change_nothing_past(rt: HostRuntime) -> Result<(), Fail> {
         whole.step(&mut machine);
     }
     expect(time(&machine) == 3, "three pulses")
+}
+
+#[test]
+fn inputs_added_change_nothing_past(rt: HostRuntime) -> Result<(), Fail> {
+    adds_nothing_past::<SlotKeeper>(rt.alloc())?;
+    adds_nothing_past::<VecKeeper>(rt.alloc())
 }
 
 /// The 65,537th input outside of series is refused, and then all is as it was.

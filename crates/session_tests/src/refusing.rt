@@ -2,27 +2,27 @@
 
 use crate::machines::{everything, expect, same};
 use cpu::Machine;
-use replay::{Keeper, Refusal, Session, VecKeeper};
+use replay::{Keeper, Refusal, Session, SlotKeeper, VecKeeper};
 use std::alloc::Global;
 use std::test::Fail;
 
-/// A keeper that refuses each image when it is first handed over, and takes it the next time.
+/// A keeper that refuses each image when it is first handed over, and hands it to another keeper the next time.
 #[derive(Drop)]
-struct RefusingKeeper {
-    inner: VecKeeper,
+struct RefusingKeeper<K: Keeper> {
+    inner: K,
     refused: bool,
 }
 
-impl Keeper for RefusingKeeper {
+impl<K: Keeper> Keeper for RefusingKeeper<K> {
     ghost use Rattle.std.specs.Prelude.{true};
 
-    ghost images = { λ k. k.inner.images.items };
+    ghost images = { λ k. K.images k.inner };
 
     ghost may_refuse = { true };
 
     fn new(alloc: Global) -> Result<Self, Refusal> {
         Ok(RefusingKeeper {
-            inner: VecKeeper::new(alloc)?,
+            inner: K::new(alloc)?,
             refused: false,
         })
     }
@@ -47,13 +47,12 @@ impl Keeper for RefusingKeeper {
         self.inner.count()
     }
 
-    ghost rising = { λ k. k.inner.rising };
+    ghost rising = { λ k. K.rising k.inner };
 }
 
-#[test]
-fn refused_image_changes_nothing(rt: HostRuntime) -> Result<(), Fail> {
-    let alloc = rt.alloc();
-    let mut session = Session::<RefusingKeeper>::open(alloc, everything(alloc, 3)?)?;
+/// Where an image is refused, all is as before, and the same call with memory goes a step.
+fn refusals_change_nothing<K: Keeper>(alloc: Global) -> Result<(), Fail> {
+    let mut session = Session::<RefusingKeeper<K>>::open(alloc, everything(alloc, 3)?)?;
     let mut plain = everything(alloc, 3)?;
     let mut present = Machine::start();
     for n in 0..150u64 {
@@ -81,4 +80,10 @@ fn refused_image_changes_nothing(rt: HostRuntime) -> Result<(), Fail> {
         expect(session.steps() == n + 1, "one step more")?;
     }
     Ok(())
+}
+
+#[test]
+fn refused_image_changes_nothing(rt: HostRuntime) -> Result<(), Fail> {
+    refusals_change_nothing::<VecKeeper>(rt.alloc())?;
+    refusals_change_nothing::<SlotKeeper>(rt.alloc())
 }

@@ -150,9 +150,9 @@ fn programs_that_execute_everything(rt: HostRuntime) -> Result<(), Fail> {
     shows_what_was::<VecKeeper>(rt.alloc(), 12)
 }
 
-#[test]
-fn last_hits(rt: HostRuntime) -> Result<(), Fail> {
-    let mut session = Session::<SlotKeeper>::open(rt.alloc(), five_plus_five(rt.alloc())?)?;
+/// The last steps, in a session of 7, at which the program is at its second word, sought before some steps.
+fn finds_last_hits<K: Keeper>(alloc: Global) -> Result<(), Fail> {
+    let mut session = Session::<K>::open(alloc, five_plus_five(alloc)?)?;
     for _ in 0..7 {
         session.forward()?;
     }
@@ -164,13 +164,24 @@ fn last_hits(rt: HostRuntime) -> Result<(), Fail> {
         (1, None),
         (0, None),
     ] {
-        let before = session.steps().min(p);
-        assert_eq!(rt; before, p);
-        assert_eq!(rt;
-            session.seek_back(before, |machine| machine.cycles() % 8 == 2),
-            last
-        );
+        let before = session.meter();
+        let at = session.steps().min(p);
+        let found = session.seek_back(at, |machine| machine.cycles() % 8 == 2);
+        expect(found == last, "the last hit")?;
+        let executed = session.meter().wrapping_sub(before);
+        expect(
+            match found {
+                Some(t) => executed < u128::from(2 * 7u64.saturating_sub(t)),
+                None => executed <= u128::from(p),
+            },
+            "steps executed",
+        )?;
     }
-    assert_eq!(rt; session.steps(), 7);
-    Ok(())
+    expect(session.steps() == 7, "steps")
+}
+
+#[test]
+fn last_hits(rt: HostRuntime) -> Result<(), Fail> {
+    finds_last_hits::<SlotKeeper>(rt.alloc())?;
+    finds_last_hits::<VecKeeper>(rt.alloc())
 }
