@@ -9,3 +9,4 @@ pub mod CallLemmas
 pub mod StepLemmas
 pub mod FloorlogLemmas
 pub mod StayingLemmas
+pub mod MarkLemmas

@@ -1,10 +1,11 @@
 //! Images in slots.
 
-ghost use Rattle.std.specs.Prelude.{◌≡◌, ◌≢◌, ◌<◌, All, AllPairs, IfOk, OnErr, length};
+ghost use Rattle.std.specs.Prelude.{◌≡◌, ◌≢◌, ℕ, ◌<◌, map, slice_index_or, All, AllPairs, Contains, IfOk, OnErr, length};
+ghost use Rattle.std.specs.List.{remove};
 ghost use Rattle.replay.specs.Memory.{most_images};
 ghost use Rattle.replay.specs.Slots.{IsSlotted, images_in};
 
-use crate::keeper::{Keeper, place_of};
+use crate::keeper::Keeper;
 use crate::refusal::Refusal;
 use arrayvec::ArrayVec;
 use cpu::Machine;
@@ -53,6 +54,25 @@ fn all_free() -> ArrayVec<usize, SLOTS>
     free
 }
 
+/// Takes the mark of a step out, and answers its slot. It is sought from the newest back, and those passed move up.
+fn take_mark(marks: &mut ArrayVec<(u64, usize), SLOTS>, step: u64) -> usize
+    requires { Contains (map (λ m. m.0) marks.old.items) step }
+    ensures { (k : ℕ) × (k < length marks.old.items) × ((step, result) ≡ slice_index_or marks.old.items k (step, result)) × (marks.new.items ≡ remove marks.old.items k) }
+{
+    let Some((mut at, mut slot)) = marks.pop() else {
+        unreachable!()
+    };
+    let mut place = marks.len();
+    while at != step {
+        place -= 1;
+        let earlier = marks.as_slice()[place];
+        marks.as_mut_slice()[place] = (at, slot);
+        at = earlier.0;
+        slot = earlier.1;
+    }
+    slot
+}
+
 impl Keeper for SlotKeeper {
     ghost use Rattle.std.specs.Prelude.{false};
     ghost use Rattle.replay.specs.Slots.{images_in};
@@ -90,8 +110,7 @@ impl Keeper for SlotKeeper {
     }
 
     fn remove(&mut self, step: u64) {
-        let place = place_of(self.marks.as_slice(), step);
-        let (_, slot) = self.marks.remove(place);
+        let slot = take_mark(&mut self.marks, step);
         self.free.push(slot);
     }
 
