@@ -8,6 +8,7 @@ mod command_tests;
 #[cfg(test)]
 mod debug_tests;
 #[cfg(test)]
+mod image_tests;
 mod memory_tests;
 #[cfg(test)]
 mod run_tests;
