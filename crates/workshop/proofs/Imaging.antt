@@ -16,7 +16,6 @@ use Rattle.workshop.specs.Debugging.{Debugging, opened, setting_of, AnswersComma
 use Rattle.workshop.specs.Images.{imaged, fed, RunsFed, DebugsFed}
 use Rattle.workshop.specs.Inputs.{of_feed, prepared}
 use Rattle.workshop.specs.Refusals.{Refuses}
-use Rattle.workshop.specs.declared.engine.Summary.{Summary}
 use Rattle.workshop.specs.declared.fault.WorkshopFault.{WorkshopFault}
 use Rattle.workshop.specs.declared.fault.WorkshopFault.TheVariants.{NoMemory, ReadFailed, WriteFailed, Source, Feed, Rope, TooLong}
 use Rattle.workshop.specs.declared.inputs.Loaded.{Loaded}

@@ -1,10 +1,9 @@
 -- Sessions that were opened over a program and inputs.
-use Rattle.std.proofs.Common.{◌≡◌, false, List, ℕ, Result, Ok, Err, subst}
+use Rattle.std.proofs.Common.{◌≡◌, List, ℕ, Result, Ok, Err}
 use Rattle.std.specs.Prelude.{IsOkAnd}
 use Rattle.commands.specs.Commands.{SymbolTable}
-use Rattle.debugger.specs.Sessions.{Setting}
 use Rattle.replay.specs.View.{SessionView}
-use Rattle.workshop.specs.Debugging.{opened, setting_of}
+use Rattle.workshop.specs.Debugging.{opened}
 use Rattle.workshop.specs.Inputs.{prepared}
 use Rattle.workshop.specs.declared.inputs.Loaded.{Loaded}
 
@@ -17,11 +16,3 @@ pub of_opened : (source feed : List ℕ) (v : SessionView) (symbols : SymbolTabl
     → IsOkAnd (prepared source feed) (λ l. (v ≡ opened l) × (symbols ≡ l.program.symbols))
     → ((l : Loaded) → v ≡ opened l → symbols ≡ l.program.symbols → P l) → IsOkAnd (prepared source feed) P
 of_opened source feed v symbols P h f = ok_and (prepared source feed) (λ l. (v ≡ opened l) × (symbols ≡ l.program.symbols)) P h (λ l e. f l e.0 e.1)
-
--- what holds of its commands
-pub of_commands : (source feed : List ℕ) (v : SessionView) (symbols : SymbolTable) (P : Setting → Type 0)
-    → IsOkAnd (prepared source feed) (λ l. (v ≡ opened l) × (symbols ≡ l.program.symbols))
-    → P (record { may_refuse = false; symbols = symbols; scenario = v.scenario }) → IsOkAnd (prepared source feed) (λ l. P (setting_of l))
-of_commands source feed v symbols P h p =
-    of_opened source feed v symbols (λ l. P (setting_of l)) h
-    (λ l e s. (let same : record { may_refuse = false; symbols = symbols; scenario = v.scenario } ≡ setting_of l = λ i. record { may_refuse = false; symbols = s i; scenario = (e i).scenario } in subst P same p))
