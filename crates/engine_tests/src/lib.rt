@@ -9,6 +9,7 @@ mod command_tests;
 mod debug_tests;
 #[cfg(test)]
 mod image_tests;
+#[cfg(test)]
 mod memory_tests;
 #[cfg(test)]
 mod run_tests;
