@@ -281,6 +281,7 @@ fn image_runs_as_its_source(rt: HostRuntime) {
             steps: 4,
             cycles: 7,
             outputs: 1,
+            z: 0o4004,
         };
         assert_eq!(rt;
             run_image_engine(rt.alloc(), &mut reader, version, &mut feed, 4, &mut out),
