@@ -104,7 +104,7 @@ Status 1 and 3 print one line to standard error, as agcws: E14 LINE 9.";
 const UPGRADE_HELP: &str = "Files:
   OLD  a rope image of version 1, 73728 bytes: banks 2, 3, 0, 1, 4 to 43
        (octal), each of 1024 words, each word as two bytes, high byte first,
-       of twice the word. An image of version 2 is refused.
+       of twice the word. One with a parity bit set is refused.
   NEW  the image of the same words in version 2, where the lowest bit of every
        two bytes is a parity bit: they have an odd number of one bits.
        The file is made at the first write: a refused image leaves none.
@@ -166,8 +166,9 @@ Output: one line for each bank in the order of their numbers, as
   02 00002
 with the bank and the sum of its words in octal. It is the ones' complement sum
 that a program makes which checks its own memory: AD, and where that overflows,
-plus or minus one is added to what TS stores. In a flight rope the sum is the
-bank's number, or its complement.
+plus or minus one is added to what TS stores; by rising offsets, as another
+order may end with 37777 more or less. In a flight rope the sum is the bank's
+number, or its complement.
 
 Exit status:
   0  done
@@ -198,9 +199,9 @@ const RUN_HELP: &str = "Files:
         Input I of it, from 0 on, comes at FIRST + (I * NUM) / DEN, rounded
         down: EVERY 0 2560 3 600 TIME3 PINC is a pulse each 10 ms for 6 s.
         CYCLE, K and the numbers of a series are decimal.
-  Both are ASCII text of at most 8388608 bytes.
+  A source and a feed are ASCII text of at most 8388608 bytes.
 
-Output: one line for each word written to a channel, as
+Output: one line for each word written to a channel but 1, 2 and 7, as
   7 CH 010 00012
 with the cycles in decimal, and the channel and the word in octal.
 With --end, when all steps are made, also one line to standard error, as
@@ -232,7 +233,7 @@ Output: the replies to a line, before the next line is waited for.
   goto T               to step T: the AT line, or E41 NOT YET
   seek                 back to the last step before P at which a breakpoint
                        holds: HIT I and the AT line, or NONE
-  break at PLACE       one breakpoint more, at the next instruction's place:
+  break at PLACE       one breakpoint more, where Z leads to PLACE:
                        BREAK I, or E52 FULL from the 17th on
   break word PLACE W   where an erasable word is W
   break chan C W       where a channel is W
@@ -246,12 +247,13 @@ Output: the replies to a line, before the next line is waited for.
   changed T            the erasable places that differ after T and N steps, one
                        a line, and COUNT; or E41 NOT YET
   tail                 the last 32 channel lines of the N steps, and TAIL
-  add CYCLE ..         one input more, a line as in FEED: ADDED, or E33 COUNTER,
-                       E42 TOO EARLY, E32 TOO MANY, E2 MEMORY
+  add CYCLE ..         one input more, a line of FEED but no EVERY: ADDED, or
+                       E33 COUNTER, E42 TOO EARLY, E32 TOO MANY, E2 MEMORY
   quit                 the end, as is the end of the input (Ctrl-D)
 The AT line is AT, the position, the cycles and Z in octal. The channel lines of
-new steps come before it. Any other line is E50 COMMAND, or E51 LONG above 80
-bytes. E2 MEMORY and E40 LIMIT end a command at step N.
+new steps come before a command's other lines. A blank line and a comment draw
+no reply, any other line E50 COMMAND, or E51 LONG above 80 bytes. E40 LIMIT ends
+a command at the last step, 1099511627774; E2 MEMORY leaves all as it was.
 
 Exit status:
   0  done

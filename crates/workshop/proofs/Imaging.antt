@@ -47,14 +47,14 @@ runs_refused words feed steps old (Rope fault) h = absurd h
 runs_refused words feed steps old TooLong h = (h, refl)
 
 -- and a session before its first command
-pub debugs_refused : (words : Words) (feed : List ℕ) (commands : Commands) (old : List ℕ) (fault : WorkshopFault) → Refuses (fed words feed) fault → DebugsFed (fed words feed) commands old old (Err fault)
-debugs_refused words feed commands old NoMemory h = refl
-debugs_refused words feed commands old ReadFailed h = inl refl
-debugs_refused words feed commands old WriteFailed h = absurd h
-debugs_refused words feed commands old (Source fault) h = no_fed_source words feed fault h
-debugs_refused words feed commands old (Feed fault) h = (h, refl)
-debugs_refused words feed commands old (Rope fault) h = absurd h
-debugs_refused words feed commands old TooLong h = (h, refl)
+pub debugs_refused : (words : Words) (feed left old : List ℕ) (fault : WorkshopFault) → Refuses (fed words feed) fault → DebugsFed (fed words feed) (record { before = left; left = left }) old old (Err fault)
+debugs_refused words feed left old NoMemory h = refl
+debugs_refused words feed left old ReadFailed h = inl refl
+debugs_refused words feed left old WriteFailed h = absurd h
+debugs_refused words feed left old (Source fault) h = no_fed_source words feed fault h
+debugs_refused words feed left old (Feed fault) h = (h, refl, refl)
+debugs_refused words feed left old (Rope fault) h = absurd h
+debugs_refused words feed left old TooLong h = (h, refl, refl)
 
 -- what holds of the commands of a session that was opened over what was loaded
 over_loaded : (loaded : Result Loaded WorkshopFault) (v : SessionView) (symbols : SymbolTable) (P : Setting → Type 0)

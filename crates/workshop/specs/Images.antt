@@ -61,7 +61,7 @@ pub record DebuggingImage : Type 0 where
   pub commands : List ℕ
   pub written : List ℕ
 
--- where an image was read: the transcript is written, or a fault of the feed is told and nothing is written. After a failed
+-- where an image was read: the transcript is written, or a fault of the feed is told, no command read and nothing written. After a failed
 -- write it is a beginning of the transcript; after a failed read of the commands the replies to the whole lines before, and
 -- after one of the feed nothing; nor where memory ran out
 abbrev pub DebugsFed : Result Loaded WorkshopFault → Commands → List ℕ → List ℕ → Result (Unit {0}) WorkshopFault → Type 0
@@ -70,16 +70,16 @@ DebugsFed loaded commands old new (Err NoMemory) = new ≡ old
 DebugsFed loaded commands old new (Err ReadFailed) = (new ≡ old) ⊎ IsOkAnd loaded (λ l. EndsReading (setting_of l) commands old new)
 DebugsFed loaded commands old new (Err WriteFailed) = IsOkAnd loaded (λ l. BeginsReplies (setting_of l) (command_lines commands.before) old new)
 DebugsFed loaded commands old new (Err (Source fault)) = ⊥
-DebugsFed loaded commands old new (Err (Feed fault)) = (loaded ≡ Err (Feed fault)) × (new ≡ old)
+DebugsFed loaded commands old new (Err (Feed fault)) = (loaded ≡ Err (Feed fault)) × (commands.left ≡ commands.before) × (new ≡ old)
 DebugsFed loaded commands old new (Err (Rope fault)) = ⊥
-DebugsFed loaded commands old new (Err TooLong) = (loaded ≡ Err TooLong) × (new ≡ old)
+DebugsFed loaded commands old new (Err TooLong) = (loaded ≡ Err TooLong) × (commands.left ≡ commands.before) × (new ≡ old)
 
--- where an image was refused, nothing of the feed is read, and nothing is written
+-- where an image was refused, nothing of the feed and of the commands is read, and nothing is written
 abbrev pub DebugsThen : Result Words RopeFault → DebuggingImage → DebuggingImage → Result (Unit {0}) WorkshopFault → Type 0
 DebugsThen (Ok words) before after result =
     DebugsFed (fed words before.feed) (record { before = before.commands; left = after.commands }) before.written after.written result
 DebugsThen (Err fault) before after result =
-    (result ≡ Err (of_rope_fault fault)) × (after.feed ≡ before.feed) × (after.written ≡ before.written)
+    (result ≡ Err (of_rope_fault fault)) × (after.feed ≡ before.feed) × (after.commands ≡ before.commands) × (after.written ≡ before.written)
 
 -- an image is read, and what was read decides what is debugged
 pub record DebugsImage (version : Version) (before after : DebuggingImage) (result : Result (Unit {0}) WorkshopFault) : Type 0 where

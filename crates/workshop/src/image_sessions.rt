@@ -1,8 +1,10 @@
 //! The engine of the debugger over the words of an image.
 
 ghost use Rattle.std.specs.Prelude.{◌≡◌, true, false, IfOk, IfErr, IsOkAnd};
+ghost use Rattle.words.specs.Readings.{TakesAtMost};
+ghost use Rattle.debugger.specs.Transcript.{most_command_bytes};
 ghost use Rattle.workshop.specs.Debugging.{opened};
-ghost use Rattle.workshop.specs.Failures.{has_read_failed, has_write_failed, failures_if, OneFails, OneOfThreeFails};
+ghost use Rattle.workshop.specs.Failures.{has_read_failed, has_write_failed, failures_if, OneFails, OneOfThreeFails, most_read};
 ghost use Rattle.workshop.specs.Images.{DebugsImage, DebugsFed, fed};
 ghost use Rattle.workshop.specs.Refusals.{Refuses};
 
@@ -35,6 +37,10 @@ pub fn debug_image_engine<I: Read, F: Read, R: Read, W: Write>(
     // E6 only where a reader has failed, E7 only where the writer has.
     ensures readers { OneOfThreeFails (has_read_failed result) (I.failures image.old) (I.failures image.new) (F.failures feed.old) (F.failures feed.new) (R.failures commands.old) (R.failures commands.new) }
     ensures writer { W.failures out.new ≡ failures_if (has_write_failed result) (W.failures out.old) }
+
+    // No more is read than it takes to tell that there is too much, and no more commands than count.
+    ensures feed_read { F.told ≡ true → TakesAtMost (most_read result) (F.left feed.old) (F.left feed.new) }
+    ensures commands_read { R.told ≡ true → TakesAtMost most_command_bytes (R.left commands.old) (R.left commands.new) }
 {
     match Rope::read(alloc, image, version) {
         Ok(rope) => debug_rope(alloc, rope, feed, commands, out),
@@ -54,6 +60,8 @@ fn debug_rope<F: Read, R: Read, W: Write>(
         DebugsFed (fed rope (F.left feed.old)) (record { before = R.left commands.old; left = R.left commands.new }) (W.written out.old) (W.written out.new) result }
     ensures readers { OneFails (has_read_failed result) (F.failures feed.old) (F.failures feed.new) (R.failures commands.old) (R.failures commands.new) }
     ensures writer { W.failures out.new ≡ failures_if (has_write_failed result) (W.failures out.old) }
+    ensures feed_read { F.told ≡ true → TakesAtMost (most_read result) (F.left feed.old) (F.left feed.new) }
+    ensures commands_read { R.told ≡ true → TakesAtMost most_command_bytes (R.left commands.old) (R.left commands.new) }
 {
     match open_rope(alloc, rope, feed) {
         Ok(opened) => answer_commands(alloc, opened, commands, out),
@@ -69,6 +77,7 @@ fn open_rope<F: Read>(alloc: Global, rope: Rope, feed: &mut F) -> Result<Opened,
     ensures fault { F.told ≡ true → IfErr result (Refuses (fed rope (F.left feed.old))) }
     ensures reader { F.failures feed.new ≡ failures_if (has_read_failed result) (F.failures feed.old) }
     ensures writer { has_write_failed result ≡ false }
+    ensures feed_read { F.told ≡ true → TakesAtMost (most_read result) (F.left feed.old) (F.left feed.new) }
 {
     match read_feed(alloc, feed) {
         Ok(inputs) => match Session::open(alloc, Processor::new(rope, inputs)) {
