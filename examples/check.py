@@ -27,24 +27,16 @@ import subprocess
 import sys
 import tempfile
 
+sys.dont_write_bytecode = True
 EXAMPLES = os.path.dirname(os.path.abspath(__file__))
 ROOT = os.path.dirname(EXAMPLES)
+sys.path.insert(0, f"{ROOT}/gate")
+from tally import end, told
+
 PROGRAM = f"{ROOT}/crates/agcws/out/agcws"
 IMAGE_BYTES = 73728
 # The most seconds that a reply is awaited.
 WAIT = 60
-
-passed, failed = 0, []
-
-
-def told(label, is_well, detail=""):
-    """Counts a check, and tells one that failed."""
-    global passed
-    if is_well:
-        passed += 1
-    else:
-        failed.append(label)
-        print(f"{label}: FAILED{': ' + detail if detail else ''}")
 
 
 def agcws(*words):
@@ -551,8 +543,7 @@ def main():
         check_command_line()
         check_one_path_for_two(room)
         check_end(room)
-    print(f"{passed} passed, {len(failed)} failed")
-    return 1 if failed else 0
+    return end()
 
 
 if __name__ == "__main__":

@@ -24,8 +24,9 @@ from concurrent.futures import ProcessPoolExecutor
 sys.dont_write_bytecode = True
 HERE = os.path.dirname(os.path.abspath(__file__))
 ROOT = os.path.dirname(HERE)
-sys.path.insert(0, HERE)
+sys.path[:0] = [HERE, f"{ROOT}/gate"]
 import generator
+from tally import end, told
 
 PROGRAM = os.environ.get("AGCWS", f"{ROOT}/crates/agcws/out/agcws")
 EXAMPLES = f"{ROOT}/examples"
@@ -35,18 +36,6 @@ FIVE, EMPTY = f"{EXAMPLES}/five_plus_five.agc", f"{EXAMPLES}/empty.feed"
 MOST_SECONDS = 10
 MOST_MEMORY, MEMORY_PER_BYTE = 64 << 20, 64
 REFUSALS = {"source": range(10, 27), "feed": (30, 31, 32, 33, 35), "image": (3, 4, 5)}
-
-passed, failed = 0, []
-
-
-def told(label, is_well, detail=""):
-    """Counts a check, and tells one that failed."""
-    global passed
-    if is_well:
-        passed += 1
-    else:
-        failed.append(label)
-        print(f"{label}: FAILED{': ' + detail if detail else ''}", flush=True)
 
 
 def agcws(*words, commands=b"", **more):
@@ -354,8 +343,7 @@ def main():
         if not given.parts or name in given.parts:
             with tempfile.TemporaryDirectory(prefix="hostile-") as room:
                 part(room)
-    print(f"{passed} passed, {len(failed)} failed")
-    return 1 if failed else 0
+    return end()
 
 
 if __name__ == "__main__":
