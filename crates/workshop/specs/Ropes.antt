@@ -8,14 +8,7 @@ use Rattle.rope.specs.declared.fault.RopeFault.{RopeFault}
 use Rattle.audit.specs.Differences.{differing, differences}
 use Rattle.workshop.specs.declared.fault.WorkshopFault.{WorkshopFault}
 use Rattle.workshop.specs.declared.fault.WorkshopFault.TheVariants.{WriteFailed}
-use Rattle.workshop.specs.Upgrades.{Images, of_rope_fault}
-
--- what is written, and answered, where an image was read: the text of its words, or a beginning of it where a write failed; and
--- where none was read nothing, and why
-abbrev pub WritesText : (Words → List ℕ) → Result Words RopeFault → List ℕ → List ℕ → Result (Unit {0}) WorkshopFault → Type 0
-WritesText text (Ok words) old new (Ok x) = new ≡ old ++ text words
-WritesText text (Ok words) old new (Err fault) = (fault ≡ WriteFailed) × WritesBeginning old new (text words)
-WritesText text (Err fault) old new result = (result ≡ Err (of_rope_fault fault)) × (new ≡ old)
+use Rattle.workshop.specs.Upgrades.{Images, WritesText, of_rope_fault}
 
 -- an image is read, and what was read decides what is written
 pub record Shows (version : Version) (text : Words → List ℕ) (old new : Images) (result : Result (Unit {0}) WorkshopFault) : Type 0 where

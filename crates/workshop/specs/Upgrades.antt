@@ -24,15 +24,15 @@ pub record Images : Type 0 where
   pub left : List ℕ
   pub written : List ℕ
 
--- what is written, and answered, where an old image was read: the image of the same words in version 2, or a beginning of it
--- where a write failed; and where none was read nothing, and why
-abbrev pub WritesAnew : Result Words RopeFault → List ℕ → List ℕ → Result (Unit {0}) WorkshopFault → Type 0
-WritesAnew (Ok words) old new (Ok x) = new ≡ old ++ image Two words
-WritesAnew (Ok words) old new (Err fault) = (fault ≡ WriteFailed) × WritesBeginning old new (image Two words)
-WritesAnew (Err fault) old new result = (result ≡ Err (of_rope_fault fault)) × (new ≡ old)
+-- what is written, and answered, where an image was read: the text of its words, or a beginning of it where a write failed; and
+-- where none was read nothing, and why
+abbrev pub WritesText : (Words → List ℕ) → Result Words RopeFault → List ℕ → List ℕ → Result (Unit {0}) WorkshopFault → Type 0
+WritesText text (Ok words) old new (Ok x) = new ≡ old ++ text words
+WritesText text (Ok words) old new (Err fault) = (fault ≡ WriteFailed) × WritesBeginning old new (text words)
+WritesText text (Err fault) old new result = (result ≡ Err (of_rope_fault fault)) × (new ≡ old)
 
 -- an image of version 1 is read, and what was read decides what is written
 pub record Upgrades (old new : Images) (result : Result (Unit {0}) WorkshopFault) : Type 0 where
   pub read : Result Words RopeFault
   pub reads : ReadsImage One old.left new.left read
-  pub writes : WritesAnew read old.written new.written result
+  pub writes : WritesText (image Two) read old.written new.written result
