@@ -1,9 +1,10 @@
 -- What the formulas come to.
-use Rattle.std.specs.Prelude.{◌≡◌, ℕ, ◌+◌, ◌-◌, ◌%◌, ◌^◌, ◌<◌, min, nat_lt, if◌then◌else◌, pos, ◌+ℤ◌, ◌-ℤ◌, ◌*ℤ◌}
+use Rattle.std.specs.Prelude.{◌≡◌, ◌≢◌, ℕ, ◌+◌, ◌-◌, ◌%◌, ◌^◌, ◌<◌, min, nat_lt, if◌then◌else◌, ℤ, pos, ◌+ℤ◌, ◌-ℤ◌, ◌*ℤ◌, int_lt, unsigned_abs}
 use Rattle.std.specs.Int.{bit_at}
+use Rattle.words.specs.declared.wide.Overflow.{Overflow}
 use Rattle.words.specs.declared.wide.Overflow.TheVariants as overflow
 use Rattle.words.specs.declared.counters.Carry.TheVariants as carry
-use Rattle.words.specs.Numbers.{value, value_wide, neg, neg_wide, extend, correct}
+use Rattle.words.specs.Numbers.{value, value_wide, neg, neg_wide, sum, extend, correct, dabs, modular_difference}
 use Rattle.words.specs.Signs.{over}
 use Rattle.words.specs.Edits.{cyr, cyl, sr, edop}
 use Rattle.words.specs.Counters.{pinc, minc, dinc}
@@ -24,6 +25,37 @@ KeepsValue w = value_wide (extend w) ≡ value w
 -- a wide without overflow is the extension of its word
 abbrev pub IsExtension : ℕ → Type 0
 IsExtension x = over x ≡ overflow.No → extend (correct x) ≡ x
+
+-- a sum has the sum of the values, where a wide has that value: below a magnitude of 2^15
+abbrev pub AddsValues : ℕ → ℕ → Type 0
+AddsValues x y = unsigned_abs (value_wide x +ℤ value_wide y) < 2 ^ 15 → value_wide (sum x y) ≡ value_wide x +ℤ value_wide y
+
+-- how a whole number overflows a word: not below a magnitude of 2^14, and else by its sign
+abbrev pub overflow_of : ℤ → Overflow
+overflow_of z =
+    if nat_lt (unsigned_abs z) (2 ^ 14) then overflow.No
+    else (if int_lt z (pos 0) then overflow.Minus else overflow.Plus)
+
+-- a sum of two words overflows as the sum of their values does
+abbrev pub OverflowsByValue : ℕ → ℕ → Type 0
+OverflowsByValue a b = over (sum (extend a) (extend b)) ≡ overflow_of (value a +ℤ value b)
+
+-- the diminished magnitude by the value
+abbrev pub DiminishesMagnitude : ℕ → Type 0
+DiminishesMagnitude x = value_wide (dabs x) ≡ pos (unsigned_abs (value_wide x) - 1)
+
+-- an angle of 2^15 parts to a turn after a turn by some parts, back where they are minus
+abbrev pub turned : ℕ → ℤ → ℕ
+turned k parts = unsigned_abs (pos k +ℤ parts +ℤ pos (2 ^ 15)) % 2 ^ 15
+
+-- the angle that stands opposite, half a turn on
+abbrev pub opposite : ℕ → ℕ
+opposite k = (k + 2 ^ 14) % 2 ^ 15
+
+-- the modular difference turns the second angle to the first, but for half a turn, of which one part is missing
+pub record TurnsTo (a k : ℕ) : Type 0 where
+  pub turn : a ≢ opposite k → turned k (value (modular_difference a k)) ≡ a
+  pub half : a ≡ opposite k → value (modular_difference a k) ≡ pos (2 ^ 14 - 1)
 
 -- bit i of the word is bit i + 1 of the old one, and the last bit is the old first
 abbrev pub CyclesRight : ℕ → Type 0

@@ -1,11 +1,11 @@
 //! Laws of the arithmetic. Each is the contract of a call that does nothing: what the formulas of words come to.
 
 ghost use Rattle.std.specs.Prelude.{◌≡◌, true};
-ghost use Rattle.words.specs.Numbers.{neg, neg_wide, extend, correct};
+ghost use Rattle.words.specs.Numbers.{neg, neg_wide, sum, extend, correct};
 ghost use Rattle.words.specs.Edits.{cyr, cyl};
 ghost use Rattle.words.specs.Counters.{pcdu, mcdu};
 ghost use Rattle.words.specs.Products.{quotient_fits};
-ghost use Rattle.words.specs.Laws.{IsOpposite, IsOppositeWide, KeepsValue, IsExtension, CyclesRight, CyclesLeft, ShiftsRight, TakesUpperBits, AddsOne, TakesOne, NearsZero, MakesProduct, Divides};
+ghost use Rattle.words.specs.Laws.{IsOpposite, IsOppositeWide, KeepsValue, IsExtension, AddsValues, OverflowsByValue, DiminishesMagnitude, TurnsTo, CyclesRight, CyclesLeft, ShiftsRight, TakesUpperBits, AddsOne, TakesOne, NearsZero, MakesProduct, Divides};
 
 use super::wide::Wide;
 use super::word::Word;
@@ -31,6 +31,34 @@ pub fn extended_and_corrected(w: Word)
 /// A wide without overflow is the extension of its word.
 pub fn corrected_and_extended(x: Wide)
     ensures { IsExtension x }
+{}
+
+/// A sum has the sum of the values, where that has a magnitude below 2^15.
+pub fn sum_by_value(x: Wide, y: Wide)
+    ensures { AddsValues x y }
+{}
+
+/// A sum of two words has no overflow exactly where the sum of their values has a magnitude below 2^14; else it has that of
+/// its sign.
+pub fn overflow_by_value(a: Word, b: Word)
+    ensures { OverflowsByValue a b }
+{}
+
+/// A sum is the same in any order, and however it is put together.
+pub fn sum_in_any_order(x: Wide, y: Wide, z: Wide)
+    ensures commutes { sum x y ≡ sum y x }
+    ensures associates { sum (sum x y) z ≡ sum x (sum y z) }
+{}
+
+/// The diminished magnitude of a wide is one below the magnitude of its value, but not below 0.
+pub fn diminished_magnitude_by_value(x: Wide)
+    ensures { DiminishesMagnitude x }
+{}
+
+/// Two angles of 2^15 parts to a turn: their modular difference turns the second to the first, on or back by less than half
+/// a turn. Of half a turn it is one part short.
+pub fn modular_difference_by_value(a: Word, k: Word)
+    ensures { TurnsTo a k }
 {}
 
 /// The cycles right and left turn the bits round by one, and undo each other.
