@@ -1,3 +1,4 @@
 mod CellLemmas
 mod ChangedLemmas
 pub mod CellLaws
+pub mod ReadLaws

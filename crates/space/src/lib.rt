@@ -2,6 +2,7 @@
 //! hold, and how they are read and stored.
 #![tactic(auto)]
 
+pub mod laws;
 pub mod numbers;
 pub mod place;
 pub mod resolve;
