@@ -6,6 +6,7 @@ pub mod Products
 pub mod BitSums
 pub mod Devices
 pub mod Memory
+pub mod Troubles
 pub mod Readings
 pub mod Numerals
 pub mod Laws

@@ -1,7 +1,10 @@
 //! Devices for tests: readers and writers over memory that move one byte a call, and are in trouble once.
 
-ghost use Rattle.std.specs.Prelude.{◌≡◌, [], IfOk};
-ghost use Rattle.words.specs.Devices.{one_more};
+ghost use Rattle.std.specs.Prelude.{◌≡◌, ◌<◌, ◌++◌, [], true, false, None, Ok, IfOk, OnErr, length, min, take};
+ghost use Rattle.std.specs.Io.{ReadsAtMost, WritesAtMost};
+ghost use Rattle.std.specs.declared.io.ErrorKind.TheVariants.{Other};
+ghost use Rattle.words.specs.Devices.{one_more, failures_after, failures_after_write};
+ghost use Rattle.words.specs.Troubles.{is_due, one_nearer, FailsAs, IsTrouble, meets_trouble, TakesOne, left_after};
 
 use super::device::{Read, Write};
 use std::alloc::Global;
@@ -57,7 +60,17 @@ impl<'a> Read for FaultyReader<'a> {
 
     ghost failures = { λ r. r.failures };
 
-    fn read(&mut self, buf: &mut [u8]) -> io::Result<usize> {
+    /// Reads one byte, where one is left and there is room, or is in trouble.
+    fn read(&mut self, buf: &mut [u8]) -> io::Result<usize>
+        ensures bound { ReadsAtMost result buf.new }
+        ensures bytes { IfOk result (λ n. self.old.left ≡ take n buf.new ++ self.new.left) }
+        ensures end { result ≡ Ok 0 → 0 < length buf.new → self.old.left ≡ [] }
+        ensures err { OnErr result (self.new.left ≡ self.old.left) }
+        ensures failures { self.new.failures ≡ failures_after self.old.failures result }
+        ensures trouble { is_due self.old.fails_after ≡ true → FailsAs Other result }
+        ensures one { is_due self.old.fails_after ≡ false → result ≡ Ok (min 1 (min (length self.old.left) (length buf.new))) }
+        ensures nearer { self.new.fails_after ≡ one_nearer self.old.fails_after }
+    {
         if self.fails_after == Some(0) {
             self.fails_after = None;
             self.failures = self.failures.saturating_add(1);
@@ -118,7 +131,9 @@ impl FaultyWriter {
 
     fn in_trouble(&mut self) -> io::Result<usize>
         ensures written { self.new.written ≡ self.old.written }
-        ensures answer { IfOk result (λ n. n ≡ 0) }
+        ensures answer { IsTrouble self.old.trouble result }
+        ensures once { self.new.fails_after ≡ None }
+        ensures trouble { self.new.trouble ≡ self.old.trouble }
         ensures failures { self.new.failures ≡ one_more self.old.failures }
     {
         self.fails_after = None;
@@ -139,16 +154,28 @@ impl Write for FaultyWriter {
 
     ghost failures = { λ w. w.failures };
 
-    fn write(&mut self, buf: &[u8]) -> io::Result<usize> {
+    /// Writes one byte of some, or is in trouble.
+    fn write(&mut self, buf: &[u8]) -> io::Result<usize>
+        ensures bound { WritesAtMost result buf.now }
+        ensures bytes { IfOk result (λ n. self.new.written ≡ self.old.written ++ take n buf.now) }
+        ensures err { OnErr result (self.new.written ≡ self.old.written) }
+        ensures failures { self.new.failures ≡ failures_after_write self.old.failures result buf.now }
+        ensures trouble { meets_trouble self.old buf.now ≡ true → IsTrouble self.old.trouble result }
+        ensures one { meets_trouble self.old buf.now ≡ false → TakesOne buf.now result }
+        ensures nearer { self.new.fails_after ≡ left_after self.old buf.now result }
+        ensures same { self.new.trouble ≡ self.old.trouble }
+    {
         let Some(first) = buf.first() else {
             return Ok(0);
         };
         if self.fails_after == Some(0) {
             return self.in_trouble();
         }
-        self.fails_after = self.fails_after.map(|bytes| bytes.saturating_sub(1));
         match self.bytes.push(*first) {
-            Ok(()) => Ok(1),
+            Ok(()) => {
+                self.fails_after = self.fails_after.map(|bytes| bytes.saturating_sub(1));
+                Ok(1)
+            }
             Err(_) => {
                 self.failures = self.failures.saturating_add(1);
                 Err(io::Error::from(io::ErrorKind::OutOfMemory))

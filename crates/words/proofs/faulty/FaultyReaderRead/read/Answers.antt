@@ -4,7 +4,7 @@ use Rattle.words.proofs.Texts.{take-one-set}
 use Rattle.words.proofs.faulty.FaultyReaderRead.read.Goals as goal
 
 pub returns-clause-bytes : goal.returns-clause-bytes
-returns-clause-bytes c = λ told.
+returns-clause-bytes c =
     let some : 0 < length c.args.buf.now = search rules in
     let one : take 1 (set c.args.buf.now 0 c.in-Some.first.now) ≡ c.in-Some.first.now ∷ [] = take-one-set c.args.buf.now c.in-Some.first.now some in
     rw one (grind (arith, common_steps, c.in-Some.ensures.cases))
