@@ -1,8 +1,8 @@
 //! Text that goes out, put together with no memory.
 
-ghost use Rattle.std.specs.Prelude.{◌≡◌, ◌+◌, ◌≤◌, ◌++◌, length, decimal};
+ghost use Rattle.std.specs.Prelude.{◌≡◌, ◌+◌, ◌%◌, ◌≤◌, ◌++◌, length, decimal};
 ghost use Rattle.arrayvec.specs.ArrayVec.{array_vec_len};
-ghost use Rattle.words.specs.Numerals.{octal_text};
+ghost use Rattle.words.specs.Numerals.{digit_zero, octal_text};
 
 use arrayvec::ArrayVec;
 
@@ -51,6 +51,12 @@ pub fn push_octal<const N: usize>(line: &mut ArrayVec<u8, N>, digits: usize, num
 {
     if digits > 0 {
         push_octal(line, digits - 1, number / 8);
-        line.push(b'0' + (number % 8) as u8);
+        line.push(last_octal_digit(number));
     }
+}
+
+fn last_octal_digit(number: u16) -> u8
+    ensures { result ≡ digit_zero + number % 8 }
+{
+    b'0' + (number % 8) as u8
 }
