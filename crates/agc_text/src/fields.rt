@@ -1,11 +1,11 @@
 //! The fields of a line.
 
-ghost use Rattle.std.specs.Prelude.{◌≡◌, ◌==◌, ◌<◌, ◌≤◌, ◌^◌, ◌∷◌, [], not, nat_le, nat_lt, length, find, slice_get, drop, IfSome, MatchOption, slice_index, false};
-ghost use Rattle.std.specs.List.{position_or_len};
+ghost use Rattle.std.specs.Prelude.{◌≡◌, ◌<◌, ◌≤◌, ◌^◌, ◌∷◌, [], nat_le, nat_lt, length, find, slice_get, drop, IfSome, MatchOption, slice_index, false};
 ghost use Rattle.std.specs.Option.{option_map};
-ghost use Rattle.agc_text.specs.Bytes.{comment_sign};
 ghost use Rattle.agc_text.specs.Fields.{is_blank, before_comment, is_run_start, run_at, runs, runs_after, texts, fields, label_of, others_of};
 ghost use Rattle.agc_text.specs.Views.{piece, end_of, runs_from, IsSliceOf, AreSlicesOf};
+
+use crate::stretch::{End, is_blank_byte, length_before};
 
 /// A field of a line: bytes that are no blanks, as many as stand together.
 #[derive(Clone, Copy)]
@@ -104,7 +104,7 @@ fn following<'a>(text: &'a [u8], field: Option<Field<'a>>) -> Option<Field<'a>>
 pub fn before_comment(line: &[u8]) -> &[u8]
     ensures { result.now ≡ before_comment line.now }
 {
-    &line[..comment_start(line)]
+    &line[..length_before(line, End::Byte(b'#'))]
 }
 
 /// The first field of a text that has no comment, and what follows it; none where the text has no field.
@@ -117,7 +117,7 @@ pub fn split_field(text: &[u8]) -> Option<(&[u8], &[u8])>
     if rest.is_empty() {
         return None;
     }
-    let end = run_length(rest);
+    let end = length_before(rest, End::Blank);
     Some((&rest[..end], &rest[end..]))
 }
 
@@ -126,32 +126,7 @@ fn without_blanks(text: &[u8]) -> &[u8]
     ensures runs { texts (runs text.now) ≡ texts (runs result.now) }
     ensures first { 0 < length result.now → is_blank (slice_index result.now 0) ≡ false }
 {
-    &text[blank_length(text)..]
-}
-
-// How many blanks stand before the first other byte.
-fn blank_length(text: &[u8]) -> usize
-    ensures value { result ≡ position_or_len (λ byte. not (is_blank byte)) text.now }
-    ensures within { result ≤ length text.now }
-{
-    for (i, byte) in text.iter().enumerate() {
-        if !is_blank_byte(*byte) {
-            return i;
-        }
-    }
-    text.len()
-}
-
-// How many bytes stand before the first `#`.
-fn comment_start(line: &[u8]) -> usize
-    ensures { result ≡ position_or_len (λ byte. byte == comment_sign) line.now }
-{
-    for (i, byte) in line.iter().enumerate() {
-        if *byte == b'#' {
-            return i;
-        }
-    }
-    line.len()
+    &text[length_before(text, End::NoBlank)..]
 }
 
 // The first run that begins at byte `from` or later.
@@ -181,25 +156,6 @@ fn run_from(text: &[u8], start: usize) -> Field<'_>
     ensures slice { IsSliceOf text.now result }
 {
     let rest = &text[start..];
-    let text = &rest[..run_length(rest)];
+    let text = &rest[..length_before(rest, End::Blank)];
     Field { start, text }
-}
-
-// How many bytes stand before the first blank.
-fn run_length(text: &[u8]) -> usize
-    ensures value { result ≡ position_or_len is_blank text.now }
-    ensures within { result ≤ length text.now }
-{
-    for (i, byte) in text.iter().enumerate() {
-        if is_blank_byte(*byte) {
-            return i;
-        }
-    }
-    text.len()
-}
-
-fn is_blank_byte(byte: u8) -> bool
-    ensures { result ≡ is_blank byte }
-{
-    byte == b' ' || byte == b'\t'
 }

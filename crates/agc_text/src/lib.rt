@@ -6,6 +6,7 @@
 mod digits;
 mod fields;
 mod lines;
+mod stretch;
 mod text;
 
 pub use digits::{Number, decimal, decimal_value, octal, octal_value};

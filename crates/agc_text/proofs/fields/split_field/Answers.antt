@@ -9,7 +9,7 @@ returns-then-is_empty c = c.without_blanks-rest.ensures.runs ∙ texts-none c.wi
 pub returns : goal.returns
 returns c =
     let rest = c.without_blanks-rest.result.now in
-    let end = c.run_length-end.result in
+    let end = c.length_before-end.result in
     let some : 0 < length rest = grind (arith, c.is_empty.ensures, c.if-is_empty.false) in
-    c.without_blanks-rest.ensures.runs ∙ texts-take rest end some (c.without_blanks-rest.ensures.first some) c.run_length-end.ensures.value
+    c.without_blanks-rest.ensures.runs ∙ texts-take rest end some (c.without_blanks-rest.ensures.first some) c.length_before-end.ensures.value
     ∙ ap (λ t. take end rest ∷ texts (runs t)) (sym (take_all (length rest - end) (drop end rest) (omega (arith, length-drop end rest))))
