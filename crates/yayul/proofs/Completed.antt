@@ -1,16 +1,16 @@
 -- The words of requests in order.
 use Rattle.std.proofs.lemmas.List.{map-append, drop-map, take-map, drop_more, take_more}
 use Rattle.std.proofs.lemmas.List.Elements.{All-head, All-drop, All-take}
-use Rattle.std.proofs.Common.{◌≡◌, ℕ, ◌+◌, ◌<◌, ◌≤◌, arith, Bool, false, List, [], ◌∷◌, ◌++◌, length, map, take, drop, get_or, Some, None, is_some, Result, Ok, Err, inl, inr, ap, sym, subst, ◌∙◌}
+use Rattle.std.proofs.Common.{◌≡◌, ℕ, ◌+◌, ◌<◌, ◌≤◌, arith, Bool, false, List, [], ◌∷◌, ◌++◌, length, map, take, drop, get_or, Option, Some, None, is_some, Result, Ok, Err, inl, inr, ap, sym, subst, ◌∙◌}
 use Rattle.std.specs.List.{list_any, flat_map}
-use Rattle.std.specs.Result.{result_map_both, result_unwrap_or}
+use Rattle.std.specs.Result.{result_err, result_map_both, result_unwrap_or}
 use Rattle.agc_text.specs.Lines.{lines}
 use Rattle.rope.specs.Places.{Words, banks, bank_words, no_words, with_words, stands}
 use Rattle.rope.proofs.PlaceLaws.{slot_at-no_words}
 use Rattle.yayul.specs.Operators.{field_size, bits_under}
 use Rattle.yayul.specs.Layout.{Request, Layout, and_then, width, stands_at, value_of, start, standing, on_line, layout_faults, layout_after}
-use Rattle.yayul.specs.Words.{addressed_word, far_address, fixed_place, field_of, content_words, request_words, request_conditions, request_faults, word_faults}
-use Rattle.yayul.specs.Program.{Program, GivesProgram, least, completed, program_of, placed, placed_from, program, unless_fault}
+use Rattle.yayul.specs.Words.{addressed_word, far_address, fixed_place, field_of, content_words, request_words, extracode_of, extracode_fault, request_faults, word_faults}
+use Rattle.yayul.specs.Program.{Program, GivesProgram, least, completed, placed, placed_from, program, unless_fault}
 use Rattle.yayul.specs.Inside.Representation.{request_of, words_in}
 use Rattle.yayul.specs.Inside.Sound.{AreFrom, AreRising, AreApart, AreWithin}
 use Rattle.yayul.specs.Inside.Answers.{GivesWords, least_kind, Tells, TellsOn}
@@ -30,19 +30,23 @@ use Rattle.yayul.proofs.Least.{told, StandFrom, StandFrom-append, StandFrom-on_l
 abbrev pub seen : Result LineWords FaultKind → Result (List ℕ) FaultKind
 seen words = result_map_both words_in (λ kind. kind) words
 
+-- the conditions on a request that comes to words or a fault
+abbrev conditions : Request → Result (List ℕ) FaultKind → List (Option FaultKind)
+conditions r words = result_err words ∷ extracode_fault (extracode_of r.content) r.extracode ∷ []
+
 -- what a request gives that comes to words without a fault
 pub gives_words : (table : List (List ℕ × Value)) (r : Request) (words : Result LineWords FaultKind) → seen words ≡ request_words table r
-    → None ≡ least_kind (standing (request_conditions r (seen words))) → GivesWords table r words
+    → None ≡ least_kind (standing (conditions r (seen words))) → GivesWords table r words
 unfolding request_faults
 gives_words table r (Ok words) e none =
-    (ap (λ w. standing (request_conditions r w)) (sym e) ∙ no_fault (request_conditions r (Ok (words_in words))) (sym none), sym e)
+    (ap (λ w. standing (conditions r w)) (sym e) ∙ no_fault (conditions r (Ok (words_in words))) (sym none), sym e)
 gives_words table r (Err kind) e none = absurd (cc)
 
 -- the fault of a request that comes to words or a fault
 pub gives_fault : (table : List (List ℕ × Value)) (r : Request) (words : Result LineWords FaultKind) (kind : FaultKind) → seen words ≡ request_words table r
-    → Some kind ≡ least_kind (standing (request_conditions r (seen words))) → GivesWords table r (Err kind)
+    → Some kind ≡ least_kind (standing (conditions r (seen words))) → GivesWords table r (Err kind)
 unfolding request_faults
-gives_fault table r words kind e some = ap (λ w. least_kind (standing (request_conditions r w))) (sym e) ∙ sym some
+gives_fault table r words kind e some = ap (λ w. least_kind (standing (conditions r w))) (sym e) ∙ sym some
 
 -- the faults of requests stand on their lines
 word_faults-from : (table : List (List ℕ × Value)) (line : ℕ) (rs : List Request) → AreFrom line rs → StandFrom line (word_faults table rs)
@@ -158,6 +162,10 @@ up_to_one rs i r lt e =
 pub told_request : (all : List Fault) (line : ℕ) (kind : FaultKind) (fault : Fault) → least all ≡ Some (told line kind) → TellsOn line kind fault → Tells (least all) fault
 told_request all line kind fault e (inl none) = inl none
 told_request all line kind fault e (inr is) = inr (e ∙ ap (λ f. Some f) (sym is.1))
+
+-- the program of a layout
+abbrev program_of : Layout → List ℕ → Program
+program_of s source = record { rope = with_words no_words (flat_map (placed s.symbols) s.requests); symbols = s.symbols; source = source }
 
 -- the program, where all words are placed
 pub completes_ok : (s : Layout) (source text : List ℕ) (stored requests : List WordRequest) (rope : Words) (a : Program) → stored ≡ requests → map request_of requests ≡ s.requests → text ≡ source

@@ -1,21 +1,13 @@
 -- From the fields of a line to what it says: names, numbers, decimal constants, operands, statements, whatever stands before the line.
-use Rattle.std.specs.Prelude.{ℕ, ◌+◌, ◌-◌, ◌*◌, ◌/◌, ◌^◌, ◌==◌, ◌&&◌, ◌||◌, not, Bool, false, nat_lt, nat_le, List, [], ◌∷◌, length, take, drop, slice_get, Option, None, Some, is_some, is_none, option_and_then, if◌then◌else◌}
+use Rattle.std.specs.Prelude.{ℕ, ◌+◌, ◌-◌, ◌*◌, ◌/◌, ◌^◌, ◌==◌, ◌&&◌, ◌||◌, not, Bool, false, nat_lt, nat_le, List, [], ◌∷◌, length, take, drop, slice_get, Option, None, Some, is_some, is_none, option_map, option_and_then, if◌then◌else◌}
 use Rattle.std.specs.List.{list_any, before_first}
-use Rattle.std.specs.Option.{option_map, option_map_or}
+use Rattle.std.specs.Option.{option_map_or}
 use Rattle.words.specs.Numbers.{neg}
 use Rattle.agc_text.specs.Digits.{digits_value, number_of}
 use Rattle.agc_text.specs.Fields.{Piece, fields, label_of, others_of}
 use Rattle.agc_text.specs.Tables.{value_in}
 use Rattle.yayul.specs.Operators.{operators}
 use Rattle.yayul.specs.Language.{Addressed, Bank, Constant, Ebank, Equals, Erase, FarAddress, Gives, Is, Label, Malformed, Minus, Missing, Named, NoForm, Nothing, Numeral, Operand, Operation, Operator, Plain, Plus, Setloc, Shift, Statement, Term, TooLarge, Unknown}
-
--- the point of a fraction
-abbrev pub point : ℕ
-point = 0o56
-
--- a `$`, which no name holds
-abbrev pub dollar_sign : ℕ
-dollar_sign = 0o44
 
 -- a `+` or a `-`
 abbrev pub is_sign : ℕ → Bool
@@ -65,7 +57,7 @@ is_digits text = is_some (digits_value 10 (if is_marked_decimal text then take (
 -- 1 to 8 characters, none of them `$`, not beginning with a sign, and not digits alone or digits followed by `D`
 abbrev pub is_name : List ℕ → Bool
 is_name text =
-    nat_le 1 (length text) && nat_le (length text) 8 && not (list_any (λ byte. byte == dollar_sign) text)
+    nat_le 1 (length text) && nat_le (length text) 8 && not (list_any (λ byte. byte == 0o44) text)
     && not (first_is is_sign text) && not (is_digits text)
 
 -- so many units' fraction times 2 ^ 14, to the nearest: half a unit is added before the division
@@ -74,7 +66,7 @@ scaled decimals unit = (decimals * 2 ^ 15 + unit) / (2 * unit)
 
 -- what stands before the first point
 abbrev pub before_point : List ℕ → List ℕ
-before_point text = before_first (λ byte. byte == point) text
+before_point text = before_first (λ byte. byte == 0o56) text
 
 -- digits, or none
 abbrev pub whole_in : List ℕ → Option ℕ

@@ -1,6 +1,6 @@
 -- Layout: what each line does where a location, symbols and words stand before it, and its faults of the kind layout.
-use Rattle.std.specs.Prelude.{ℕ, ◌+◌, ◌-◌, ◌/◌, ◌==◌, ◌&&◌, ◌||◌, not, Bool, true, false, nat_lt, nat_le, List, [], ◌∷◌, ◌++◌, length, map, fold, max, Option, None, Some, is_some, Result, Ok, Err, ok_or, if◌then◌else◌}
-use Rattle.std.specs.List.{list_any, list_all, filter_map}
+use Rattle.std.specs.Prelude.{ℕ, ◌+◌, ◌-◌, ◌/◌, ◌==◌, ◌&&◌, ◌||◌, not, Bool, true, false, nat_lt, nat_le, List, [], ◌∷◌, ◌++◌, length, map, filter_map, fold, max, Option, None, Some, is_some, Result, Ok, Err, ok_or, if◌then◌else◌}
+use Rattle.std.specs.List.{list_any, list_all}
 use Rattle.std.specs.Option.{option_map_or}
 use Rattle.std.specs.Result.{result_err, result_unwrap_or}
 use Rattle.agc_text.specs.Bytes.{line_length, is_text_byte}
@@ -166,7 +166,6 @@ abbrev pub early_value : Layout → Option Operand → Result Value FaultKind
 early_value s operand = and_then (value_of UsedTooEarly s.symbols (value_here s.location)) (ok_or operand BadOperand)
 
 -- ## Labels
-
 abbrev pub is_malformed : Label → Bool
 is_malformed Malformed = true
 is_malformed _ = false
@@ -215,19 +214,11 @@ abbrev pub relocated : Layout → Label → Result Location FaultKind → LineEf
 relocated s label target =
     record { faults = standing (bare_faults label target); after = record s { location = result_unwrap_or target s.location } }
 
--- SETLOC: the location becomes that of its operand
-abbrev pub setloc : Layout → Label → Option Operand → LineEffect
-setloc s label operand = relocated s label (and_then location_at (early_value s operand))
-
 -- the location past the words of a bank that the operator takes
 abbrev pub bank_target : Layout → BankRange → Numeral → Result Location FaultKind
 bank_target s taken NoForm = Err BadOperand
 bank_target s taken TooLarge = Err BadBank
 bank_target s taken (Is n) = if is_bank taken n then Ok (Location.Fixed n (bank_end s.requests n)) else Err BadBank
-
--- BANK and BLOCK: the location stands past the words of a bank
-abbrev pub bank : Layout → Label → BankRange → Numeral → LineEffect
-bank s label taken number = relocated s label (bank_target s taken number)
 
 -- EBANK=: the erasable bank of 2CADR becomes that of the operand's place
 abbrev pub ebank : Layout → Label → Option Operand → LineEffect
@@ -241,10 +232,6 @@ valued s label value = record {
   faults = standing (fault_if (is_missing label || is_malformed label) BadLabel ∷ fault_if (is_twice s label) TwiceDefined ∷ result_err value ∷ []);
   after = result_unwrap_or (and_then (λ v. Ok (defined s label v)) value) s;
 }
-
--- EQUALS and =: the label has the value of the operand
-abbrev pub equals : Layout → Label → Option Operand → LineEffect
-equals s label operand = valued s label (early_value s operand)
 
 -- the location after so many erasable words and one
 abbrev pub erased_to : Location → Numeral → Result Location FaultKind
@@ -291,10 +278,10 @@ gives line s label content = record {
 abbrev pub statement_effect : ℕ → Layout → Label → Operation → LineEffect
 statement_effect line s label Nothing = label_alone s label
 statement_effect line s label Unknown = refused s label UnknownOperator
-statement_effect line s label (Setloc operand) = setloc s label operand
-statement_effect line s label (Bank taken number) = bank s label taken number
+statement_effect line s label (Setloc operand) = relocated s label (and_then location_at (early_value s operand))
+statement_effect line s label (Bank taken number) = relocated s label (bank_target s taken number)
 statement_effect line s label (Erase count) = erase s label count
-statement_effect line s label (Equals operand) = equals s label operand
+statement_effect line s label (Equals operand) = valued s label (early_value s operand)
 statement_effect line s label (Ebank operand) = ebank s label operand
 statement_effect line s label (Gives None) = refused s label BadOperand
 statement_effect line s label (Gives (Some content)) = gives line s label content

@@ -1,6 +1,5 @@
 -- The listing of a program: a row for each line of its source, and its symbols.
-use Rattle.std.specs.Prelude.{ℕ, ◌+◌, ◌-◌, ◌/◌, nat_lt, List, [], ◌∷◌, ◌++◌, length, replicate, drop, slice_get, codes, decimal, Option, None, Some, if◌then◌else◌}
-use Rattle.std.specs.List.{flat_map}
+use Rattle.std.specs.Prelude.{ℕ, ◌+◌, ◌-◌, ◌/◌, ◌==◌, nat_lt, List, [], ◌∷◌, ◌++◌, length, flat_map, replicate, drop, slice_get, codes, decimal, Option, None, Some, if◌then◌else◌}
 use Rattle.std.specs.Option.{option_map_or}
 use Rattle.agc_text.specs.Lines.{lines}
 use Rattle.rope.specs.Places.{Words, word_at}
@@ -67,23 +66,15 @@ number_column number = (blanks (5 - length (decimal number)) ++ decimal number) 
 unfoldable pub word_columns : Words → ℕ → ℕ → List ℕ
 word_columns words bank offset = place_text (linear.Fixed bank offset) ++ codes " " ++ octal_text 5 (word_at words bank offset)
 
--- a place without a word, or blanks
-abbrev pub place_columns : Option Linear → List ℕ
-place_columns None = blanks 13
-place_columns (Some place) = place_text place ++ blanks 6
-
 -- the columns of the place, 7 bytes, and of the first word, 5 bytes, with a blank between them
 abbrev pub columns : Words → Shown → List ℕ
-columns words shown = option_map_or (λ p. word_columns words p.0 p.1) (slice_get shown.words 0) (place_columns shown.place)
-
--- the blanks before a text, where one stands
-abbrev pub gap : List ℕ → List ℕ
-gap [] = []
-gap (byte ∷ rest) = codes "  "
+columns words shown =
+    option_map_or (λ p. word_columns words p.0 p.1) (slice_get shown.words 0)
+    (option_map_or (λ place. place_text place ++ blanks 6) shown.place (blanks 13))
 
 -- what stands on a row before the text of its line
 abbrev pub row_front : ℕ → Words → Shown → List ℕ → List ℕ
-row_front number words shown text = number_column number ++ columns words shown ++ gap text
+row_front number words shown text = number_column number ++ columns words shown ++ (if length text == 0 then [] else codes "  ")
 
 -- the row of a further word, which has the number of its line and no text
 abbrev pub further_row : ℕ → Words → ℕ × ℕ → List ℕ
@@ -114,10 +105,6 @@ symbol_row symbol = (symbol.0 ++ blanks (8 - length symbol.0)) ++ codes " " ++ v
 unfoldable pub symbols_head : List (List ℕ × Value) → List ℕ
 symbols_head symbols = codes "SYMBOLS " ++ decimal (length symbols) ++ codes "\n"
 
--- the symbols in order of definition
-abbrev pub symbol_rows : List (List ℕ × Value) → List ℕ
-symbol_rows symbols = symbols_head symbols ++ flat_map symbol_row symbols
-
--- the listing of a program
+-- the listing of a program: its lines, and its symbols in order of definition
 unfoldable pub listing : Program → List ℕ
-listing p = rows 1 start p.rope (lines p.source) ++ symbol_rows p.symbols
+listing p = rows 1 start p.rope (lines p.source) ++ (symbols_head p.symbols ++ flat_map symbol_row p.symbols)

@@ -107,16 +107,6 @@ abbrev pub bits_under : Extracode → Bits → Bool → Bits
 bits_under Either bits extracode = if extracode then Twelve else bits
 bits_under _ bits extracode = bits
 
--- an extracode, which has to be in force
-abbrev pub needs_extend : Extracode → Bool
-needs_extend Yes = true
-needs_extend _ = false
-
--- no extracode, which must not be in force
-abbrev pub is_barred : Extracode → Bool
-is_barred No = true
-is_barred _ = false
-
 -- a code of both tables keeps extracode in force
 abbrev pub stays_extended : Extracode → Bool
 stays_extended Either = true

@@ -1,6 +1,5 @@
 -- The program of a source, or its least fault.
-use Rattle.std.specs.Prelude.{◌≡◌, ℕ, ◌+◌, ◌==◌, ◌&&◌, ◌||◌, ◌⊎◌, Bool, nat_lt, List, [], ◌∷◌, fold, Option, None, Some, Result, Ok, Err, if◌then◌else◌}
-use Rattle.std.specs.List.{flat_map}
+use Rattle.std.specs.Prelude.{◌≡◌, ℕ, ◌+◌, ◌==◌, ◌&&◌, ◌||◌, ◌⊎◌, Bool, nat_lt, List, [], ◌∷◌, flat_map, fold, Option, None, Some, Result, Ok, Err, if◌then◌else◌}
 use Rattle.std.specs.Result.{result_unwrap_or}
 use Rattle.agc_text.specs.Lines.{lines}
 use Rattle.rope.specs.Places.{Words, Placed, no_words, with_words}
@@ -41,13 +40,10 @@ placed table r = placed_from r.bank r.offset (result_unwrap_or (request_words ta
 abbrev pub image_of : Layout → List Placed
 image_of s = flat_map (placed s.symbols) s.requests
 
--- the program of a layout and of the text of its source
-abbrev pub program_of : Layout → List ℕ → Program
-program_of s source = record { rope = with_words no_words (image_of s); symbols = s.symbols; source = source }
-
--- what a layout comes to: its least word fault, else its program
+-- what the layout of a source comes to: its least word fault, else its program
 abbrev pub completed : Layout → List ℕ → Result Program Fault
-completed s source = unless_fault (least (word_faults s.symbols s.requests)) (Ok (program_of s source))
+completed s source =
+    unless_fault (least (word_faults s.symbols s.requests)) (Ok (record { rope = with_words no_words (image_of s); symbols = s.symbols; source = source }))
 
 -- the least layout fault of a source, else what its layout comes to
 unfoldable pub program : List ℕ → Result Program Fault

@@ -1,12 +1,11 @@
 -- The words that lines ask for, once all symbols are known, and the faults of the kind word.
-use Rattle.std.specs.Prelude.{ℕ, ◌+◌, ◌*◌, ◌%◌, ◌&&◌, not, Bool, nat_lt, nat_le, List, [], ◌∷◌, Option, Result, Ok, Err, ok_or, if◌then◌else◌}
+use Rattle.std.specs.Prelude.{ℕ, ◌+◌, ◌*◌, ◌%◌, not, Bool, nat_lt, nat_le, List, [], ◌∷◌, flat_map, Option, None, Result, Ok, Err, ok_or, if◌then◌else◌}
 use Rattle.std.specs.Result.{result_err}
-use Rattle.std.specs.List.{flat_map}
 use Rattle.space.specs.Places.{window, fb_of, sup_of}
 use Rattle.space.specs.declared.place.Linear.TheVariants as linear
-use Rattle.yayul.specs.Operators.{field_size, bits_under, needs_extend, is_barred}
+use Rattle.yayul.specs.Operators.{field_size, bits_under}
 use Rattle.yayul.specs.Layout.{Request, fault_if, standing, on_line, and_then, value_of, location_at, erasable_place}
-use Rattle.yayul.specs.Language.{Address, Addressed, AddressedCode, Channel, Constant, Content, Erasable, ErasablePlace, Extracode, FarAddress, Fault, FaultKind, Fixed, FixedAddress, FixedPlace, Location, NeedsExtend, No, NotExtracode, Num, OutOfRange, Pair, Plain, Takes, Undefined, Value, WrongKindOfAddress}
+use Rattle.yayul.specs.Language.{Address, Addressed, AddressedCode, Channel, Constant, Content, Either, Erasable, ErasablePlace, Extracode, FarAddress, Fault, FaultKind, Fixed, FixedAddress, FixedPlace, Location, NeedsExtend, No, NotExtracode, Num, OutOfRange, Pair, Plain, Takes, Undefined, Value, WrongKindOfAddress, Yes}
 
 -- the address of a value: a number below 010000 is its own, and a place has its window
 abbrev pub address_of : Value → Result ℕ FaultKind
@@ -80,15 +79,16 @@ extracode_of (Plain i) = i.extracode
 extracode_of (Addressed i operand) = i.extracode
 extracode_of _ = No
 
--- the conditions on a request that comes to words or a fault
-abbrev pub request_conditions : Request → Result (List ℕ) FaultKind → List (Option FaultKind)
-request_conditions r words =
-    result_err words ∷ fault_if (needs_extend (extracode_of r.content) && not r.extracode) NeedsExtend
-    ∷ fault_if (is_barred (extracode_of r.content) && r.extracode) NotExtracode ∷ []
+-- an extracode has to be in force, and must not be where a word is none
+abbrev pub extracode_fault : Extracode → Bool → Option FaultKind
+extracode_fault No extracode = fault_if extracode NotExtracode
+extracode_fault Yes extracode = fault_if (not extracode) NeedsExtend
+extracode_fault Either extracode = None
 
 -- the word faults of a request
 unfoldable pub request_faults : List (List ℕ × Value) → Request → List FaultKind
-request_faults table r = standing (request_conditions r (request_words table r))
+request_faults table r =
+    standing (result_err (request_words table r) ∷ extracode_fault (extracode_of r.content) r.extracode ∷ [])
 
 -- the word faults of some requests
 abbrev pub word_faults : List (List ℕ × Value) → List Request → List Fault

@@ -1,10 +1,10 @@
 //! The passes over a source.
 
-ghost use Rattle.std.specs.Prelude.{◌≡◌, ◌≢◌, ◌++◌, [], map, OnOk};
+ghost use Rattle.std.specs.Prelude.{◌≡◌, ◌≢◌, ◌∷◌, ◌++◌, [], map, OnOk};
 ghost use Rattle.std.specs.Result.{result_err, result_map_both};
 ghost use Rattle.agc_text.specs.Lines.{lines};
 ghost use Rattle.yayul.specs.Layout.{start, standing};
-ghost use Rattle.yayul.specs.Words.{request_conditions};
+ghost use Rattle.yayul.specs.Words.{extracode_of, extracode_fault};
 ghost use Rattle.yayul.specs.Program.{program, completed, no_memory, GivesProgram};
 ghost use Rattle.yayul.specs.Inside.Answers.{layout_of, least_kind, LaysOut, GivesWords, PlacesWords, TellsOn};
 ghost use Rattle.yayul.specs.Inside.Representation.{request_of, words_in, shown_by_mark, lines_show};
@@ -126,13 +126,11 @@ fn request_words(symbols: &Symbols, request: &WordRequest) -> Result<LineWords, 
 
 // The least fault of a request that comes to words or a fault.
 fn request_fault(request: &WordRequest, words: &Result<LineWords, FaultKind>) -> Option<FaultKind>
-    ensures { result ≡ least_kind (standing (request_conditions (request_of request.now) (result_map_both words_in (λ kind. kind) words.now))) }
+    ensures { result ≡ least_kind (standing (result_err (result_map_both words_in (λ kind. kind) words.now) ∷ extracode_fault (extracode_of request.now.content) request.now.extracode ∷ [])) }
 {
-    let extracode = request.content.extracode();
     least_fault(&[
         fault_in(words),
-        FaultKind::NeedsExtend.when(extracode.needs_extend() && !request.extracode),
-        FaultKind::NotExtracode.when(extracode.is_barred() && request.extracode),
+        request.content.extracode().fault(request.extracode),
     ])
 }
 

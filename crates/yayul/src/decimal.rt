@@ -4,7 +4,7 @@ ghost use Rattle.std.specs.Prelude.{◌≡◌, ◌==◌, ◌≤◌, ◌<◌, ◌
 ghost use Rattle.std.specs.List.{position_or_len};
 ghost use Rattle.std.specs.Option.{option_map};
 ghost use Rattle.agc_text.specs.Digits.{sized};
-ghost use Rattle.yayul.specs.Forms.{point, at_most, greatest_magnitude, scaled, before_point, whole_in, fraction_in, magnitude_in, complemented, decimal_in};
+ghost use Rattle.yayul.specs.Forms.{at_most, greatest_magnitude, scaled, before_point, whole_in, fraction_in, magnitude_in, complemented, decimal_in};
 
 use crate::language::Numeral;
 use agc_text::{Number, decimal, decimal_value};
@@ -62,7 +62,7 @@ fn before_point(text: &[u8]) -> &[u8]
 
 // How many bytes stand before the first point.
 fn point_place(text: &[u8]) -> usize
-    ensures { result ≡ position_or_len (λ byte. byte == point) text.now }
+    ensures { result ≡ position_or_len (λ byte. byte == 0o56) text.now }
 {
     for (i, byte) in text.iter().enumerate() {
         if *byte == b'.' {

@@ -3,7 +3,7 @@
 ghost use Rattle.std.specs.Prelude.{◌≡◌, ◌<◌, ◌≤◌, ◌+◌, ◌∷◌, [], false, ◌++◌, ◌&&◌, not, IfOk, IfErr, OnOk, Some};
 ghost use Rattle.std.specs.List.{list_all};
 ghost use Rattle.std.specs.Result.{result_err};
-ghost use Rattle.yayul.specs.Layout.{fault_number, fault_if, standing, start, word_place, width, lacks_room, is_missing, is_twice, is_taken_at, is_taken, defined, asked, label_faults, label_alone, refused, bare_faults, bank, bank_end, bank_target, relocated, setloc, and_then, location_at, erasable_place, early_value, valued, equals, ebank, erase, gives, statement_effect, text_faults};
+ghost use Rattle.yayul.specs.Layout.{fault_number, fault_if, standing, start, word_place, width, lacks_room, is_missing, is_twice, is_taken_at, is_taken, defined, asked, label_faults, label_alone, refused, bare_faults, bank_end, bank_target, relocated, and_then, location_at, erasable_place, early_value, valued, ebank, erase, gives, statement_effect, text_faults};
 ghost use Rattle.yayul.specs.declared.faults.FaultKind.TheVariants.{BankFull};
 ghost use Rattle.yayul.specs.Inside.Answers.{layout_of, least_kind, LeadsTo, LineLeadsTo};
 ghost use Rattle.yayul.specs.Inside.Representation.{request_of};
@@ -126,7 +126,7 @@ impl Layout {
 
     // SETLOC: the location becomes that of the operand.
     fn setloc(&mut self, label: &Label, operand: Option<Operand>) -> Result<(), FaultKind>
-        ensures { LeadsTo (setloc (layout_of self.old) label.now operand) (layout_of self.new) result }
+        ensures { LeadsTo (relocated (layout_of self.old) label.now (and_then location_at (early_value (layout_of self.old) operand))) (layout_of self.new) result }
     {
         let target = self.target_of(&operand);
         self.relocate(label, target)
@@ -134,7 +134,7 @@ impl Layout {
 
     // BANK and BLOCK: the location stands past the words of a bank.
     fn bank(&mut self, label: &Label, range: BankRange, number: Numeral) -> Result<(), FaultKind>
-        ensures { LeadsTo (bank (layout_of self.old) label.now range number) (layout_of self.new) result }
+        ensures { LeadsTo (relocated (layout_of self.old) label.now (bank_target (layout_of self.old) range number)) (layout_of self.new) result }
     {
         let target = self.bank_target(range, number);
         self.relocate(label, target)
@@ -210,7 +210,7 @@ impl Layout {
 
     // EQUALS and =: the label has the value of the operand.
     fn equals(&mut self, label: &Label, operand: Option<Operand>) -> Result<(), FaultKind>
-        ensures { LeadsTo (equals (layout_of self.old) label.now operand) (layout_of self.new) result }
+        ensures { LeadsTo (valued (layout_of self.old) label.now (early_value (layout_of self.old) operand)) (layout_of self.new) result }
     {
         let value = self.value_of(&operand);
         match (self.equals_fault(label, &value), value) {

@@ -6,7 +6,7 @@ ghost use Rattle.agc_text.specs.Lines.{lines};
 ghost use Rattle.arrayvec.specs.ArrayVec.{array_vec_len};
 ghost use Rattle.space.specs.declared.place.Linear.TheVariants as linear;
 ghost use Rattle.words.specs.Devices.{Writes, failures_after};
-ghost use Rattle.yayul.specs.Listing.{blanks, bank_text, place_text, number_column, word_columns, columns, gap, row_front, further_row, line_rows, value_text, symbol_row, symbols_head, symbol_rows};
+ghost use Rattle.yayul.specs.Listing.{blanks, bank_text, place_text, number_column, word_columns, columns, row_front, further_row, line_rows, value_text, symbol_row, symbols_head};
 ghost use Rattle.yayul.specs.Inside.Representation.{shown_by_mark, rows_of};
 
 use crate::mark::Mark;
@@ -226,7 +226,7 @@ fn push_blanks<const N: usize>(line: &mut ArrayVec<u8, N>, count: usize)
 
 /// Writes how many symbols there are, and a row for each.
 pub(crate) fn write_symbols<W: Write>(symbols: &Symbols, writer: &mut W) -> Result<(), WriteFailed>
-    ensures written { W.told ≡ true → Writes (W.written writer.old) (W.written writer.new) (symbol_rows symbols.now) result }
+    ensures written { W.told ≡ true → Writes (W.written writer.old) (W.written writer.new) (symbols_head symbols.now ++ flat_map symbol_row symbols.now) result }
     ensures failures { W.failures writer.new ≡ failures_after (W.failures writer.old) result }
 {
     match write_all(writer, symbols_head(symbols).as_slice()) {

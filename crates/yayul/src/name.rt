@@ -2,7 +2,7 @@
 
 ghost use Rattle.std.specs.Prelude.{◌≡◌, ◌==◌, ◌≤◌, length, if◌then◌else◌, Some, None};
 ghost use Rattle.std.specs.List.{list_any};
-ghost use Rattle.yayul.specs.Forms.{is_name, dollar_sign};
+ghost use Rattle.yayul.specs.Forms.{is_name};
 
 use crate::number::{begins_with_sign, is_digits};
 use crate::symbol_table::key_of;
@@ -60,7 +60,7 @@ fn is_name(text: &[u8]) -> bool
 }
 
 fn holds_dollar_sign(text: &[u8]) -> bool
-    ensures { result ≡ list_any (λ byte. byte == dollar_sign) text.now }
+    ensures { result ≡ list_any (λ byte. byte == 0o44) text.now }
 {
     text.iter().any(|byte| *byte == b'$')
 }

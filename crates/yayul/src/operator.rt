@@ -3,32 +3,23 @@
 ghost use Rattle.std.specs.Prelude.{◌≡◌, ◌≤◌, true, IfSome};
 ghost use Rattle.std.specs.Option.{SomeIff};
 ghost use Rattle.agc_text.specs.Tables.{named, value_in};
-ghost use Rattle.yayul.specs.Operators.{operators, is_bank, field_size, bits_under, needs_extend, is_barred};
+ghost use Rattle.yayul.specs.Operators.{operators, is_bank, field_size, bits_under};
+ghost use Rattle.yayul.specs.Words.{extracode_fault};
 ghost use Rattle.yayul.specs.Inside.Codes.{has_room};
 
 use crate::bank::FixedBank;
+use crate::faults::FaultKind;
 use crate::language::{AddressedCode, BankRange, Bits, Extracode, Operator, PlainCode, Takes};
 
 impl Extracode {
-    /// Whether extracode has to be in force.
-    pub(crate) fn needs_extend(self) -> bool
-        ensures { result ≡ needs_extend self }
+    /// The fault of a word where extracode is in force or is not.
+    pub(crate) fn fault(self, in_force: bool) -> Option<FaultKind>
+        ensures { result ≡ extracode_fault self in_force }
     {
         match self {
-            Extracode::No => false,
-            Extracode::Yes => true,
-            Extracode::Either => false,
-        }
-    }
-
-    /// Whether extracode must not be in force.
-    pub(crate) fn is_barred(self) -> bool
-        ensures { result ≡ is_barred self }
-    {
-        match self {
-            Extracode::No => true,
-            Extracode::Yes => false,
-            Extracode::Either => false,
+            Extracode::No => FaultKind::NotExtracode.when(in_force),
+            Extracode::Yes => FaultKind::NeedsExtend.when(!in_force),
+            Extracode::Either => None,
         }
     }
 }

@@ -1,8 +1,9 @@
-use Rattle.std.proofs.Common.{◌≡◌, ◌∙◌, ap, map}
+use Rattle.std.proofs.Common.{◌≡◌, ◌++◌, ◌∙◌, ap, map}
+use Rattle.std.specs.Prelude.{flat_map}
 use Rattle.agc_text.specs.Lines.{lines}
 use Rattle.words.proofs.Texts.{Writes-after, beginning-longer}
 use Rattle.yayul.specs.Layout.{start}
-use Rattle.yayul.specs.Listing.{listing, rows, symbol_rows}
+use Rattle.yayul.specs.Listing.{listing, rows, symbol_row, symbols_head}
 use Rattle.yayul.specs.Inside.Representation.{shown_by_mark, rows_of}
 use Rattle.yayul.proofs.Fronts.{rows-shown}
 use Rattle.yayul.proofs.assembled.Program.list.Goals as goal
@@ -19,4 +20,4 @@ unfolding listing
 returns-in-Err-clause-written g c = λ told.
     let shown : rows_of 1 c.self.inside.rope (lines c.self.inside.source.items) (map shown_by_mark c.self.inside.marks) ≡ rows 1 start c.self.inside.rope (lines c.self.inside.source.items) =
     ap (rows_of 1 c.self.inside.rope (lines c.self.inside.source.items)) c.self.invariant ∙ rows-shown 1 start c.self.inside.rope (lines c.self.inside.source.items) in
-    rw (← c.self.view_is) (beginning-longer _ _ _ (symbol_rows c.self.inside.symbols) (rw (c.deref.ensures.value, c.as_slice.ensures, shown) at (c.in-Err.ensures.written told)))
+    rw (← c.self.view_is) (beginning-longer _ _ _ (symbols_head c.self.inside.symbols ++ flat_map symbol_row c.self.inside.symbols) (rw (c.deref.ensures.value, c.as_slice.ensures, shown) at (c.in-Err.ensures.written told)))
