@@ -9,7 +9,7 @@ use Rattle.std.specs.Option.{option_map_or}
 use Rattle.std.specs.Result.{result_unwrap_or}
 use Rattle.rope.specs.Places.{bank_words}
 use Rattle.yayul.specs.Forms.{statement_of}
-use Rattle.yayul.specs.Layout.{Request, and_then, value_here, early_value, defined, asked, placed_here, fault_if, standing, on_line, Layout, width, lacks_room, after_words, stands_at, is_taken, is_malformed, is_twice, is_erasable, word_place, gives, statement_effect, text_faults, line_effect, line_faults, layout_after, layout_faults}
+use Rattle.yayul.specs.Layout.{Request, and_then, value_here, early_value, defined, asked, asked_here, fault_if, standing, on_line, Layout, width, lacks_room, after_words, stands_at, is_taken, is_malformed, is_twice, is_erasable, word_place, gives, statement_effect, text_faults, line_effect, line_faults, layout_after, layout_faults}
 use Rattle.yayul.specs.Inside.Answers.{least_kind, LeadsTo}
 use Rattle.yayul.specs.Inside.Sound.{AreFrom, AreRising, AreApart, meets}
 use Rattle.yayul.specs.declared.faults.Fault.{Fault}
@@ -123,7 +123,7 @@ gives_next : (line : ℕ) (s : Layout) (label : Label) (content : Content) → (
 gives_next line s label content e = by_label label (free_place line s label content e)
   where
     by_label : (l : Label) → (lacks_room (width content) s.location ≡ false) × (is_taken s (width content) ≡ false)
-        → IsNext line s.requests (placed_here line (defined s l (value_here s.location)) content).requests
+        → IsNext line s.requests (asked_here line (defined s l (value_here s.location)) content).requests
     by_label Missing free = asked_next line s content (word_place s.location) refl free.0 free.1
     by_label Malformed free = asked_next line s content (word_place s.location) refl free.0 free.1
     by_label (Named name) free = asked_next line (defined s (Named name) (value_here s.location)) content (word_place s.location) refl free.0 free.1

@@ -1,38 +1,71 @@
-use Rattle.std.proofs.Common.{◌≡◌, List, [], ◌∷◌, length, nat_lt, Option, None, Some, refl, ap, ◌∙◌}
+-- What a line taken apart says is what its pieces say.
+use Rattle.std.proofs.Common.{◌≡◌, List, [], ◌∷◌, length, nat_lt, Bool, true, Option, None, Some, ℕ, refl, ap, ◌∙◌, arith}
+use Rattle.std.specs.Prelude.{if◌then◌else◌}
+use Rattle.std.proofs.lemmas.Bool.Decides.{nat_tests}
 use Rattle.std.proofs.lemmas.Option.{same_Some}
 use Rattle.std.specs.List.{slice_get}
 use Rattle.std.specs.Option.{option_map, option_map_or}
-use Rattle.agc_text.specs.Fields.{Piece}
+use Rattle.agc_text.specs.Fields.{Piece, texts}
 use Rattle.agc_text.specs.Views.{piece}
 use Rattle.agc_text.specs.declared.fields.Field.{Field}
 use Rattle.agc_text.specs.declared.fields.Line.{Line}
 use Rattle.yayul.specs.Operators.{operators}
-use Rattle.yayul.specs.Forms.{Arguments, arguments_in, operation_in, operation_of}
-use Rattle.yayul.specs.Inside.Representation.{text_of, arguments_of, operation_by}
+use Rattle.yayul.specs.Forms.{operation_in, operation_of}
+use Rattle.yayul.specs.Inside.Representation.{text_of, followed_by, arguments_of, operation_by}
+use Rattle.yayul.specs.Language.{Operator, Nothing}
 use Rattle.agc_text.specs.Tables.{value_in}
-use Rattle.yayul.specs.declared.language.Operation.TheVariants.{Nothing}
 
 -- the text of a field is that of its piece
 pub text_of_piece : (field : Option Field) (p : Option Piece) → option_map piece field ≡ p → text_of field ≡ option_map (λ q. q.text) p
 text_of_piece None p same = ap (option_map (λ (q : Piece). q.text)) same
 text_of_piece (Some f) p same = ap (option_map (λ (q : Piece). q.text)) same
 
+-- the fields after an offset, which may be told by one
+abbrev further : Bool → List (List ℕ)
+further more = if more then [] ∷ [] else []
+
+-- the fields after the operator, where some fields stand
+abbrev arguments_in : List Piece → List (List ℕ)
+arguments_in pieces =
+    followed_by (option_map (λ q. q.text) (slice_get pieces 1)) (followed_by (option_map (λ q. q.text) (slice_get pieces 2)) (further (nat_lt 3 (length pieces))))
+
+-- what fields after an offset are makes no difference
+many : (operator : Option Operator) (a b c d : List ℕ) (more others : List (List ℕ)) → operation_of operator (a ∷ b ∷ c ∷ more) ≡ operation_of operator (a ∷ b ∷ d ∷ others)
+many None a b c d more others = refl
+many (Some Operator.Setloc) a b c d more others = refl
+many (Some (Operator.Bank taken)) a b c d more others = refl
+many (Some Operator.Erase) a b c d more others = refl
+many (Some Operator.Equals) a b c d more others = refl
+many (Some Operator.Ebank) a b c d more others = refl
+many (Some Operator.Octal) a b c d more others = refl
+many (Some Operator.Decimal) a b c d more others = refl
+many (Some Operator.FarAddress) a b c d more others = refl
+many (Some (Operator.Plain code)) a b c d more others = refl
+many (Some (Operator.Addressed code)) a b c d more others = refl
+many (Some (Operator.ToNext code)) a b c d more others = refl
+
+-- an operator says with fields what it says with the pieces after it
+with_arguments : (operator : Option Operator) (p : Piece) (rest : List Piece) → operation_of operator (arguments_in (p ∷ rest)) ≡ operation_of operator (texts rest)
+with_arguments operator p [] = refl
+with_arguments operator p (q ∷ []) = refl
+with_arguments operator p (q ∷ r ∷ []) = refl
+with_arguments operator p (q ∷ r ∷ t ∷ more) =
+    let many_stand : nat_lt 3 (length (p ∷ q ∷ r ∷ t ∷ more)) ≡ true = grind (arith, nat_tests) in
+    ap (λ b. operation_of operator (q.text ∷ r.text ∷ further b)) many_stand ∙ many operator q.text r.text [] t.text [] (texts more)
+
 -- what the first piece says with the arguments
-by_first : (operator : Option Field) (a : Arguments) (pieces : List Piece) → option_map piece operator ≡ slice_get pieces 0 → a ≡ arguments_in pieces → option_map_or (λ f. operation_of (value_in operators f.text.now) a) operator Nothing ≡ operation_in pieces
+by_first : (operator : Option Field) (a : List (List ℕ)) (pieces : List Piece) → option_map piece operator ≡ slice_get pieces 0 → a ≡ arguments_in pieces → option_map_or (λ f. operation_of (value_in operators f.text.now) a) operator Nothing ≡ operation_in pieces
 by_first None a [] first same = refl
 by_first None a (p ∷ ps) first same = cc
 by_first (Some f) a [] first same = cc
 by_first (Some f) a (p ∷ ps) first same =
     ap (λ text. operation_of (value_in operators text) a) (ap (λ (q : Piece). q.text) (same_Some (piece f) p first))
-    ∙ ap (operation_of (value_in operators p.text)) same
+    ∙ ap (operation_of (value_in operators p.text)) same ∙ with_arguments (value_in operators p.text) p ps
 
 -- what a line taken apart says is what its pieces say
 pub operation_by-pieces : (l : Line) (pieces : List Piece) → option_map piece l.operator ≡ slice_get pieces 0 → option_map piece l.operand ≡ slice_get pieces 1 → option_map piece l.offset ≡ slice_get pieces 2 → l.more ≡ nat_lt 3 (length pieces)
     → operation_by l ≡ operation_in pieces
 operation_by-pieces l pieces operator operand offset more =
-    let a : arguments_of l ≡ arguments_in pieces = λ j. record {
-      operand = text_of_piece l.operand (slice_get pieces 1) operand j;
-      offset = text_of_piece l.offset (slice_get pieces 2) offset j;
-      more = more j;
-    } in
+    let a : arguments_of l ≡ arguments_in pieces =
+    λ j. followed_by (text_of_piece l.operand (slice_get pieces 1) operand j) (followed_by (text_of_piece l.offset (slice_get pieces 2) offset j) (further (more j))) in
     by_first l.operator (arguments_of l) pieces operator a

@@ -1,10 +1,10 @@
 -- From the fields of a line to what it says: names, numbers, decimal constants, operands, statements, whatever stands before the line.
-use Rattle.std.specs.Prelude.{ℕ, ◌+◌, ◌-◌, ◌*◌, ◌/◌, ◌^◌, ◌==◌, ◌&&◌, ◌||◌, not, Bool, false, nat_lt, nat_le, List, [], ◌∷◌, length, take, drop, slice_get, Option, None, Some, is_some, is_none, option_map, option_and_then, if◌then◌else◌}
+use Rattle.std.specs.Prelude.{ℕ, ◌+◌, ◌-◌, ◌*◌, ◌/◌, ◌^◌, ◌==◌, ◌&&◌, ◌||◌, not, Bool, false, nat_le, List, [], ◌∷◌, length, take, drop, slice_get, Option, None, Some, is_some, option_map, option_and_then, if◌then◌else◌}
 use Rattle.std.specs.List.{list_any, before_first}
 use Rattle.std.specs.Option.{option_map_or}
 use Rattle.words.specs.Numbers.{neg}
 use Rattle.agc_text.specs.Digits.{digits_value, number_of}
-use Rattle.agc_text.specs.Fields.{Piece, fields, label_of, others_of}
+use Rattle.agc_text.specs.Fields.{Piece, texts, fields, label_of, others_of}
 use Rattle.agc_text.specs.Tables.{value_in}
 use Rattle.yayul.specs.Operators.{operators}
 use Rattle.yayul.specs.Language.{Addressed, Bank, Constant, Ebank, Equals, Erase, FarAddress, Gives, Is, Label, Malformed, Minus, Missing, Named, NoForm, Nothing, Numeral, Operand, Operation, Operator, Plain, Plus, Setloc, Shift, Statement, Term, TooLarge, Unknown}
@@ -110,30 +110,27 @@ term_in text = if is_name text then Some (Term.Named text) else with_form Term.N
 abbrev pub moved_by : Term → Shift → Operand
 moved_by term shift = record { term = term; shift = shift }
 
--- an operand: a signed number alone, from the location; or a term, with an offset or none
-abbrev pub operand_of : List ℕ → Option (List ℕ) → Option Operand
-operand_of text None =
+-- an operand of one field or two: a signed number alone, from the location; or a term, with an offset or none
+abbrev pub operand_in : List (List ℕ) → Option Operand
+operand_in (text ∷ []) =
     if first_is is_sign text then option_map (moved_by Term.Here) (shift_in text)
     else option_map (λ term. moved_by term (Plus (Some 0))) (term_in text)
-operand_of text (Some offset) = option_and_then (λ term. option_map (moved_by term) (shift_in offset)) (term_in text)
+operand_in (text ∷ offset ∷ []) = option_and_then (λ term. option_map (moved_by term) (shift_in offset)) (term_in text)
+operand_in _ = None
 
 -- the location after the line's
 abbrev pub next_location : Operand
 next_location = moved_by Term.Here (Plus (Some 1))
 
--- the fields after an operator, and whether a fourth field stands
-pub record Arguments : Type 0 where
-  pub operand : Option (List ℕ)
-  pub offset : Option (List ℕ)
-  pub more : Bool
+-- what one field is as a number
+abbrev pub alone : (List ℕ → Numeral) → List (List ℕ) → Numeral
+alone read (text ∷ []) = read text
+alone read _ = NoForm
 
--- an operand that has its form, with no further field
-abbrev pub operand_in : Arguments → Option Operand
-operand_in a = if a.more then None else option_and_then (λ text. operand_of text a.offset) a.operand
-
--- what an operand is as a number, where no further field stands
-abbrev pub alone : (List ℕ → Numeral) → Arguments → Numeral
-alone read a = if is_none a.offset then option_map_or read a.operand NoForm else NoForm
+-- what no field may follow
+abbrev pub unfollowed : {A : Type 0} → A → List (List ℕ) → Option A
+unfollowed content [] = Some content
+unfollowed content _ = None
 
 -- octal digits
 abbrev pub octal_in : List ℕ → Numeral
@@ -144,41 +141,34 @@ abbrev pub count_in : List ℕ → Numeral
 count_in text = if first_is (λ byte. byte == 0o53) text then number_in (drop 1 text) else NoForm
 
 -- how many words ERASE passes besides one: nothing, or a plus sign and a number alone
-abbrev pub erased_in : Arguments → Numeral
-erased_in a = if is_none a.offset then option_map_or count_in a.operand (Is 0) else NoForm
+abbrev pub erased_in : List (List ℕ) → Numeral
+erased_in [] = Is 0
+erased_in (text ∷ rest) = alone count_in (text ∷ rest)
 
 -- what an operator says with the fields after it
-abbrev pub operation_of : Option Operator → Arguments → Operation
-operation_of None a = Unknown
-operation_of (Some Operator.Setloc) a = Setloc (operand_in a)
-operation_of (Some (Operator.Bank taken)) a = Bank taken (alone number_in a)
-operation_of (Some Operator.Erase) a = Erase (erased_in a)
-operation_of (Some Operator.Equals) a = Equals (operand_in a)
-operation_of (Some Operator.Ebank) a = Ebank (operand_in a)
-operation_of (Some Operator.Octal) a = Gives (with_form Constant (alone octal_in a))
-operation_of (Some Operator.Decimal) a = Gives (with_form Constant (alone decimal_in a))
-operation_of (Some Operator.FarAddress) a = Gives (option_map FarAddress (operand_in a))
-operation_of (Some (Operator.Plain code)) a = Gives (if is_none a.operand then Some (Plain code) else None)
-operation_of (Some (Operator.Addressed code)) a = Gives (option_map (Addressed code) (operand_in a))
-operation_of (Some (Operator.ToNext code)) a = Gives (if is_none a.operand then Some (Addressed code next_location) else None)
+abbrev pub operation_of : Option Operator → List (List ℕ) → Operation
+operation_of None rest = Unknown
+operation_of (Some Operator.Setloc) rest = Setloc (operand_in rest)
+operation_of (Some (Operator.Bank taken)) rest = Bank taken (alone number_in rest)
+operation_of (Some Operator.Erase) rest = Erase (erased_in rest)
+operation_of (Some Operator.Equals) rest = Equals (operand_in rest)
+operation_of (Some Operator.Ebank) rest = Ebank (operand_in rest)
+operation_of (Some Operator.Octal) rest = Gives (with_form Constant (alone octal_in rest))
+operation_of (Some Operator.Decimal) rest = Gives (with_form Constant (alone decimal_in rest))
+operation_of (Some Operator.FarAddress) rest = Gives (option_map FarAddress (operand_in rest))
+operation_of (Some (Operator.Plain code)) rest = Gives (unfollowed (Plain code) rest)
+operation_of (Some (Operator.Addressed code)) rest = Gives (option_map (Addressed code) (operand_in rest))
+operation_of (Some (Operator.ToNext code)) rest = Gives (unfollowed (Addressed code next_location) rest)
 
 -- a label, where its field has a name's form
 abbrev pub label_in : Option (List ℕ) → Label
 label_in None = Missing
 label_in (Some text) = if is_name text then Named text else Malformed
 
--- the fields after the operator
-abbrev pub arguments_in : List Piece → Arguments
-arguments_in others = record {
-  operand = option_map (λ piece. piece.text) (slice_get others 1);
-  offset = option_map (λ piece. piece.text) (slice_get others 2);
-  more = nat_lt 3 (length others);
-}
-
 -- what the fields besides the label say
 abbrev pub operation_in : List Piece → Operation
 operation_in [] = Nothing
-operation_in (operator ∷ rest) = operation_of (value_in operators operator.text) (arguments_in (operator ∷ rest))
+operation_in (operator ∷ rest) = operation_of (value_in operators operator.text) (texts rest)
 
 -- what a line says
 unfoldable pub statement_of : List ℕ → Statement

@@ -262,8 +262,8 @@ asked s r =
     record s { requests = s.requests ++ r ∷ []; location = after_words (width r.content) s.location; extracode = extends r.content s.extracode }
 
 -- the words of a content from the location on, where they may stand
-abbrev pub placed_here : ℕ → Layout → Content → Layout
-placed_here line s content =
+abbrev pub asked_here : ℕ → Layout → Content → Layout
+asked_here line s content =
     option_map_or (λ p. asked s (record { line = line; bank = p.0; offset = p.1; content = content; extracode = s.extracode; eb = s.eb })) (word_place s.location) s
 
 -- a line that gives words
@@ -271,7 +271,7 @@ abbrev pub gives : ℕ → Layout → Label → Content → LineEffect
 gives line s label content = record {
   faults = standing (label_faults s label ++ fault_if (lacks_room (width content) s.location) BankFull
       ∷ fault_if (is_taken s (width content)) PlaceTaken ∷ fault_if (is_erasable s.location) CodeInErasable ∷ []);
-  after = placed_here line (defined s label (value_here s.location)) content;
+  after = asked_here line (defined s label (value_here s.location)) content;
 }
 
 -- what a statement does on a line

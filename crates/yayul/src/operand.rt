@@ -1,9 +1,9 @@
 //! The operands of a source.
 
-ghost use Rattle.std.specs.Prelude.{◌≡◌};
+ghost use Rattle.std.specs.Prelude.{◌≡◌, ◌∷◌, option_to_list};
 ghost use Rattle.std.specs.Option.{option_map};
 ghost use Rattle.std.specs.Borrow.{Bor};
-ghost use Rattle.yayul.specs.Forms.{shift_in, term_in, operand_of};
+ghost use Rattle.yayul.specs.Forms.{shift_in, term_in, operand_in};
 
 use crate::language::{Numeral, Operand, Shift, Term};
 use crate::name::Name;
@@ -13,7 +13,7 @@ use words::Word;
 // An operand and an offset, where they have the form of one: a signed number alone, or a term, with
 // an offset or none.
 pub(crate) fn operand_of(text: &[u8], offset: Option<&[u8]>) -> Option<Operand>
-    ensures { result ≡ operand_of text.now (option_map (λ field. field.now) offset.entry) }
+    ensures { result ≡ operand_in (text.now ∷ option_to_list (option_map (λ field. field.now) offset.entry)) }
 {
     let (term, shift) = match offset {
         Some(offset) => (term_in(text)?, shift_in(offset)?),

@@ -159,11 +159,12 @@ fn next_location() -> Operand
 fn operand_in(line: &Line<'_>) -> Option<Operand>
     ensures { result ≡ operand_in (arguments_of line.now) }
 {
-    if line.more {
-        return None;
-    }
     let operand = line.operand?;
-    operand_of(operand.text, line.offset.map(|field| field.text))
+    match line.offset {
+        None => operand_of(operand.text, None),
+        Some(_) if line.more => None,
+        Some(offset) => operand_of(operand.text, Some(offset.text)),
+    }
 }
 
 // A constant, where it has a number's form.
@@ -192,9 +193,9 @@ fn erased_in(line: &Line<'_>) -> Numeral
     ensures { result ≡ erased_in (arguments_of line.now) }
 {
     match (line.operand, line.offset) {
+        (None, _) => Numeral::Is(Word::ZERO),
         (Some(operand), None) => count_in(operand.text),
-        (None, None) => Numeral::Is(Word::ZERO),
-        _ => Numeral::NoForm,
+        (Some(_), Some(_)) => Numeral::NoForm,
     }
 }
 

@@ -1,5 +1,5 @@
 -- How the definitions see what the code holds.
-use Rattle.std.specs.Prelude.{ℕ, ◌+◌, List, [], ◌∷◌, ◌++◌, Option, None, Some, refl}
+use Rattle.std.specs.Prelude.{ℕ, ◌+◌, List, [], ◌∷◌, ◌++◌, Option, None, Some, if◌then◌else◌, refl}
 use Rattle.std.specs.Coded.{Coded, code_by, coded×, coded_ℕ, coded_list}
 use Rattle.std.specs.FinMap as map
 use Rattle.std.specs.Option.{option_map, option_map_or}
@@ -8,7 +8,7 @@ use Rattle.agc_text.specs.declared.fields.Field.{Field}
 use Rattle.agc_text.specs.declared.fields.Line.{Line}
 use Rattle.rope.specs.Places.{Words}
 use Rattle.space.specs.declared.place.Linear.TheVariants as linear
-use Rattle.yayul.specs.Forms.{Arguments, operation_of}
+use Rattle.yayul.specs.Forms.{operation_of}
 use Rattle.yayul.specs.Layout.{Request, Layout, line_effect}
 use Rattle.yayul.specs.Listing.{Shown, nothing, line_rows, shown}
 use Rattle.yayul.specs.Forms.{statement_of}
@@ -31,9 +31,14 @@ use Rattle.yayul.specs.declared.word.LineWords.TheVariants.{One, Two}
 abbrev pub text_of : Option Field → Option (List ℕ)
 text_of field = option_map (λ f. f.text.now) field
 
--- the fields after the operator
-abbrev pub arguments_of : Line → Arguments
-arguments_of l = record { operand = text_of l.operand; offset = text_of l.offset; more = l.more }
+-- a field, where it stands, and those after it
+abbrev pub followed_by : Option (List ℕ) → List (List ℕ) → List (List ℕ)
+followed_by None rest = []
+followed_by (Some text) rest = text ∷ rest
+
+-- the fields after the operator, with an empty one for all that follow the offset
+abbrev pub arguments_of : Line → List (List ℕ)
+arguments_of l = followed_by (text_of l.operand) (followed_by (text_of l.offset) (if l.more then [] ∷ [] else []))
 
 -- what the fields besides the label say
 abbrev pub operation_by : Line → Operation
