@@ -4,6 +4,7 @@ mod Names
 mod Rows
 mod ListingRows
 mod Least
+mod LeastOfSet
 mod Late
 mod Lines
 mod Tables
