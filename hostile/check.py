@@ -3,39 +3,43 @@
 
 usage: hostile/check.py [--cases N] [--seed TEXT] [PART ..]     a PART is memory, devices, sizes or bytes; with none all are tried
 
-memory   each single request for memory is refused once (refuse.c, loaded before the program), for asm, run, debug and upgrade: the answer is E2 and nothing else
-         than a beginning of the output; a refused `add` is told and changes nothing; once a session is open its commands ask for none
-devices  full devices, closed pipes, folders, files that aren't there, standard input that is closed
-sizes    one byte, line or input too many
-bytes    N sources, feeds, command files and images (generator.py; 20,000 of each if not said): each call ends in time and in little memory, with a refusal that exists
+memory   each single request for memory is refused, by itself and with all after it (refuse.c, loaded before the program), for each command, help and refusals: the answer is
+         E2 and nothing else than a beginning of the output; a refused `add` is told and changes nothing; once a session is open its commands ask for none
+devices  full devices, closed pipes, folders, files that aren't there or may not be read, devices without an end, closed standard streams, no file or memory to be had
+sizes    one byte, line or input too many, or a byte too few
+bytes    N sources, feeds, command files and images (cases.py; 20,000 of each if not said), each in a process of its own: it ends in time and in little memory, with a refusal
+         that exists. What hostile/long_run tries in one process gives the same answers; and in one process N more of each are tried with a failure besides
 
 The last line is 'N passed, M failed'. The built program is crates/agcws/out/agcws, or what AGCWS names."""
 import argparse
+import collections
 import os
 import re
+import resource
 import shutil
 import signal
 import subprocess
 import sys
 import tempfile
 import time
+import zlib
 from concurrent.futures import ProcessPoolExecutor
 
 sys.dont_write_bytecode = True
 HERE = os.path.dirname(os.path.abspath(__file__))
 ROOT = os.path.dirname(HERE)
 sys.path[:0] = [HERE, f"{ROOT}/gate"]
-import generator
+import cases
+import in_process
+from cases import ADDED, COMMANDS, EMPTY, FIVE, IMAGE_BYTES, PROGRAM, REFUSALS, read, write
 from tally import end, told
 
-PROGRAM = os.environ.get("AGCWS", f"{ROOT}/crates/agcws/out/agcws")
-EXAMPLES = f"{ROOT}/examples"
-FIVE, EMPTY = f"{EXAMPLES}/five_plus_five.agc", f"{EXAMPLES}/empty.feed"
 # The most seconds that a call may take, and the most memory in bytes: so much, and so much for each byte that is read. (The system counts what the process that starts
 # the call has itself, some 33 MiB.)
 MOST_SECONDS = 10
 MOST_MEMORY, MEMORY_PER_BYTE = 64 << 20, 64
-REFUSALS = {"source": range(10, 27), "feed": (30, 31, 32, 33, 35), "image": (3, 4, 5)}
+# So many cases of each kind are answered alike in one process and each in its own.
+ALIKE = 600
 
 
 def agcws(*words, commands=b"", **more):
@@ -44,61 +48,17 @@ def agcws(*words, commands=b"", **more):
     return ran.returncode, ran.stdout, ran.stderr
 
 
-def write(path, content):
-    with open(path, "wb") as file:
-        file.write(content)
-    return path
-
-
-def read(path):
-    with open(path, "rb") as file:
-        return file.read()
-
-
 # Memory
 
 SOURCE = "".join([" SETLOC 4000\n", "START CA FIVE\n AD FIVE\n EXTEND\n WRITE 10\n TCF START\nFIVE OCT 5\n", *(f"L{number} OCT {number % 8}\n" for number in range(193))]).encode()
 FEED = "".join(["EVERY 0 2560 3 4 TIME3 PINC\n", "EVERY 5 7 1 100 TIME1 PINC\n", *(f"{10 * number} TIME2 PINC\n" for number in range(48))]).encode()
-ADDED = b"add 5000 TIME1 PINC"
-COMMANDS = b"""run 100
-break at FIVE
-break word 25 3
-break chan 10 12
-seek
-back 5
-%s
-goto 40
-regs
-mem 24
-chan 10
-last 25
-sym START
-changed 10
-tail
-step 3
-%s
-run 50
-clear
-run 900
-mem 25
-goto 0
-regs
-goto 60
-last 24
-back 1
-tail
-changed 0
-seek
-quit
-""" % (ADDED, ADDED.replace(b"5000", b"6000"))
 
 
 class Refusing:
     """The program under a library that refuses memory."""
 
     def __init__(self, room):
-        self.library, self.mark = f"{room}/refuse.so", f"{room}/refused"
-        subprocess.run(["cc", "-O1", "-shared", "-fPIC", "-o", self.library, f"{HERE}/refuse.c"], check=True)
+        self.library, self.mark = cases.build(room, "refuse"), f"{room}/refused"
 
     def run(self, words, commands=b"", **settings):
         """What the program answers, and whether it was refused anything."""
@@ -109,121 +69,232 @@ class Refusing:
         return answer, os.path.exists(self.mark)
 
 
-def sessions(source, feed):
-    """The transcripts that a session may have: with all inputs added, and with each of them refused for memory."""
-    lines, found = COMMANDS.split(b"\n"), [agcws("debug", source, feed, commands=COMMANDS)[1]]
-    for place, line in enumerate(lines):
-        if line.startswith(b"add"):
-            before = agcws("debug", source, feed, commands=b"\n".join(lines[:place]) + b"\n")[1]
-            whole = agcws("debug", source, feed, commands=b"\n".join(lines[:place] + lines[place + 1 :]))[1]
-            found.append(before + b"E2 MEMORY\n" + whole[len(before) :])
+def transcripts(words):
+    """The transcripts that a session may have where at least one of its inputs is refused for memory: the replies without it, and E2 in its place."""
+    lines = COMMANDS.split(b"\n")
+    added, found = [place for place, line in enumerate(lines) if line.startswith(b"add")], []
+    for refused in ([added[0]], [added[1]], added):
+        kept = [line for place, line in enumerate(lines) if place not in refused]
+        whole = agcws(*words, commands=b"\n".join(kept))[1]
+        for place in reversed(refused):
+            before = b"".join(line + b"\n" for at, line in enumerate(lines[:place]) if at not in refused)
+            length = len(agcws(*words, commands=before)[1])
+            whole = whole[:length] + b"E2 MEMORY\n" + whole[length:]
+        found.append(whole)
     return found
 
 
 def memory(room):
     refusing = Refusing(room)
-    source, feed, rope, old = write(f"{room}/source", SOURCE), write(f"{room}/feed", FEED), f"{room}/rope", f"{room}/old"
-    agcws("asm", source, old, "--rope", "1")
+    source, feed, made, old, new, other = write(f"{room}/source", SOURCE), write(f"{room}/feed", FEED), f"{room}/made", f"{room}/old", f"{room}/new", f"{room}/other"
+    for words in (("asm", source, old, "--rope", "1"), ("asm", source, new), ("asm", FIVE, other)):
+        agcws(*words)
+    sessions_of = {"debug": ("debug", source, feed), "debug --image": ("debug", "--image", new, feed)}
     calls = {
-        "asm": (("asm", source, rope), b""),
-        "run": (("run", source, feed, "300"), b""),
-        "debug": (("debug", source, feed), COMMANDS),
-        "upgrade": (("upgrade", old, rope), b""),
+        "asm": ("asm", source, made),
+        "run": ("run", source, feed, "300"),
+        "run --end": ("run", "--end", source, feed, "300"),
+        "run --image": ("run", "--image", "--rope", "1", "--end", old, feed, "300"),
+        **sessions_of,
+        "upgrade": ("upgrade", old, made),
+        "words": ("words", new),
+        "words of a bank": ("words", "--rope", "1", old, "02"),
+        "compare": ("compare", "--old", "1", old, other),
+        "compare of equal images": ("compare", "--old", "1", old, new),
+        "sums": ("sums", new),
+        "a refused source": ("run", feed, feed, "300"),
+        "a refused image": ("words", source),
+        "--help": ("--help",),
+        "run --help": ("run", "--help"),
+        "--version": ("--version",),
+        "no command": (),
+        "no file": ("run", source, feed),
+        "a wrong number": ("run", source, feed, "-1"),
     }
-    for name, (words, commands) in calls.items():
-        if os.path.exists(rope):
-            os.remove(rope)
-        right = sessions(source, feed) if name == "debug" else [agcws(*words)[1]]
-        image = read(rope) if os.path.exists(rope) else b""
+    for name, words in calls.items():
+        refuse_each(refusing, name, words, COMMANDS if name in sessions_of else b"", made)
+    for name, words in sessions_of.items():
+        none_in_a_session(room, name, words)
+
+
+def refuse_each(refusing, name, words, commands, path):
+    """Refuses each request of a call, once and then with all after it: it answers E2 and has written a beginning of its output, and of the file of a path, if it makes that."""
+
+    def tried(call):
+        if os.path.exists(path):
+            os.remove(path)
+        answer = call()
+        return answer, read(path) if os.path.exists(path) else b""
+
+    right, image = tried(lambda: agcws(*words, commands=commands))
+    refused_sessions = transcripts(words) if commands else []
+    for setting, title in (("REFUSE_AT", "each of {} requests refused once"), ("REFUSE_FROM", "all requests refused from each of {} on")):
         at, wrong, again, is_met = 0, [], 0, True
         while is_met and at < 100_000:
             at += 1
-            if os.path.exists(rope):
-                os.remove(rope)
-            (status, out, err), is_met = refusing.run(words, commands, REFUSE_AT=at)
-            made = read(rope) if os.path.exists(rope) else b""
-            is_e2 = (status, err) == (3, b"agcws: E2\n") and right[0].startswith(out) and image.startswith(made)
-            is_told = name == "debug" and (status, err) == (0, b"") and out in right[1:]
+            ((status, out, err), is_met), made = tried(lambda: refusing.run(words, commands, **{setting: at}))
+            is_e2 = (status, err) == (3, b"agcws: E2\n") and right[1].startswith(out) and image.startswith(made)
+            is_told = (status, err) == (0, b"") and out in refused_sessions
             # (a vector that is refused room for more than it needs asks again, for what it needs)
-            is_whole = (status, err) == (0, b"") and out == right[0] and made == image
+            is_whole = (status, out, err) == right and made == image
             again += is_whole and is_met
             if not (is_e2 or is_told or is_whole):
                 wrong.append((at, status, out[-80:], err[-200:]))
-        told(f"memory: {name}, each of {at - 1} requests refused", not wrong and not is_met and again <= 2, f"{len(wrong)} wrong, the first: {wrong[:3]}; {again} asked again")
-        print(f"memory: {name}: {at - 1} requests, each refused once; {again} of them were made again for less", flush=True)
-    none_in_a_session(room, source, feed)
+        most = 2 if setting == "REFUSE_AT" else 0
+        told(f"memory: {name}, {title.format(at - 1)}", not wrong and not is_met and again <= most, f"{len(wrong)} wrong, the first: {wrong[:3]}; {again} asked again")
+        print(f"memory: {name}: {title.format(at - 1)}" + (f"; {again} made again for less" if again else ""), flush=True)
 
 
-def none_in_a_session(room, source, feed):
+def none_in_a_session(room, name, words):
     """Once a session is open its commands ask for no memory: the same script with each request refused from the first reply on."""
     opened, script = f"{room}/opened", b"regs\nrun 20000\n" + COMMANDS.replace(ADDED, b"regs").replace(b"add 6000 TIME1 PINC", b"regs").replace(b"quit\n", b"run 100000\ngoto 7\nlast 25\ngoto 90000\nback 70000\nregs\n")
-    right = agcws("debug", source, feed, commands=script)[1]
+    right = agcws(*words, commands=script)[1]
     refused = f"{room}/refused"
     env = {**os.environ, "LD_PRELOAD": f"{room}/refuse.so", "REFUSE_AFTER": opened, "REFUSE_FROM": "1", "REFUSE_TELLS": refused}
     for file in (opened, refused):
         if os.path.exists(file):
             os.remove(file)
-    with subprocess.Popen([PROGRAM, "debug", source, feed], stdin=subprocess.PIPE, stdout=subprocess.PIPE, stderr=subprocess.PIPE, env=env, bufsize=0) as ran:
+    with subprocess.Popen([PROGRAM, *words], stdin=subprocess.PIPE, stdout=subprocess.PIPE, stderr=subprocess.PIPE, env=env, bufsize=0) as ran:
         ran.stdin.write(b"regs\n")
         first = ran.stdout.readline()
         write(opened, b"")
         out, err = ran.communicate(script.removeprefix(b"regs\n"), timeout=600)
-    told("memory: an open session asks for none", (ran.returncode, first + out, err) == (0, right, b"") and not os.path.exists(refused), f"{ran.returncode} {err[-200:]} refused: {os.path.exists(refused)}")
+    told(f"memory: an open session of {name} asks for none", (ran.returncode, first + out, err) == (0, right, b"") and not os.path.exists(refused), f"{ran.returncode} {err[-200:]} refused: {os.path.exists(refused)}")
 
 
 # Devices
 
 
+E6, E7 = b"agcws: E6\n", b"agcws: E7\n"
+
+
+def name_of(words):
+    """A call, with the names of its files alone."""
+    return " ".join(os.path.basename(it) for it in words)
+
+
 def devices(room):
-    rope, folder = f"{room}/made", f"{room}/folder"
+    made, folder, none = f"{room}/made", f"{room}/folder", f"{room}/none"
     os.mkdir(folder)
-    image = write(f"{room}/image", bytes(generator.IMAGE_BYTES))
-    e6, e7 = b"agcws: E6\n", b"agcws: E7\n"
-    with open("/dev/full", "wb") as full:
-        for words in (("run", FIVE, EMPTY, "100"), ("asm", FIVE, rope), ("debug", FIVE, EMPTY)):
-            ran = subprocess.run([PROGRAM, *words], input=b"run 100\n", stdout=full, stderr=subprocess.PIPE, timeout=60)
-            told(f"devices: {words[0]} on a full device", (ran.returncode, ran.stderr) == (3, e7), f"{ran.returncode} {ran.stderr!r}")
-    for words in (("asm", FIVE, "/dev/full"), ("upgrade", image, "/dev/full"), ("asm", FIVE, folder), ("upgrade", image, folder), ("asm", FIVE, f"{folder}/none/rope")):
+    image, other = write(f"{room}/image", bytes(IMAGE_BYTES)), f"{room}/other"
+    agcws("asm", "--rope", "1", FIVE, other)
+    # Calls that write some output, the last two a session's.
+    writing = [("run", FIVE, EMPTY, "100"), ("run", "--end", FIVE, EMPTY, "100"), ("run", "--image", "--rope=1", other, EMPTY, "100"), ("asm", FIVE, made), ("words", "--rope=1", image)]
+    writing += [("compare", "--old=1", "--new=1", image, other), ("sums", "--rope=1", image), ("--help",), ("words", "--help"), ("--version",)]
+    writing += [("debug", FIVE, EMPTY), ("debug", "--image", "--rope=1", other, EMPTY)]
+    outputs_that_fail(writing)
+    for words in (("asm", FIVE, "/dev/full"), ("upgrade", image, "/dev/full"), ("asm", FIVE, folder), ("upgrade", image, folder), ("asm", FIVE, f"{folder}/none/rope"), ("upgrade", image, f"{folder}/none/rope")):
         status, out, err = agcws(*words)
-        told(f"devices: {words[0]} to {os.path.basename(words[2])}", (status, err) == (3, e7), f"{status} {out[-80:]!r} {err!r}")
-    none = f"{room}/none"
-    for words in (("run", none, EMPTY, "1"), ("run", FIVE, none, "1"), ("run", folder, EMPTY, "1"), ("run", FIVE, folder, "1"), ("asm", none, rope), ("debug", FIVE, none), ("debug", folder, EMPTY), ("upgrade", none, rope), ("upgrade", folder, rope)):
+        told(f"devices: {name_of(words)}", (status, err) == (3, E7), f"{status} {out[-80:]!r} {err!r}")
+    if os.path.exists(made):
+        os.remove(made)
+    for bad in (none, folder):
+        reading = [("run", bad, EMPTY, "1"), ("run", FIVE, bad, "1"), ("asm", bad, made), ("debug", bad, EMPTY), ("debug", FIVE, bad), ("upgrade", bad, made), ("words", bad), ("words", bad, "02"), ("sums", bad)]
+        reading += [("compare", bad, image), ("compare", "--old=1", image, bad), ("run", "--image", bad, EMPTY, "1"), ("run", "--image", "--rope=1", image, bad, "1")]
+        reading += [("debug", "--image", bad, EMPTY), ("debug", "--image", "--rope=1", image, bad)]
+        for words in reading:
+            answer = agcws(*words)
+            told(f"devices: {name_of(words)}", answer == (3, b"", E6), f"{answer}")
+    told("devices: a file that cannot be read leaves no image", not os.path.exists(made))
+    inputs_that_fail(folder, writing[-2:])
+    endless_inputs(made)
+    few_of_the_system(writing)
+    without_rights(room, image)
+
+
+def outputs_that_fail(writing):
+    """A full device, a pipe that is closed, and outputs that are closed from the beginning. The session comes last in each."""
+    with open("/dev/full", "wb") as full:
+        for words in writing:
+            ran = subprocess.run([PROGRAM, *words], input=b"run 100\n", stdout=full, stderr=subprocess.PIPE, timeout=60)
+            told(f"devices: {name_of(words)}, on a full device", (ran.returncode, ran.stderr) == (3, E7), f"{ran.returncode} {ran.stderr!r}")
+            ran = subprocess.run([PROGRAM, *words], input=b"run 100\n", stdout=subprocess.DEVNULL, stderr=subprocess.PIPE, timeout=60, preexec_fn=lambda: os.close(1))
+            told(f"devices: {name_of(words)}, with its output closed", (ran.returncode, ran.stderr) == (3, E7), f"{ran.returncode} {ran.stderr!r}")
+        for words in (("run", "--end", FIVE, EMPTY, "9"), ("run", FIVE, FIVE, "9"), ("words", FIVE), ("run",), ("debug", FIVE, FIVE)):
+            right = agcws(*words)
+            for label, settings in (("full", {"stderr": full}), ("closed", {"preexec_fn": lambda: os.close(2)})):
+                ran = subprocess.run([PROGRAM, *words], stdin=subprocess.DEVNULL, stdout=subprocess.PIPE, timeout=60, **settings)
+                told(f"devices: {name_of(words)}, with its error output {label}", (ran.returncode, ran.stdout) == (3, right[1]), f"{ran}")
+    for words in writing:
+        reader, writer = os.pipe()
+        os.close(reader)
+        ran = subprocess.run([PROGRAM, *words], input=b"run 100\n", stdout=writer, stderr=subprocess.PIPE, timeout=60)
+        os.close(writer)
+        told(f"devices: {name_of(words)}, into a closed pipe", (ran.returncode, ran.stderr) == (3, E7), f"{ran.returncode} {ran.stderr!r}")
+
+
+def inputs_that_fail(folder, sessions):
+    """Standard input that is closed ends a session at once, as an empty one does; a folder cannot be read."""
+    for words in sessions:
+        answer = subprocess.run([PROGRAM, *words], stdin=None, stdout=subprocess.PIPE, stderr=subprocess.PIPE, timeout=60, preexec_fn=lambda: os.close(0))
+        told(f"devices: {name_of(words)}, with its input closed", (answer.returncode, answer.stdout, answer.stderr) in ((0, b"", b""), (3, b"", E6)), f"{answer}")
+        ran = subprocess.run([PROGRAM, *words], stdin=os.open(folder, os.O_RDONLY), stdout=subprocess.PIPE, stderr=subprocess.PIPE, timeout=60)
+        told(f"devices: {name_of(words)}, with a folder as its input", (ran.returncode, ran.stdout, ran.stderr) == (3, b"", E6), f"{ran}")
+    for words in (("run", "--end", FIVE, EMPTY, "100"), ("run", FIVE, FIVE, "100"), ("--help",)):
+        answer = subprocess.run([PROGRAM, *words], stdin=None, stdout=subprocess.PIPE, stderr=subprocess.PIPE, timeout=60, preexec_fn=lambda: os.close(0))
+        told(f"devices: {name_of(words)}, with its input closed", (answer.returncode, answer.stdout, answer.stderr) == agcws(*words), f"{answer}")
+
+
+def endless_inputs(made):
+    """A device without an end is read as far as the greatest input goes, and one byte more."""
+    zeros = "/dev/zero"
+    for words, error in (
+        (("run", zeros, EMPTY, "1"), b"E34"),
+        (("run", FIVE, zeros, "1"), b"E34"),
+        (("asm", zeros, made), b"E34"),
+        (("debug", FIVE, zeros), b"E34"),
+        (("upgrade", zeros, made), b"E4"),
+        (("words", "--rope=1", zeros), b"E4"),
+        (("words", zeros), b"E5"),
+        (("sums", "--rope=1", zeros), b"E4"),
+        (("compare", "--old=1", zeros, zeros), b"E4"),
+        (("run", "--image", "--rope=1", zeros, EMPTY, "1"), b"E4"),
+        (("debug", "--image", zeros, EMPTY), b"E5"),
+    ):
         answer = agcws(*words)
-        told(f"devices: {' '.join(os.path.basename(it) for it in words)}", answer == (3, b"", e6), f"{answer}")
-    told("devices: a file that cannot be read leaves no rope", not os.path.exists(rope + "2"))
-    for words in (("run", FIVE, EMPTY, "100000"), ("debug", FIVE, EMPTY)):
-        ran = subprocess.Popen([PROGRAM, *words], stdin=subprocess.PIPE, stdout=subprocess.PIPE, stderr=subprocess.PIPE)
-        ran.stdout.close()
-        _, err = communicate(ran, b"run 100000\n")
-        told(f"devices: {words[0]} into a closed pipe", (ran.returncode, err) == (3, e7), f"{ran.returncode} {err!r}")
-    answer = subprocess.run([PROGRAM, "debug", FIVE, EMPTY], stdin=None, stdout=subprocess.PIPE, stderr=subprocess.PIPE, timeout=60, preexec_fn=lambda: os.close(0))
-    told("devices: standard input that is closed", (answer.returncode, answer.stdout, answer.stderr) in ((0, b"", b""), (3, b"", e6)), f"{answer}")
-    ran = subprocess.run([PROGRAM, "debug", FIVE, EMPTY], stdin=os.open(folder, os.O_RDONLY), stdout=subprocess.PIPE, stderr=subprocess.PIPE, timeout=60)
-    told("devices: a folder as standard input", (ran.returncode, ran.stdout, ran.stderr) == (3, b"", e6), f"{ran}")
-    without_rights(room, e6)
+        told(f"devices: {name_of(words)}, which has no end", answer == (1, b"", b"agcws: " + error + b"\n") and not os.path.exists(made), f"{answer}")
+    with open(zeros, "rb") as endless:
+        ran = subprocess.run([PROGRAM, "debug", FIVE, EMPTY], stdin=endless, capture_output=True, timeout=60)
+    told("devices: commands without an end", (ran.returncode, ran.stdout, ran.stderr) == (0, b"E51 LONG\n", b""), f"{ran.returncode} {ran.stdout[-200:]} {ran.stderr}")
 
 
-def without_rights(room, e6):
+def few_of_the_system(writing):
+    """No memory is to be had beyond what the program starts with; and no second file."""
+    for words in writing:
+        ran = limited(words, resource.RLIMIT_DATA, 1 << 17)
+        told(f"devices: {name_of(words)}, with little memory", ran == (3, b"", b"agcws: E2\n"), f"{ran}")
+        if len([it for it in words if "/" in it]) > 1:
+            ran = limited(words, resource.RLIMIT_NOFILE, 4)
+            told(f"devices: {name_of(words)}, with one file to be had", ran == (3, b"", E7 if words[0] == "asm" else E6), f"{ran}")
+
+
+def limited(words, limit, most):
+    ran = subprocess.run([PROGRAM, *words], stdin=subprocess.DEVNULL, capture_output=True, timeout=60, preexec_fn=lambda: resource.setrlimit(limit, (most, most)))
+    return ran.returncode, ran.stdout, ran.stderr
+
+
+def without_rights(room, image):
     """A file that nobody may read. The superuser may read all, so another user tries it then."""
-    locked, program, feed = write(f"{room}/locked", read(FIVE)), f"{room}/program", write(f"{room}/feed", b"")
+    locked, program, feed, made = write(f"{room}/locked", read(FIVE)), f"{room}/program", write(f"{room}/feed", b""), f"{room}/unmade"
     shutil.copy(PROGRAM, program)
-    for path, rights in ((locked, 0), (program, 0o755), (feed, 0o644), (room, 0o755)):
+    for path, rights in ((locked, 0), (program, 0o755), (feed, 0o644), (image, 0o644), (room, 0o755)):
         os.chmod(path, rights)
     who = {"user": 65534} if os.geteuid() == 0 else {}
-    ran = subprocess.run([program, "run", locked, feed, "1"], capture_output=True, **who)
-    told("devices: a file without rights", (ran.returncode, ran.stdout, ran.stderr) == (3, b"", e6), f"{ran}")
-
-
-def communicate(ran, commands):
-    """Hands a program its input and awaits its end; its output is closed."""
-    try:
-        ran.stdin.write(commands)
-        ran.stdin.close()
-    except BrokenPipeError:
-        pass
-    err = ran.stderr.read()
-    ran.wait(60)
-    return b"", err
+    for words, error in (
+        (("run", locked, feed, "1"), E6),
+        (("asm", locked, made), E6),
+        (("asm", feed, locked), E7),
+        (("debug", locked, feed), E6),
+        (("words", locked), E6),
+        (("sums", locked), E6),
+        (("compare", "--old=1", image, locked), E6),
+        (("run", "--image", "--rope=1", image, locked, "1"), E6),
+        (("debug", "--image", locked, feed), E6),
+        (("upgrade", locked, made), E6),
+        (("upgrade", image, locked), E7),
+    ):
+        ran = subprocess.run([program, *words], stdin=subprocess.DEVNULL, capture_output=True, **who)
+        told(f"devices: {name_of(words)}, without rights", (ran.returncode, ran.stdout, ran.stderr) == (3, b"", error), f"{ran}")
 
 
 # Sizes
@@ -231,8 +302,9 @@ def communicate(ran, commands):
 
 def sizes(room):
     most = 8_388_608
+    zeros = write(f"{room}/zeros", bytes(IMAGE_BYTES))
     large = write(f"{room}/large", b"#" * 100 + b"\n" * (most - 99))
-    for words in (("run", large, EMPTY, "1"), ("run", FIVE, large, "1"), ("asm", large, f"{room}/rope"), ("debug", FIVE, large)):
+    for words in (("run", large, EMPTY, "1"), ("run", FIVE, large, "1"), ("asm", large, f"{room}/rope"), ("debug", FIVE, large), ("run", "--image", "--rope=1", zeros, large, "1"), ("debug", "--image", "--rope=1", zeros, large)):
         answer = agcws(*words)
         told(f"sizes: {words[0]} of {most + 1} bytes", answer == (1, b"", b"agcws: E34\n"), f"{answer}")
     whole = write(f"{room}/whole", b" SETLOC 4000\n TCF 4000\n" + b"#\n" * 65_534)
@@ -248,6 +320,24 @@ def sizes(room):
     right = agcws("debug", FIVE, EMPTY, commands=b"x" * 81 + b"\nstep 1\n")
     told("sizes: commands of 16,777,216 bytes", agcws("debug", FIVE, EMPTY, commands=commands) == right)
     told("sizes: commands of more bytes", agcws("debug", FIVE, EMPTY, commands=commands + b"step 5\n") == right)
+    image_sizes(room, zeros)
+
+
+def image_sizes(room, zeros):
+    """An image of a byte less, and of a byte more."""
+    short, long = write(f"{room}/short", bytes(IMAGE_BYTES - 1)), write(f"{room}/long", bytes(IMAGE_BYTES + 1))
+    for image, error in ((short, b"E3"), (long, b"E4"), ("/dev/null", b"E3")):
+        for words in (
+            ("words", "--rope=1", image),
+            ("sums", "--rope=1", image),
+            ("compare", "--old=1", "--new=1", image, zeros),
+            ("compare", "--old=1", "--new=1", zeros, image),
+            ("run", "--image", "--rope=1", image, EMPTY, "1"),
+            ("debug", "--image", "--rope=1", image, EMPTY),
+            ("upgrade", image, f"{room}/made"),
+        ):
+            answer = agcws(*words)
+            told(f"sizes: {name_of(words)}", answer == (1, b"", b"agcws: " + error + b"\n"), f"{answer}")
 
 
 # Bytes
@@ -256,9 +346,10 @@ def sizes(room):
 class Worker:
     """Runs cases in a room of its own: what each call answers, its time, and its memory."""
 
-    def __init__(self):
+    def __init__(self, made, seed):
         self.room = tempfile.mkdtemp(prefix="hostile-", dir="/dev/shm" if os.path.isdir("/dev/shm") else None)
-        self.case, self.out, self.err, self.rope = (f"{self.room}/{name}" for name in ("case", "out", "err", "rope"))
+        self.maker, self.commands = cases.Maker(made, seed), made.commands
+        self.case, self.twin, self.made, self.out, self.err = (f"{self.room}/{name}" for name in ("case", "twin", "made", "out", "err"))
 
     def run(self, words, commands):
         """Its status, output and error output, the seconds that it took, and the most memory that it had, in bytes."""
@@ -272,38 +363,48 @@ class Worker:
         signal.alarm(0)
         return os.waitstatus_to_exitcode(status), read(self.out), read(self.err), time.monotonic() - started, used.ru_maxrss * 1024
 
-    def try_case(self, seed, kind, number, sound):
-        """Why a case is wrong, or nothing, with its time and memory beyond what is allowed for its bytes."""
-        content = generator.case(seed, kind, number, sound)
+    def call(self, kind, number):
+        """What a case is answered, as `run` tells it, and of how many bytes it is."""
+        content, words = self.maker.case(kind, number), cases.call_of(kind, number)
         write(self.case, content)
-        if os.path.exists(self.rope):
-            os.remove(self.rope)
-        asm = ("asm", self.case, self.rope)
-        words = {
-            "source": asm if number % 2 else ("run", self.case, EMPTY, "200"),
-            "feed": ("run", FIVE, self.case, "300"),
-            "commands": ("debug", FIVE, EMPTY),
-            "image": ("upgrade", self.case, self.rope),
-        }[kind]
-        status, out, err, seconds, most = self.run(words, self.case if kind == "commands" else "/dev/null")
-        return self.why(kind, words, status, out, err) or ("too much memory" if most > MOST_MEMORY + MEMORY_PER_BYTE * len(content) else ""), seconds, most
+        if "twin" in words:
+            write(self.twin, self.maker.twin(kind, number, content))
+        if os.path.exists(self.made):
+            os.remove(self.made)
+        paths = {"case": self.case, "twin": self.twin, "made": self.made}
+        return self.run([paths.get(it, it) for it in words], self.commands if "case" in words else self.case), len(content)
+
+    def try_case(self, kind, number):
+        """Why a case is wrong, or nothing, with its time and memory."""
+        (status, out, err, seconds, most), length = self.call(kind, number)
+        why = self.why(kind, cases.call_of(kind, number), status, out, err)
+        return why or ("too much memory" if most > MOST_MEMORY + MEMORY_PER_BYTE * length else ""), seconds, most
 
     def why(self, kind, words, status, out, err):
-        has_rope = os.path.exists(self.rope)
+        has_made = os.path.exists(self.made)
+        if status == 1 and words[0] == "compare" and not err:
+            return "" if re.search(rb"(^|\n)COUNT [1-9]\d*\n$", out) else "no difference is told"
         if status == 0:
-            is_made = not has_rope if words[0] in ("run", "debug") else has_rope and os.path.getsize(self.rope) == generator.IMAGE_BYTES
-            return "" if not err and is_made else f"done, with {err!r}"
+            is_made = has_made and os.path.getsize(self.made) == IMAGE_BYTES if "made" in words else not has_made
+            is_silent = re.fullmatch(rb"END STEPS \d+ CYCLES \d+ OUTPUTS \d+ Z [0-7]{4}\n", err) if "--end" in words else not err
+            return "" if is_silent and is_made else f"done, with {err!r}"
         number = re.fullmatch(rb"agcws: E(\d+)(?: LINE [1-9]\d*)?\n", err)
-        if status != 1 or not number or int(number[1]) not in REFUSALS.get(kind, ()):
+        if status != 1 or not number or int(number[1]) not in REFUSALS[kind]:
             return f"status {status}, {err!r}"
-        return "" if not out and not has_rope else "refused, with some output"
+        return "" if not out and not has_made else "refused, with some output"
+
+    def answer(self, kind, number):
+        """What `hostile/long_run` would tell of a case."""
+        (status, out, err, _, _), _ = self.call(kind, number)
+        made = os.path.getsize(self.made) if os.path.exists(self.made) else -1
+        return f"told {number} {status} {err.decode().splitlines()[0] if err else '-'} {len(out)} {zlib.crc32(out)} {made}"
 
 
-def some_cases(seed, kind, first, last, sound):
-    worker, wrong, slowest, largest = Worker(), [], 0.0, 0
+def some_cases(made, seed, kind, first, last):
+    worker, wrong, slowest, largest = Worker(made, seed), [], 0.0, 0
     try:
         for number in range(first, last):
-            why, seconds, most = worker.try_case(seed, kind, number, sound)
+            why, seconds, most = worker.try_case(kind, number)
             slowest, largest = max(slowest, seconds), max(largest, most)
             if why:
                 wrong.append((number, why))
@@ -312,24 +413,45 @@ def some_cases(seed, kind, first, last, sound):
     return wrong, slowest, largest
 
 
-def sound_texts(kind):
-    """What the repository has of a kind."""
-    ends = {"source": ".agc", "feed": ".feed"}
-    if kind == "commands":
-        return [COMMANDS]
-    return [read(f"{EXAMPLES}/{name}") for name in sorted(os.listdir(EXAMPLES)) if kind in ends and name.endswith(ends[kind])]
-
-
-def hostile_bytes(cases, seed):
-    for kind in generator.MAKERS:
-        sound, step, started = sound_texts(kind), max(1, min(250, cases // 8 + 1)), time.monotonic()
+def hostile_bytes(room, count, seed):
+    made = cases.Made(room)
+    for kind in cases.KINDS:
+        step, started = max(1, min(1000, count // 8 + 1)), time.monotonic()
         with ProcessPoolExecutor() as pool:
-            parts = [pool.submit(some_cases, seed, kind, first, min(first + step, cases), sound) for first in range(0, cases, step)]
+            parts = [pool.submit(some_cases, made, seed, kind, first, min(first + step, count)) for first in range(0, count, step)]
             results = [part.result() for part in parts]
         wrong = [it for part, _, _ in results for it in part]
         slowest, largest = max(it for _, it, _ in results), max(it for _, _, it in results)
-        told(f"bytes: {kind}, {len(wrong)} of {cases}", not wrong, f"seed {seed}, the first: {wrong[:5]}")
-        print(f"bytes: {cases} of {kind}: {time.monotonic() - started:.0f} s; the slowest call took {slowest:.2f} s, the largest {largest >> 10} KiB", flush=True)
+        told(f"bytes: {kind}, {len(wrong)} of {count}", not wrong, f"seed {seed}, the first: {wrong[:5]}")
+        print(f"bytes: {count} of {kind}: {time.monotonic() - started:.0f} s; the slowest call took {slowest:.2f} s, the largest {largest >> 10} KiB", flush=True)
+    alike(made, seed)
+    with_failures(made, count, seed)
+
+
+def with_failures(made, count, seed):
+    """As many further cases, in one process: each is tried by itself, and then with a request for memory refused, or a read or a write that fails."""
+    for kind in cases.KINDS:
+        runs = [run.try_all(FAILURES=1) for run in in_process.runs_of(made, seed, count, 2 * count, kind)]
+        wrong, tried = [it for run in runs for it in run.wrong], sum(run.count for run in runs)
+        told(f"bytes: {kind} with failures, {len(wrong)} of {count}", not wrong and tried == count, f"seed {seed}, {tried} were tried; the first: {wrong[:5]}")
+        failures = sum((run.failures for run in runs), collections.Counter())
+        print(f"bytes: {tried} of {kind} with a failure: " + ", ".join(f"{failures[it]} of {it}" for it in ("memory", "read", "write")), flush=True)
+
+
+def alike(made, seed):
+    """In one process, with the files and the memory of a library, the program answers as in a process of its own."""
+    worker = Worker(made, seed)
+    try:
+        for kind in cases.KINDS:
+            runs = in_process.runs_of(made, seed, 0, ALIKE, kind)
+            answers = sorted((line for run in runs for line in run.try_all(TELL=1).told), key=lambda it: int(it.split()[1]))
+            pairs = list(zip(answers, (worker.answer(kind, number) for number in range(ALIKE)), strict=True)) if len(answers) == ALIKE else []
+            other = [it for it in pairs if it[0] != it[1]]
+            told(f"bytes: {kind} in one process, as each in its own", len(pairs) == ALIKE and not other, f"{len(answers)} answers, of {len(other)} other ones the first: {other[:2]}")
+    finally:
+        shutil.rmtree(worker.room)
+    wrong = [it for run in in_process.runs_of(made, seed, 0, ALIKE, "source") for it in run.try_all(REFUSALS="10").wrong]
+    told("bytes: in one process a refusal that does not exist would be told", any("no such refusal" in it for it in wrong), f"{wrong[:3]}")
 
 
 def main():
@@ -338,7 +460,7 @@ def main():
     parser.add_argument("--seed", default="agcws")
     parser.add_argument("parts", nargs="*", choices=[[], "memory", "devices", "sizes", "bytes"], metavar="PART")
     given = parser.parse_args()
-    parts = {"memory": memory, "devices": devices, "sizes": sizes, "bytes": lambda room: hostile_bytes(given.cases, given.seed)}
+    parts = {"memory": memory, "devices": devices, "sizes": sizes, "bytes": lambda room: hostile_bytes(room, given.cases, given.seed)}
     for name, part in parts.items():
         if not given.parts or name in given.parts:
             with tempfile.TemporaryDirectory(prefix="hostile-") as room:

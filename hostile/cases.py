@@ -1,0 +1,140 @@
+"""What the program is tried on: cases of hostile bytes (generator.c), the calls that they are tried by, and the refusals that a text of each kind may meet."""
+import ctypes
+import os
+import subprocess
+
+HERE = os.path.dirname(os.path.abspath(__file__))
+ROOT = os.path.dirname(HERE)
+EXAMPLES = f"{ROOT}/examples"
+PROGRAM = os.environ.get("AGCWS", f"{ROOT}/crates/agcws/out/agcws")
+IMAGE_BYTES, MOST_BYTES = 73728, 1 << 18
+KINDS = ["source", "feed", "commands", "image"]
+REFUSALS = {"source": range(10, 27), "feed": (30, 31, 32, 33, 35), "commands": (), "image": (3, 4, 5)}
+FIVE, KEY_ECHO, LOST_SUM, SECONDS = (f"{EXAMPLES}/{name}.agc" for name in ("five_plus_five", "key_echo", "lost_sum", "seconds"))
+EMPTY, CLOCK, KEYS = (f"{EXAMPLES}/{name}.feed" for name in ("empty", "clock", "key_echo"))
+
+# The calls by which the cases of a kind are tried in turn: 'case' is the case, 'twin' an image that differs a little from it, 'made' a file that is not there yet.
+# Where neither stands, the case is standard input.
+CALLS = {
+    "source": [["asm", "case", "made"], ["run", "case", EMPTY, "200"], ["asm", "--rope=1", "case", "made"], ["run", "--end", "case", CLOCK, "300"], ["debug", "case", CLOCK]],
+    "feed": [["run", FIVE, "case", "300"], ["run", "--end", KEY_ECHO, "case", "600"], ["run", SECONDS, "case", "600"], ["debug", LOST_SUM, "case"]],
+    "commands": [["debug", FIVE, EMPTY], ["debug", KEY_ECHO, KEYS], ["debug", LOST_SUM, EMPTY]],
+    "image": [
+        ["words", "case"],
+        ["words", "case", "02"],
+        ["words", "--rope=1", "case", "43"],
+        ["sums", "case"],
+        ["sums", "--rope=1", "case"],
+        ["compare", "case", "twin"],
+        ["compare", "--old=1", "--new=1", "case", "twin"],
+        ["run", "--image", "case", EMPTY, "300"],
+        ["run", "--image", "--rope=1", "--end", "case", CLOCK, "300"],
+        ["debug", "--image", "case", EMPTY],
+        ["debug", "--image", "--rope=1", "case", CLOCK],
+        ["upgrade", "case", "made"],
+    ],
+}
+
+# A session of 30 commands, two of which add an input.
+ADDED = b"add 5000 TIME1 PINC"
+COMMANDS = b"""run 100
+break at FIVE
+break word 25 3
+break chan 10 12
+seek
+back 5
+%s
+goto 40
+regs
+mem 24
+chan 10
+last 25
+sym START
+changed 10
+tail
+step 3
+%s
+run 50
+clear
+run 900
+mem 25
+goto 0
+regs
+goto 60
+last 24
+back 1
+tail
+changed 0
+seek
+quit
+""" % (ADDED, ADDED.replace(b"5000", b"6000"))
+
+
+def call_of(kind, number):
+    """The call by which a case is tried."""
+    return CALLS[kind][number % len(CALLS[kind])]
+
+
+def read(path):
+    with open(path, "rb") as file:
+        return file.read()
+
+
+def write(path, content):
+    with open(path, "wb") as file:
+        file.write(content)
+    return path
+
+
+def with_ending(ending):
+    return [f"{EXAMPLES}/{name}" for name in sorted(os.listdir(EXAMPLES)) if name.endswith(ending)]
+
+
+class Made:
+    """What is made once: the libraries, and files of each kind that the program takes, from which cases are changed (those of the repository, and images made of them)."""
+
+    def __init__(self, room):
+        self.room = room
+        self.generator, self.in_process = build(room, "generator"), build(room, "in_process", "generator")
+        self.commands = write(f"{room}/commands", COMMANDS)
+        self.sound = {"source": with_ending(".agc"), "feed": with_ending(".feed"), "commands": [self.commands], "image": []}
+        for number, source in enumerate(with_ending(".agc")):
+            for version in "12":
+                image = f"{room}/image-{number}-{version}"
+                subprocess.run([PROGRAM, "asm", "--rope", version, source, image], check=True, stdout=subprocess.DEVNULL)
+                self.sound["image"].append(image)
+
+
+def build(room, name, *others):
+    """Builds a library of C."""
+    library = f"{room}/{name}.so"
+    subprocess.run(["cc", "-O2", "-shared", "-fPIC", "-o", library, *(f"{HERE}/{it}.c" for it in (name, *others))], check=True)
+    return library
+
+
+class Text(ctypes.Structure):
+    _fields_ = [("bytes", ctypes.c_char_p), ("length", ctypes.c_size_t)]
+
+
+class Maker:
+    """Makes cases, each from a seed, its kind and its number."""
+
+    def __init__(self, made, seed):
+        self.library, self.seed, self.room = ctypes.CDLL(made.generator), seed.encode(), ctypes.create_string_buffer(MOST_BYTES)
+        for function in (self.library.make_case, self.library.make_twin):
+            function.restype = ctypes.c_size_t
+        self.sound = {}
+        for kind, paths in made.sound.items():
+            texts = [read(path) for path in paths]
+            self.sound[kind] = (Text * len(texts))(*(Text(text, len(text)) for text in texts))
+
+    def case(self, kind, number):
+        sound = self.sound[kind]
+        length = self.library.make_case(self.seed, KINDS.index(kind), ctypes.c_uint64(number), sound, ctypes.c_size_t(len(sound)), self.room)
+        return ctypes.string_at(self.room, length)
+
+    def twin(self, kind, number, case):
+        """A case that is changed a little."""
+        ctypes.memmove(self.room, case, len(case))
+        length = self.library.make_twin(self.seed, KINDS.index(kind), ctypes.c_uint64(number), self.room, ctypes.c_size_t(len(case)))
+        return ctypes.string_at(self.room, length)
