@@ -1,4 +1,4 @@
-//! A reader that reads ahead, so that an image can be asked for two bytes at a time.
+//! A reader that reads ahead, so that an image can be looked at bank by bank.
 
 ghost use Rattle.std.specs.Prelude.{◌≡◌, ◌≤◌, IfOk, length};
 ghost use Rattle.words.specs.Devices.{failures_after};
@@ -83,18 +83,22 @@ impl<T: io::Read> Read for ReadAhead<T> {
 
     ghost failures = { λ r. r };
 
-    // Two bytes that stand ready cost no call.
-    #[inline(always)]
     fn read(&mut self, buf: &mut [u8]) -> io::Result<usize> {
-        if buf.len() == 2 && self.end - self.start >= 2 {
-            buf[0] = self.bytes[self.start];
-            buf[1] = self.bytes[self.start + 1];
-            self.start += 2;
-            return Ok(2);
-        }
         match self.read_some(buf) {
             Ok(count) => Ok(count),
             Err(kind) => Err(io::Error::from(kind)),
         }
+    }
+
+    fn ready(&self) -> &[u8] {
+        &self.bytes[self.start..self.end]
+    }
+
+    fn pass(&mut self, count: usize) -> bool {
+        if count > self.end - self.start {
+            return false;
+        }
+        self.start += count;
+        true
     }
 }

@@ -1,11 +1,12 @@
 -- Steps of reading an image.
-use Rattle.std.proofs.Common.{◌≡◌, ◌≢◌, ℕ, zero, suc, ◌*◌, ◌+◌, ◌-◌, ◌/◌, ◌%◌, ◌<◌, ◌≤◌, true, List, [], ◌∷◌, ◌++◌, length, drop, get_or, is_some, unwrap_or, ◌⊎◌, refl, sym, ◌∙◌, ap, inl, inr, arith, append_assoc, append-nil, length-append, Err}
+use Rattle.std.proofs.Common.{◌≡◌, ◌≢◌, ℕ, zero, suc, ◌*◌, ◌+◌, ◌-◌, ◌/◌, ◌%◌, ◌<◌, ◌≤◌, List, [], ◌∷◌, ◌++◌, length, drop, take, get_or, is_some, unwrap_or, ◌⊎◌, refl, sym, ◌∙◌, ap, inl, inr, arith, append_assoc, append-nil, length-append, Err}
 use Rattle.std.proofs.lemmas.Bool.{cases_lt, lt-ltb, le-ltb, cases_eq}
-use Rattle.std.proofs.lemmas.List.{get_or-append-add}
-use Rattle.std.proofs.Math.Seq.{drop-append-add}
-use Rattle.rope.specs.Places.{bank_words, banks, fixed_places, Words, stands, with_word}
+use Rattle.std.proofs.lemmas.List.{get_or-append-add, take-append-drop, drop-append-le}
+use Rattle.std.proofs.Math.Seq.{drop-append-add, drop-cons, drop-length}
+use Rattle.rope.specs.Places.{bank_words, banks, fixed_places, Words, with_word}
 use Rattle.rope.specs.Image.{spelled, bank_of_entry, word_of_position, image_front}
-use Rattle.rope.specs.Reading.{image_length, spells_word, AllSpellWords, IsFull, IsImage, IsShort, IsLong, HasWrongBytes, FailsAfter, EndsWithin, TakesWrongBytes, FailsWithin, TakesWord, ReadsImage}
+use Rattle.rope.specs.Reading.{image_length, spells_word, AllSpellWords, IsFull, IsImage, IsShort, IsLong, HasWrongBytes, FailsAfter, ReadsImage}
+use Rattle.rope.specs.Steps.{AllStand, GoesOn, FaultGoesOn, EndsWithin, TakesWrongBytes, FailsWithin, TakesWord}
 use Rattle.rope.specs.declared.spelling.Version.{Version}
 use Rattle.rope.specs.declared.spelling.Version.TheVariants.{One, Two}
 use Rattle.rope.specs.declared.fault.RopeFault.{RopeFault}
@@ -85,9 +86,6 @@ length-image_front version words (suc n) =
     rw e (ap length (image_front-more version words n) ∙ length-append (image_front version words n) (spelled version (word_of_position words n)) ∙ omega (arith, length-image_front version words n))
 
 -- the words at the positions before stand too
-abbrev pub AllStand : Words → ℕ → Type 0
-AllStand words n = (q : ℕ) → q < n → stands words (bank_of_entry (q / bank_words)) (q % bank_words) ≡ true
-
 pub all_stand-more : (words : Words) (p word : ℕ) → p < fixed_places → AllStand words p → AllStand (with_position words p word) (p + 1)
 all_stand-more words p word lt before q below =
     elim (cases_eq q p) [
@@ -204,3 +202,52 @@ fault_here Two old left new words p (LowBit at) lt front before takes = (takes.0
 fault_here One old left new words p (BadParity at) lt front before takes = (takes.0, absurd (other_version takes.0))
 fault_here Two old left new words p (BadParity at) lt front before takes = (refl, wrong_here Two old left new words p at lt front before takes.1)
 fault_here version old left new words p ReadFailed lt front before takes = fails_here version old left new words p lt front before takes
+
+-- the reading of faults in those terms
+pub fault_goes : (version : Version) (left new : List ℕ) (words : Words) (p : ℕ) (fault : RopeFault) → p < fixed_places → TakesWord version p left new (Err fault) → FaultGoesOn version left words p new fault
+fault_goes version left new words p fault lt takes old before = fault_here version old left new words p fault lt before.front before.spelled takes
+
+-- reading goes on by a word
+pub goes_word : (version : Version) (left new : List ℕ) (words : Words) (p word : ℕ) → p < fixed_places → left ≡ spelled version word ++ new → GoesOn version left words p new (with_position words p word) (p + 1)
+goes_word version left new words p word lt next old before = record {
+  front = front_more version old left new words p word lt before.front next;
+  spelled = spelled_more version old left new words p word before.front next before.spelled;
+}
+
+-- a word that is set at a position or after it takes nothing from what was read before
+pub goes_kept : (version : Version) (left : List ℕ) (words : Words) (p q word : ℕ) → p ≤ q → GoesOn version left words p left (with_position words q word) p
+goes_kept version left words p q word le old before = record {
+  front = rw (front_kept version words q word p le) before.front;
+  spelled = before.spelled;
+}
+
+-- nor from the words that stand
+pub all_stand-kept : (words : Words) (p q word : ℕ) → q < fixed_places → AllStand words p → AllStand (with_position words q word) p
+all_stand-kept words p q word lt before r below =
+    elim (cases_eq r q) [
+      | inl same ↦ rw same (ap is_some (slot_at-with_word_same words (bank_of_entry (q / bank_words)) (q % bank_words) word (bank_of_entry-below (q / bank_words) (omega arith)) (omega arith)))
+      | inr differ ↦
+          ap is_some (slot_at-with_word_other words (bank_of_entry (q / bank_words)) (q % bank_words) word (bank_of_entry (r / bank_words)) (r % bank_words) (omega arith) (other_place r q differ))
+          ∙ before r below
+    ]
+
+-- the next word of some bytes
+pub two_next : (version : Version) (bytes rest : List ℕ) (n word : ℕ) → 2 * n + 1 < length bytes → get_or bytes (2 * n) 0 ∷ get_or bytes (2 * n + 1) 0 ∷ [] ≡ spelled version word
+    → drop (2 * n) bytes ++ rest ≡ spelled version word ++ (drop (2 * (n + 1)) bytes ++ rest)
+two_next version bytes rest n word lt spells =
+    let second : suc (2 * n) ≡ 2 * n + 1 = omega arith in
+    let third : suc (2 * n + 1) ≡ 2 * (n + 1) = omega arith in
+    ap (λ t. t ++ rest) (rw second at (drop-cons bytes (2 * n) 0 (omega arith)))
+    ∙ ap (λ t. (get_or bytes (2 * n) 0 ∷ t) ++ rest) (rw third at (drop-cons bytes (2 * n + 1) 0 lt))
+    ∙ ap (λ t. t ++ (drop (2 * (n + 1)) bytes ++ rest)) spells
+
+-- after the last none is left
+pub none_next : (bytes rest : List ℕ) (n : ℕ) → length bytes ≡ 2 * n → drop (2 * n) bytes ++ rest ≡ rest
+none_next bytes rest n count =
+    let none : drop (2 * n) bytes ≡ [] = rw count at (drop-length bytes) in
+    ap (λ t. t ++ rest) none
+
+-- the first of the bytes that stand ready are the first that are left
+pub ready_first : (ready tail left : List ℕ) (n : ℕ) → n ≤ length ready → left ≡ ready ++ tail → take n ready ++ drop n left ≡ left
+ready_first ready tail left n le whole =
+    rw (whole, drop-append-le n ready tail le) (sym (append_assoc (take n ready) (drop n ready) tail) ∙ ap (λ t. t ++ tail) (take-append-drop n ready))

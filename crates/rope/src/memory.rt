@@ -20,7 +20,7 @@ pub(crate) const BANK_WORDS: usize = 0o2000;
 pub(crate) const ENTRIES: usize = 0o44;
 
 /// The places of the banks 0 to 043.
-const PLACES: usize = ENTRIES * BANK_WORDS;
+pub(crate) const PLACES: usize = ENTRIES * BANK_WORDS;
 
 /// Fixed memory, seen as the words that stand in it, each at its bank and offset.
 #[derive(Drop)]

@@ -1,14 +1,17 @@
 //! Ropes from their images.
 
-ghost use Rattle.std.specs.Prelude.{◌≡◌, ◌<◌, true, IfOk, IfErr, if◌then◌else◌};
+ghost use Rattle.std.specs.Prelude.{◌≡◌, ◌<◌, ◌≤◌, ◌+◌, ◌*◌, ◌%◌, ◌++◌, ◌∷◌, [], ℕ, List, length, true, IfOk, IfErr, if◌then◌else◌};
 ghost use Rattle.words.specs.Devices.{one_more, failures_after};
-ghost use Rattle.rope.specs.Places.{fixed_places};
-ghost use Rattle.rope.specs.Reading.{ReadsImage, IsFull, TakesByte, TakesPair, TakesWord, has_read_failed};
+ghost use Rattle.rope.specs.Places.{bank_words, fixed_places};
+ghost use Rattle.rope.specs.Image.{spelled};
+ghost use Rattle.rope.specs.Reading.{ReadsImage, IsFull, AllSpellWords, spells_word, has_read_failed};
+ghost use Rattle.rope.specs.Steps.{AllStand, GoesOn, FaultGoesOn, TakesByte, TakesPair, TakesWord};
+ghost use Rattle.rope.specs.declared.spelling.Version.{Version};
 ghost use Rattle.rope.specs.declared.fault.RopeFault.TheVariants.{ReadFailed};
 
 use crate::fault::RopeFault;
 use crate::image::{bank_at, offset_at};
-use crate::memory::{BANK_WORDS, ENTRIES, Rope};
+use crate::memory::{BANK_WORDS, PLACES, Rope};
 use crate::spelling::Version;
 use std::alloc::Global;
 use words::{Read, Word};
@@ -28,13 +31,11 @@ impl Rope {
             Ok(rope) => rope,
             Err(fault) => return Err(fault),
         };
-        for entry in 0..ENTRIES {
-            let bank = bank_at(BANK_WORDS * entry);
-            for offset in 0..BANK_WORDS {
-                match read_word(reader, BANK_WORDS * entry + offset, version) {
-                    Ok(word) => rope.set(bank, offset_at(offset), word),
-                    Err(fault) => return Err(fault),
-                }
+        let mut position = 0;
+        while position < PLACES {
+            match rope.read_on(reader, position, version) {
+                Ok(next) => position = next,
+                Err(fault) => return Err(fault),
             }
         }
         match next_byte(reader) {
@@ -43,11 +44,80 @@ impl Rope {
             Err(fault) => Err(fault),
         }
     }
+
+    // Reads on from a position: the words of its bank that stand ready, or else one word. Answers the position after them.
+    fn read_on<R: Read>(
+        &mut self,
+        reader: &mut R,
+        position: usize,
+        version: Version,
+    ) -> Result<usize, RopeFault>
+        requires { position < fixed_places }
+        ensures next { IfOk result (λ next. (position < next) × (next ≤ fixed_places)) }
+        ensures goes { R.told ≡ true → IfOk result (λ next. GoesOn version (R.left reader.old) self.old position (R.left reader.new) self.new next) }
+        ensures stand { IfOk result (λ next. AllStand self.old position → AllStand self.new next) }
+        ensures fault { R.told ≡ true → IfErr result (λ fault. FaultGoesOn version (R.left reader.old) self.old position (R.left reader.new) fault) }
+        ensures failures { R.failures reader.new ≡ (if has_read_failed result then one_more (R.failures reader.old) else R.failures reader.old) }
+    {
+        let count = self.take_ready(reader, position, version);
+        if count > 0 {
+            return Ok(position + count);
+        }
+        match read_word(reader, position, version) {
+            Ok(word) => {
+                self.set(bank_at(position), offset_at(position), word);
+                Ok(position + 1)
+            }
+            Err(fault) => Err(fault),
+        }
+    }
+
+    // Takes the words that stand ready at a position and after it in its bank, if all their bytes spell words, and answers
+    // how many.
+    fn take_ready<R: Read>(&mut self, reader: &mut R, position: usize, version: Version) -> usize
+        requires { position < fixed_places }
+        ensures within { position + result ≤ fixed_places }
+        ensures goes { R.told ≡ true → GoesOn version (R.left reader.old) self.old position (R.left reader.new) self.new (position + result) }
+        ensures stand { AllStand self.old position → AllStand self.new (position + result) }
+        ensures failures { R.failures reader.new ≡ R.failures reader.old }
+    {
+        let ready = reader.ready();
+        let count = (ready.len() / 2).min(BANK_WORDS - position % BANK_WORDS);
+        let bytes = &ready[..2 * count];
+        if !version.all_spell(bytes) {
+            return 0;
+        }
+        self.set_spelled(position, bytes, count);
+        if reader.pass(2 * count) { count } else { 0 }
+    }
+
+    // Sets the words that some bytes spell at a position and after it in its bank.
+    fn set_spelled(&mut self, position: usize, bytes: &[u8], count: usize)
+        requires place { position < fixed_places }
+        requires room { position % bank_words + count ≤ bank_words }
+        requires bytes { length bytes.now ≡ 2 * count }
+        ensures goes { (version : Version) (rest : List ℕ) → AllSpellWords version bytes.now (2 * count) → GoesOn version (bytes.now ++ rest) self.old position rest self.new (position + count) }
+        ensures kept { (version : Version) (rest : List ℕ) → GoesOn version rest self.old position rest self.new position }
+        ensures stand { AllStand self.old position → AllStand self.new (position + count) }
+    {
+        let bank = bank_at(position);
+        let first = position % BANK_WORDS;
+        for number in 0..count {
+            let word = half(bytes[2 * number], bytes[2 * number + 1]);
+            self.set(bank, offset_at(first + number), word);
+        }
+    }
 }
 
-// The word at a position of an image, from its two bytes. It is brought into the loop, so that a reader which has two bytes
-// at hand costs no call; a lone byte does.
-#[inline(always)]
+// The word of two bytes that spell one.
+#[tactic(auto, using(crate::proofs::Spellings::half_spelled))]
+fn half(high: u8, low: u8) -> Word
+    ensures { (version : Version) → spells_word version high low ≡ true → high ∷ low ∷ [] ≡ spelled version result }
+{
+    Word::of_low_bits(u16::from_be_bytes([high, low]) / 2)
+}
+
+// The word at a position of an image, from its two bytes.
 fn read_word<R: Read>(reader: &mut R, position: usize, version: Version) -> Result<Word, RopeFault>
     requires { position < fixed_places }
     ensures word { R.told ≡ true → TakesWord version position (R.left reader.old) (R.left reader.new) result }
@@ -64,7 +134,6 @@ fn read_word<R: Read>(reader: &mut R, position: usize, version: Version) -> Resu
 }
 
 // The next two bytes, where two are left.
-#[inline(always)]
 fn next_pair<R: Read>(reader: &mut R) -> Result<Option<[u8; 2]>, RopeFault>
     ensures pair { R.told ≡ true → TakesPair (R.left reader.old) (R.left reader.new) result }
     ensures fault { IfErr result (λ e. e ≡ ReadFailed) }
@@ -84,7 +153,6 @@ fn next_pair<R: Read>(reader: &mut R) -> Result<Option<[u8; 2]>, RopeFault>
 }
 
 // The next byte, where one is left.
-#[inline(never)]
 fn next_byte<R: Read>(reader: &mut R) -> Result<Option<u8>, RopeFault>
     ensures byte { R.told ≡ true → TakesByte (R.left reader.old) (R.left reader.new) result }
     ensures fault { IfErr result (λ e. e ≡ ReadFailed) }

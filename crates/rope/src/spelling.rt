@@ -1,8 +1,9 @@
 //! The versions of the image, and how each spells a word in two bytes.
 
-ghost use Rattle.std.specs.Prelude.{◌≡◌};
+ghost use Rattle.std.specs.Prelude.{◌≡◌, ◌%◌, true, length};
 ghost use Rattle.rope.specs.Image.{lowest_bit, spelled};
-ghost use Rattle.rope.specs.Reading.{spells_word, Spells, fault_at};
+ghost use Rattle.rope.specs.Reading.{AllSpellWords, spells_word, fault_at};
+ghost use Rattle.rope.specs.Steps.{Spells};
 
 use crate::fault::RopeFault;
 use words::Word;
@@ -43,6 +44,18 @@ impl Version {
             Version::One => low % 2 == 0,
             Version::Two => u16::from_be_bytes([high, low]).count_ones() % 2 == 1,
         }
+    }
+
+    // Whether every two of some bytes spell a word. All are tested, so that many are at once.
+    pub(crate) fn all_spell(self, bytes: &[u8]) -> bool
+        requires { length bytes.now % 2 ≡ 0 }
+        ensures { result ≡ true → AllSpellWords self bytes.now (length bytes.now) }
+    {
+        let mut all = true;
+        for number in 0..bytes.len() / 2 {
+            all &= self.spells_word(bytes[2 * number], bytes[2 * number + 1]);
+        }
+        all
     }
 
     // The word that two bytes spell, where they spell one.

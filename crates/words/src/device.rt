@@ -1,6 +1,6 @@
 //! Readers and writers whose contracts see bytes and failures.
 
-ghost use Rattle.std.specs.Prelude.{◌≡◌, ℕ, ◌<◌, Bool, true, List, [], ◌++◌, Ok, IfOk, OnErr, length, take};
+ghost use Rattle.std.specs.Prelude.{◌≡◌, ℕ, ◌<◌, Bool, true, List, [], ◌++◌, Ok, IfOk, OnErr, length, take, drop, if◌then◌else◌};
 ghost use Rattle.std.specs.Io.{ReadsAtMost, WritesAtMost};
 ghost use Rattle.words.specs.Devices.{failures_after, failures_after_write, Writes};
 
@@ -26,6 +26,22 @@ pub trait Read {
         ensures end { told ≡ true → result ≡ Ok 0 → 0 < length buf.new → left self.old ≡ [] }
         ensures err { told ≡ true → OnErr result (left self.new ≡ left self.old) }
         ensures failures { failures self.new ≡ failures_after (failures self.old) result };
+
+    /// The bytes that stand ready: a beginning of those that are left, to be had without asking a device. A reader that reads
+    /// none ahead keeps this body.
+    fn ready(&self) -> &[u8]
+        ensures { told ≡ true → left self.now ≡ result.now ++ drop (length result.now) (left self.now) }
+    {
+        b""
+    }
+
+    /// Passes over so many bytes, if so many stand ready, and answers whether it did. Else nothing changes.
+    fn pass(&mut self, count: usize) -> bool
+        ensures bytes { told ≡ true → left self.new ≡ (if result then drop count (left self.old) else left self.old) }
+        ensures failures { failures self.new ≡ failures self.old }
+    {
+        false
+    }
 }
 
 /// A writer. Where it tells its bytes, contracts see those that were written; they see its count of failures always.

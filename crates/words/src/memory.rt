@@ -19,6 +19,18 @@ impl Read for &[u8] {
     fn read(&mut self, buf: &mut [u8]) -> io::Result<usize> {
         io::Read::read(self, buf)
     }
+
+    fn ready(&self) -> &[u8] {
+        self
+    }
+
+    fn pass(&mut self, count: usize) -> bool {
+        if count > self.len() {
+            return false;
+        }
+        *self = &self[count..];
+        true
+    }
 }
 
 /// A writer to memory, which grows as it is written. A growth that is refused is a failure.

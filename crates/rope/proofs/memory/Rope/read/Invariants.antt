@@ -1,22 +1,15 @@
-use Rattle.std.proofs.Common.{◌≡◌, ◌*◌, ◌+◌, ◌++◌, true}
-use Rattle.rope.specs.Places.{bank_words}
-use Rattle.rope.specs.Image.{image_front}
-use Rattle.rope.specs.Reading.{AllSpellWords}
-use Rattle.rope.proofs.ReadSteps.{AllStand}
+use Rattle.std.proofs.Common.{◌≡◌, ◌≤◌, ◌-◌, true}
+use Rattle.rope.specs.Places.{fixed_places}
+use Rattle.rope.specs.Steps.{AllStand, IsReadTo}
 use Rattle.rope.proofs.memory.Rope.read.Given as goal
 
-abbrev pub invariant-loop-entry : goal.invariant-loop-entry
-invariant-loop-entry g l = record {
-  front : g.R.Read.told ≡ true → g.R.Read.left l.initial.reader ≡ image_front l.version l.rope (bank_words * l.entry) ++ g.R.Read.left l.reader;
-  spelled : g.R.Read.told ≡ true → AllSpellWords l.version (g.R.Read.left l.initial.reader) (2 * (bank_words * l.entry));
-  full : AllStand l.rope (bank_words * l.entry);
+abbrev pub invariant-loop-position : goal.invariant-loop-position
+invariant-loop-position g l = record {
+  within : l.position ≤ fixed_places;
+  read : g.R.Read.told ≡ true → IsReadTo l.version (g.R.Read.left l.initial.reader) (g.R.Read.left l.reader) l.rope l.position;
+  stand : AllStand l.rope l.position;
   failures : g.R.Read.failures l.reader ≡ g.R.Read.failures l.initial.reader;
 }
 
-abbrev pub invariant-loop-offset : goal.invariant-loop-offset
-invariant-loop-offset g l = record {
-  front : g.R.Read.told ≡ true → g.R.Read.left l.fn.reader ≡ image_front l.version l.rope (bank_words * l.entry + l.offset) ++ g.R.Read.left l.reader;
-  spelled : g.R.Read.told ≡ true → AllSpellWords l.version (g.R.Read.left l.fn.reader) (2 * (bank_words * l.entry + l.offset));
-  full : AllStand l.rope (bank_words * l.entry + l.offset);
-  failures : g.R.Read.failures l.reader ≡ g.R.Read.failures l.fn.reader;
-}
+abbrev pub decreases-loop-position : goal.decreases-loop-position
+decreases-loop-position g l = fixed_places - l.position
