@@ -4,7 +4,8 @@ pub mod LateInputs
 mod Rows
 mod ChangeLaws
 mod BitLaws
-mod RowLaws
+pub mod RowLaws
+pub mod RowTexts
 mod RequestLemmas
 pub mod Holding
 pub mod Held

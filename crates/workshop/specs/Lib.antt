@@ -4,6 +4,7 @@ pub mod Failures
 pub mod Faults
 pub mod Images
 pub mod Inputs
+pub mod Laws
 pub mod Refusals
 pub mod Ropes
 pub mod Runs

@@ -9,6 +9,7 @@ mod fault;
 mod image_sessions;
 mod images;
 mod inputs;
+pub mod laws;
 mod ropes;
 mod upgrade;
 

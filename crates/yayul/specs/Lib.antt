@@ -5,4 +5,5 @@ pub mod Layout
 pub mod Words
 pub mod Program
 pub mod Listing
+pub mod Laws
 pub mod Inside

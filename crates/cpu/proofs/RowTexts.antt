@@ -1,0 +1,40 @@
+-- The row that a word lies in tells its text.
+use Rattle.std.proofs.Common.{◌≡◌, ◌≤◌, ◌<◌, ◌%◌, ◌^◌, ℕ, zero, suc, List, [], ◌∷◌, Bool, true, refl, arith, filter, find, length, get_or, Some, ap, inl, inr}
+use Rattle.std.proofs.lemmas.Bool.{cases_Bool}
+use Rattle.std.proofs.lemmas.Bool.Decides.{nat_tests}
+use Rattle.cpu.specs.Codes.{Row, table, serves, rows_serving, code_of, no_row}
+use Rattle.cpu.specs.Texts.{instruction_text, disassembly}
+use Rattle.cpu.proofs.RowLaws.{one_row}
+
+-- what passes is among what passes
+some_pass : {A : Type 0} (p : A → Bool) (xs : List A) (k : ℕ) (d : A) → length (filter p xs) ≡ 0 → k < length xs → p (get_or xs k d) ≡ true → ⊥
+some_pass p [] k d none lt pass = omega arith
+some_pass p (x ∷ xs) zero d none lt pass = absurd (let none' = rw pass at none in omega arith)
+some_pass p (x ∷ xs) (suc k) d none lt pass =
+    elim (cases_Bool (p x)) [
+      | inl passes ↦ absurd (let none' = rw passes at none in omega arith)
+      | inr fails ↦ some_pass p xs k d (rw fails at none) (omega arith) pass
+    ]
+
+-- where one passes alone, it is the first that does
+the_one : {A : Type 0} (p : A → Bool) (xs : List A) (k : ℕ) (d : A) → length (filter p xs) ≡ 1 → k < length xs → p (get_or xs k d) ≡ true → find p xs ≡ Some (get_or xs k d)
+the_one p [] k d one lt pass = absurd (omega arith)
+the_one p (x ∷ xs) zero d one lt pass = rw pass refl
+the_one p (x ∷ xs) (suc k) d one lt pass =
+    elim (cases_Bool (p x)) [
+      | inl passes ↦ absurd (let one' = rw passes at one in some_pass p xs k d (omega arith) (omega arith) pass)
+      | inr fails ↦ rw fails (the_one p xs k d (rw fails at one) (omega arith) pass)
+    ]
+
+-- a row of a table, by its place
+abbrev pub row_at : Bool → ℕ → Row
+row_at extracode k = get_or (table extracode) k no_row
+
+-- a word in the range of a row is shown as the row's instruction of its operand
+pub shown_by_row : (extracode : Bool) (k word operand : ℕ) → k < length (table extracode) → word < 2 ^ 15 → (row_at extracode k).least ≤ word → word ≤ (row_at extracode k).greatest
+    → word % 2 ^ (row_at extracode k).bits ≡ operand → disassembly extracode word ≡ instruction_text ((row_at extracode k).instruction operand)
+unfolding code_of rows_serving
+shown_by_row extracode k word operand few high least greatest is =
+    let lies : serves word (row_at extracode k) ≡ true = grind (arith, nat_tests) in
+    let found : find (serves word) (table extracode) ≡ Some (row_at extracode k) = the_one (serves word) (table extracode) k no_row (one_row extracode word high) few lies in
+    rw found (ap (λ (n : ℕ). instruction_text ((row_at extracode k).instruction n)) is)
