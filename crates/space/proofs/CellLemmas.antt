@@ -1,5 +1,5 @@
 -- The map of cells that a pointwise function gives.
-use Rattle.std.proofs.Common.{◌≡◌, ℕ, zero, suc, replicate, ◌+◌, ◌-◌, ◌≤◌, ◌<◌, ◌≢◌, Bool, true, false, cond, ◌&&◌, eqb, ltb, leb, List, ◌∷◌, map, filter, Option, Some, None, unwrap_or, get_or, refl, sym, ap, ◌∙◌, arith, ⊎_elim}
+use Rattle.std.proofs.Common.{◌≡◌, ℕ, zero, suc, replicate, ◌+◌, ◌-◌, ◌/◌, ◌%◌, ◌≤◌, ◌<◌, ◌≢◌, Bool, true, false, cond, ◌&&◌, eqb, ltb, leb, List, [], ◌∷◌, map, filter, Option, Some, None, unwrap_or, get_or, refl, sym, ap, ◌∙◌, arith, ⊎_elim}
 use Rattle.std.proofs.lemmas.Bool.Decides.{nat_tests}
 use Rattle.std.proofs.lemmas.Bool.{both_ways, cases_eq, cases_lt}
 use Rattle.std.proofs.lemmas.List.{length-replicate, get_or-replicate, get_or_past}
@@ -9,8 +9,21 @@ use Rattle.std.specs.Cmp.{nat_cmp_total}
 use Rattle.std.specs.FinMap.{find, get-from_entries, get-insert, same_map, nat_cmp-IsAntisymmetric}
 use Rattle.std.specs.FinMap as fin
 use Rattle.space.specs.Cells.{is_cell, cells_below, Cells, cells_by, at, zero_cells}
-use Rattle.space.specs.Stored.{stored, cell_limit, IsStored, number_by}
+use Rattle.space.specs.Stored.{stored, cell_limit, IsStored, number_by, held_at, banked}
 use Rattle.words.specs.Numbers.{extend, correct}
+
+-- what stands at a place of which the registers or the banks hold another number
+pub register_here : (r : List ℕ) (b : List (List ℕ)) (c x : ℕ) → c < 8 → get_or r c 0 ≡ x → held_at r b c ≡ x
+register_here r b c x lt here = grind (arith, nat_tests)
+
+pub register_others : (r q : List ℕ) (b : List (List ℕ)) (c : ℕ) → ((k : ℕ) → k ≢ c → get_or q k 0 ≡ get_or r k 0) → (k : ℕ) → k ≢ c → held_at q b k ≡ held_at r b k
+register_others r q b c others k ne = ap (λ x. cond (ltb k 8) x (banked b k)) (others k ne)
+
+pub bank_here : (r : List ℕ) (b : List (List ℕ)) (c x : ℕ) → 8 ≤ c → banked b c ≡ x → held_at r b c ≡ x
+bank_here r b c x ge here = let above : ltb c 8 ≡ false = grind (arith, nat_tests) in ap (λ t. cond t (get_or r c 0) (banked b c)) above ∙ here
+
+pub bank_others : (r : List ℕ) (b d : List (List ℕ)) (c : ℕ) → ((k : ℕ) → k ≢ c → banked d k ≡ banked b k) → (k : ℕ) → k ≢ c → held_at r d k ≡ held_at r b k
+bank_others r b d c others k ne = ap (λ x. cond (ltb k 8) (get_or r k 0) x) (others k ne)
 
 find_cons : (f : ℕ → ℕ) (q a : ℕ) (b : Bool) (r : List ℕ)
     → find nat_cmp q (map (λ c. (c, f c)) (cond b (a ∷ r) r)) ≡ cond (eqb q a && b) (Some (f q)) (find nat_cmp q (map (λ c. (c, f c)) r))
@@ -66,11 +79,11 @@ same-cells_by f g h =
     get-cells_by f q ∙ ap (λ v. cond (ltb q 2560 && is_cell q) (Some v) None) (h q) ∙ sym (get-cells_by g q))
 
 -- what a representation holds for a place
-stored-place : (e ch : List ℕ) (c : ℕ) → c < 2048 → stored e ch c ≡ number_by c (get_or e c 0)
+stored-place : (e : ℕ → ℕ) (ch : List ℕ) (c : ℕ) → c < 2048 → stored e ch c ≡ number_by c (e c)
 unfolding stored
 stored-place e ch c lt =
     let below : ltb c 2048 ≡ true = grind (arith, nat_tests) in
-    ap (λ b. cond b (number_by c (get_or e c 0)) (get_or ch (c - 2048) 0)) below
+    ap (λ b. cond b (number_by c (e c)) (get_or ch (c - 2048) 0)) below
 
 pub number_by-register : (c x : ℕ) → c < 8 → number_by c x ≡ x
 number_by-register c x lt = grind (arith, nat_tests)
@@ -81,13 +94,13 @@ number_by-word c w le lt = grind (arith, nat_tests)
 extended_twice : (w : ℕ) → w < 32768 → extend (correct (extend w)) ≡ extend w
 extended_twice w lt = grind (arith, nat_tests)
 
-stored-channel : (e ch : List ℕ) (n : ℕ) → stored e ch (2048 + n) ≡ get_or ch n 0
+stored-channel : (e : ℕ → ℕ) (ch : List ℕ) (n : ℕ) → stored e ch (2048 + n) ≡ get_or ch n 0
 unfolding stored
 stored-channel e ch n =
     let k : (2048 + n) - 2048 ≡ n = omega arith in
     let above : ltb (2048 + n) 2048 ≡ false = grind (arith, nat_tests) in
-    ap (λ i. cond (ltb (2048 + n) 2048) (number_by (2048 + n) (get_or e (2048 + n) 0)) (get_or ch i 0)) k
-    ∙ ap (λ b. cond b (number_by (2048 + n) (get_or e (2048 + n) 0)) (get_or ch n 0)) above
+    ap (λ i. cond (ltb (2048 + n) 2048) (number_by (2048 + n) (e (2048 + n))) (get_or ch i 0)) k
+    ∙ ap (λ b. cond b (number_by (2048 + n) (e (2048 + n))) (get_or ch n 0)) above
 
 is_cell-place : (c : ℕ) → c ≢ 6 → c ≢ 7 → c < 2048 → is_cell c ≡ true
 unfolding is_cell
@@ -98,45 +111,49 @@ unfolding is_cell
 is_cell-channel n p q = grind (arith, nat_tests)
 
 -- what is held at a place or on a channel, by the view
-pub at_view : (e ch : List ℕ) (s : Cells) (c : ℕ) → cells_by (stored e ch) ≡ s → c < 2048 → c ≢ 6 → c ≢ 7 → at s c ≡ number_by c (get_or e c 0)
+pub at_view : (e : ℕ → ℕ) (ch : List ℕ) (s : Cells) (c : ℕ) → cells_by (stored e ch) ≡ s → c < 2048 → c ≢ 6 → c ≢ 7 → at s c ≡ number_by c (e c)
 at_view e ch s c v lt n6 n7 =
     ap (λ m. at m c) (sym v) ∙ at-cells_by (stored e ch) c (omega arith) (is_cell-place c n6 n7 lt) ∙ stored-place e ch c lt
 
-pub register_view : (e ch : List ℕ) (s : Cells) (c : ℕ) → cells_by (stored e ch) ≡ s → c < 8 → c ≢ 6 → c ≢ 7 → at s c ≡ get_or e c 0
-register_view e ch s c v lt n6 n7 = at_view e ch s c v (omega arith) n6 n7 ∙ number_by-register c (get_or e c 0) lt
+pub register_view : (e : ℕ → ℕ) (ch : List ℕ) (s : Cells) (c : ℕ) → cells_by (stored e ch) ≡ s → c < 8 → c ≢ 6 → c ≢ 7 → at s c ≡ e c
+register_view e ch s c v lt n6 n7 = at_view e ch s c v (omega arith) n6 n7 ∙ number_by-register c (e c) lt
 
-pub word_view : (e ch : List ℕ) (s : Cells) (c : ℕ) → cells_by (stored e ch) ≡ s → c < 2048 → 8 ≤ c → at s c ≡ correct (get_or e c 0)
+-- what the registers hold
+pub held_view : (r : List ℕ) (b : List (List ℕ)) (ch : List ℕ) (s : Cells) (c : ℕ) → cells_by (stored (held_at r b) ch) ≡ s → c < 8 → c ≢ 6 → c ≢ 7 → at s c ≡ get_or r c 0
+held_view r b ch s c v lt n6 n7 = register_view (held_at r b) ch s c v lt n6 n7 ∙ register_here r b c (get_or r c 0) lt refl
+
+pub word_view : (e : ℕ → ℕ) (ch : List ℕ) (s : Cells) (c : ℕ) → cells_by (stored e ch) ≡ s → c < 2048 → 8 ≤ c → at s c ≡ correct (e c)
 word_view e ch s c v lt ge =
     let plain : ltb c 8 ≡ false = grind (arith, nat_tests) in
-    at_view e ch s c v lt (λ e. omega arith) (λ e. omega arith) ∙ ap (λ b. cond b (get_or e c 0) (correct (get_or e c 0))) plain
+    at_view e ch s c v lt (λ e. omega arith) (λ e. omega arith) ∙ ap (λ b. cond b (e c) (correct (e c))) plain
 
-pub reading_view : (e ch : List ℕ) (s : Cells) (c : ℕ) → cells_by (stored e ch) ≡ s → IsStored e ch → c < 2048 → 8 ≤ c → get_or e c 0 ≡ extend (at s c)
+pub reading_view : (e : ℕ → ℕ) (ch : List ℕ) (s : Cells) (c : ℕ) → cells_by (stored e ch) ≡ s → IsStored e ch → c < 2048 → 8 ≤ c → e c ≡ extend (at s c)
 reading_view e ch s c v is lt ge = is.extended c ge ∙ ap extend (sym (word_view e ch s c v lt ge))
 
-pub channel_view : (e ch : List ℕ) (s : Cells) (n : ℕ) → cells_by (stored e ch) ≡ s → n < 512 → n ≢ 1 → n ≢ 2 → at s (2048 + n) ≡ get_or ch n 0
+pub channel_view : (e : ℕ → ℕ) (ch : List ℕ) (s : Cells) (n : ℕ) → cells_by (stored e ch) ≡ s → n < 512 → n ≢ 1 → n ≢ 2 → at s (2048 + n) ≡ get_or ch n 0
 channel_view e ch s n v lt n1 n2 =
     ap (λ m. at m (2048 + n)) (sym v) ∙ at-cells_by (stored e ch) (2048 + n) (omega arith) (is_cell-channel n n1 n2) ∙ stored-channel e ch n
 
 -- a place holds another number
-stored_other-place : (e d ch : List ℕ) (c q : ℕ) → ((k : ℕ) → k ≢ c → get_or d k 0 ≡ get_or e k 0) → q ≢ c → stored d ch q ≡ stored e ch q
+stored_other-place : (e d : ℕ → ℕ) (ch : List ℕ) (c q : ℕ) → ((k : ℕ) → k ≢ c → d k ≡ e k) → q ≢ c → stored d ch q ≡ stored e ch q
 unfolding stored
 stored_other-place e d ch c q others ne = ap (λ v. cond (ltb q 2048) (number_by q v) (get_or ch (q - 2048) 0)) (others q ne)
 
-pub view-place : (e d ch : List ℕ) (c x : ℕ) → c < 2048 → c ≢ 6 → c ≢ 7 → number_by c (get_or d c 0) ≡ x → ((k : ℕ) → k ≢ c → get_or d k 0 ≡ get_or e k 0)
+pub view-place : (e d : ℕ → ℕ) (ch : List ℕ) (c x : ℕ) → c < 2048 → c ≢ 6 → c ≢ 7 → number_by c (d c) ≡ x → ((k : ℕ) → k ≢ c → d k ≡ e k)
     → cells_by (stored d ch) ≡ fin.insert (cells_by (stored e ch)) c x
 view-place e d ch c x lt n6 n7 here others =
     insert-cells_by _ _ c x (omega arith) (is_cell-place c n6 n7 lt) (stored-place d ch c lt ∙ here) (λ q ne. stored_other-place e d ch c q others ne)
 
 -- a channel holds another number
-stored_other-channel : (e ch dh : List ℕ) (n q : ℕ) → ((k : ℕ) → k ≢ n → get_or dh k 0 ≡ get_or ch k 0) → q ≢ 2048 + n → stored e dh q ≡ stored e ch q
+stored_other-channel : (e : ℕ → ℕ) (ch dh : List ℕ) (n q : ℕ) → ((k : ℕ) → k ≢ n → get_or dh k 0 ≡ get_or ch k 0) → q ≢ 2048 + n → stored e dh q ≡ stored e ch q
 unfolding stored
 stored_other-channel e ch dh n q others ne =
     ⊎_elim
     (λ lt. grind (arith, nat_tests))
-    (λ ge. ap (λ v. cond (ltb q 2048) (number_by q (get_or e q 0)) v) (others (q - 2048) (λ h. ne (omega arith))))
+    (λ ge. ap (λ v. cond (ltb q 2048) (number_by q (e q)) v) (others (q - 2048) (λ h. ne (omega arith))))
     (cases_lt q 2048)
 
-pub view-channel : (e ch dh : List ℕ) (n x : ℕ) → n < 512 → n ≢ 1 → n ≢ 2 → get_or dh n 0 ≡ x → ((k : ℕ) → k ≢ n → get_or dh k 0 ≡ get_or ch k 0)
+pub view-channel : (e : ℕ → ℕ) (ch dh : List ℕ) (n x : ℕ) → n < 512 → n ≢ 1 → n ≢ 2 → get_or dh n 0 ≡ x → ((k : ℕ) → k ≢ n → get_or dh k 0 ≡ get_or ch k 0)
     → cells_by (stored e dh) ≡ fin.insert (cells_by (stored e ch)) (2048 + n) x
 view-channel e ch dh n x lt n1 n2 here others =
     insert-cells_by _ _ (2048 + n) x (omega arith) (is_cell-channel n n1 n2) (stored-channel e dh n ∙ here) (λ q ne. stored_other-channel e ch dh n q others ne)
@@ -149,15 +166,15 @@ below_all f g c x old here lt others q =
     (λ ne. let same : g q ≡ f q = others q ne in omega (arith, old q))
     (cases_eq q c)
 
-same_extended : (e d : List ℕ) (c : ℕ) → ((q : ℕ) → 8 ≤ q → get_or e q 0 ≡ extend (correct (get_or e q 0))) → (8 ≤ c → get_or d c 0 ≡ extend (correct (get_or d c 0)))
-    → ((k : ℕ) → k ≢ c → get_or d k 0 ≡ get_or e k 0) → (q : ℕ) → 8 ≤ q → get_or d q 0 ≡ extend (correct (get_or d q 0))
+same_extended : (e d : ℕ → ℕ) (c : ℕ) → ((q : ℕ) → 8 ≤ q → e q ≡ extend (correct (e q))) → (8 ≤ c → d c ≡ extend (correct (d c)))
+    → ((k : ℕ) → k ≢ c → d k ≡ e k) → (q : ℕ) → 8 ≤ q → d q ≡ extend (correct (d q))
 same_extended e d c old here others q ge =
     ⊎_elim
     (λ k. let le : 8 ≤ c = omega arith in rw k (here le))
     (λ ne. others q ne ∙ old q ge ∙ ap (λ x. extend (correct x)) (sym (others q ne)))
     (cases_eq q c)
 
-pub IsStored-register : (e d ch : List ℕ) (c x : ℕ) → IsStored e ch → c < 8 → x < cell_limit c → get_or d c 0 ≡ x → ((k : ℕ) → k ≢ c → get_or d k 0 ≡ get_or e k 0) → IsStored d ch
+pub IsStored-register : (e d : ℕ → ℕ) (ch : List ℕ) (c x : ℕ) → IsStored e ch → c < 8 → x < cell_limit c → d c ≡ x → ((k : ℕ) → k ≢ c → d k ≡ e k) → IsStored d ch
 IsStored-register e d ch c x old lt limit here others = record {
   limits =
       below_all (stored e ch) (stored d ch) c x old.limits (stored-place d ch c (omega arith) ∙ ap (number_by c) here ∙ number_by-register c x lt) limit (λ q ne. stored_other-place e d ch c q others ne);
@@ -168,7 +185,7 @@ cell_limit-word : (c : ℕ) → 8 ≤ c → cell_limit c ≡ 32768
 unfolding cell_limit
 cell_limit-word c ge = grind (arith, nat_tests)
 
-pub IsStored-word : (e d ch : List ℕ) (c w : ℕ) → IsStored e ch → 8 ≤ c → c < 2048 → w < 32768 → get_or d c 0 ≡ extend w → ((k : ℕ) → k ≢ c → get_or d k 0 ≡ get_or e k 0) → IsStored d ch
+pub IsStored-word : (e d : ℕ → ℕ) (ch : List ℕ) (c w : ℕ) → IsStored e ch → 8 ≤ c → c < 2048 → w < 32768 → d c ≡ extend w → ((k : ℕ) → k ≢ c → d k ≡ e k) → IsStored d ch
 IsStored-word e d ch c w old ge lt word here others = record {
   limits =
       below_all (stored e ch) (stored d ch) c w old.limits (stored-place d ch c lt ∙ ap (number_by c) here ∙ number_by-word c w ge word) (rw (cell_limit-word c ge) word) (λ q ne. stored_other-place e d ch c q others ne);
@@ -179,7 +196,7 @@ cell_limit-channel : (n : ℕ) → cell_limit (2048 + n) ≡ 32768
 unfolding cell_limit
 cell_limit-channel n = grind (arith, nat_tests)
 
-pub IsStored-channel : (e ch dh : List ℕ) (n x : ℕ) → IsStored e ch → x < 32768 → get_or dh n 0 ≡ x → ((k : ℕ) → k ≢ n → get_or dh k 0 ≡ get_or ch k 0) → IsStored e dh
+pub IsStored-channel : (e : ℕ → ℕ) (ch dh : List ℕ) (n x : ℕ) → IsStored e ch → x < 32768 → get_or dh n 0 ≡ x → ((k : ℕ) → k ≢ n → get_or dh k 0 ≡ get_or ch k 0) → IsStored e dh
 IsStored-channel e ch dh n x old limit here others = record {
   limits =
       below_all (stored e ch) (stored e dh) (2048 + n) x old.limits (stored-channel e dh n ∙ here) (rw (cell_limit-channel n) limit) (λ q ne. stored_other-channel e ch dh n q others ne);
@@ -187,12 +204,15 @@ IsStored-channel e ch dh n x old limit here others = record {
 }
 
 -- what the numbers of a representation are below
-pub register_limit : (e ch : List ℕ) (c : ℕ) → IsStored e ch → c < 8 → get_or e c 0 < cell_limit c
+pub register_limit : (e : ℕ → ℕ) (ch : List ℕ) (c : ℕ) → IsStored e ch → c < 8 → e c < cell_limit c
 register_limit e ch c is lt =
-    let same : stored e ch c ≡ get_or e c 0 = stored-place e ch c (omega arith) ∙ number_by-register c (get_or e c 0) lt in
+    let same : stored e ch c ≡ e c = stored-place e ch c (omega arith) ∙ number_by-register c (e c) lt in
     rw (← same) (is.limits c)
 
-pub channel_limit : (e ch : List ℕ) (n : ℕ) → IsStored e ch → get_or ch n 0 < 32768
+pub held_limit : (r : List ℕ) (b : List (List ℕ)) (ch : List ℕ) (c : ℕ) → IsStored (held_at r b) ch → c < 8 → get_or r c 0 < cell_limit c
+held_limit r b ch c is lt = rw (← register_here r b c (get_or r c 0) lt refl) (register_limit (held_at r b) ch c is lt)
+
+pub channel_limit : (e : ℕ → ℕ) (ch : List ℕ) (n : ℕ) → IsStored e ch → get_or ch n 0 < 32768
 channel_limit e ch n is =
     let below = is.limits (2048 + n) in
     rw (stored-channel e ch n, cell_limit-channel n) at below
@@ -201,20 +221,30 @@ channel_limit e ch n is =
 zero_at : (n q : ℕ) → ◌≡◌ {A = ℕ} (get_or (replicate n 0) q 0) 0
 zero_at n q = ⊎_elim (λ lt. get_or-replicate n q 0 0 lt) (λ ge. get_or_past (replicate n 0) q 0 (rw length-replicate ge)) (cases_lt q n)
 
-stored-zeros : (m n q : ℕ) → stored (replicate m 0) (replicate n 0) q ≡ 0
-unfolding stored
-stored-zeros m n q = rw (zero_at m q, zero_at n (q - 2048)) (grind (arith, nat_tests))
+zero_in : (b m i q : ℕ) → ◌≡◌ {A = ℕ} (get_or (get_or (replicate b (replicate m 0)) i []) q 0) 0
+zero_in b m i q =
+    ⊎_elim
+    (λ lt. ap (λ l. get_or l q 0) (get_or-replicate b i (replicate m 0) [] lt) ∙ zero_at m q)
+    (λ ge. ap (λ l. get_or l q 0) (get_or_past (replicate b (replicate m 0)) i [] (rw length-replicate ge)))
+    (cases_lt i b)
 
-pub view-zero : (m n : ℕ) → cells_by (stored (replicate m 0) (replicate n 0)) ≡ zero_cells
+zero_held : (r b m q : ℕ) → held_at (replicate r 0) (replicate b (replicate m 0)) q ≡ 0
+zero_held r b m q = rw (zero_at r q, zero_in b m (q / 256) (q % 256)) (grind (arith, nat_tests))
+
+stored-zeros : (r b m n q : ℕ) → stored (held_at (replicate r 0) (replicate b (replicate m 0))) (replicate n 0) q ≡ 0
+unfolding stored
+stored-zeros r b m n q = rw (zero_held r b m q, zero_at n (q - 2048)) (grind (arith, nat_tests))
+
+pub view-zero : (r b m n : ℕ) → cells_by (stored (held_at (replicate r 0) (replicate b (replicate m 0))) (replicate n 0)) ≡ zero_cells
 unfolding zero_cells
-view-zero m n = same-cells_by _ _ (stored-zeros m n)
+view-zero r b m n = same-cells_by _ _ (stored-zeros r b m n)
 
 cell_limit-positive : (c : ℕ) → 0 < cell_limit c
 unfolding cell_limit
 cell_limit-positive c = grind (arith, nat_tests)
 
-pub IsStored-zero : (m n : ℕ) → IsStored (replicate m 0) (replicate n 0)
-IsStored-zero m n = record {
-  limits = λ c. rw (stored-zeros m n c) (cell_limit-positive c);
-  extended = λ c _. zero_at m c ∙ ap (λ x. extend (correct x)) (sym (zero_at m c));
+pub IsStored-zero : (r b m n : ℕ) → IsStored (held_at (replicate r 0) (replicate b (replicate m 0))) (replicate n 0)
+IsStored-zero r b m n = record {
+  limits = λ c. rw (stored-zeros r b m n c) (cell_limit-positive c);
+  extended = λ c _. zero_held r b m c ∙ ap (λ x. extend (correct x)) (sym (zero_held r b m c));
 }

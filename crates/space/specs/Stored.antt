@@ -1,5 +1,5 @@
--- How a store holds its cells: an array of erasable places beside an array of channels.
-use Rattle.std.specs.Prelude.{ℕ, ◌-◌, ◌<◌, ◌≤◌, ◌≡◌, ◌==◌, nat_lt, if◌then◌else◌, ◌||◌, List, slice_index}
+-- How a store holds its cells: eight banks of erasable places beside the registers and the channels.
+use Rattle.std.specs.Prelude.{ℕ, ◌-◌, ◌/◌, ◌%◌, ◌<◌, ◌≤◌, ◌≡◌, ◌==◌, nat_lt, if◌then◌else◌, ◌||◌, List, [], slice_index, slice_index_or}
 use Rattle.words.specs.Numbers.{extend, correct}
 use Rattle.space.specs.Cells.{erasable_count, accumulator, return_address, erasable_bank, fixed_bank, program_counter}
 
@@ -7,14 +7,30 @@ use Rattle.space.specs.Cells.{erasable_count, accumulator, return_address, erasa
 abbrev pub register_count : ℕ
 register_count = 8
 
--- the number of a cell by what the array of places holds: that of a register itself, of any other place what is read there
+-- how many banks there are
+abbrev pub bank_count : ℕ
+bank_count = 8
+
+-- how many words stand in a bank
+abbrev pub bank_size : ℕ
+bank_size = 0o400
+
+-- the number that the banks hold for a place
+abbrev pub banked : List (List ℕ) → ℕ → ℕ
+banked banks p = slice_index (slice_index_or banks (p / bank_size) []) (p % bank_size)
+
+-- the number that is held for a place: the first places are registers, any other stands in its bank
+abbrev pub held_at : List ℕ → List (List ℕ) → ℕ → ℕ
+held_at registers banks p = if nat_lt p register_count then slice_index registers p else banked banks p
+
+-- the number of a cell by what is held for its place: that of a register itself, of any other place what is read there
 abbrev pub number_by : ℕ → ℕ → ℕ
 number_by c x = if nat_lt c register_count then x else correct x
 
--- the number that the arrays hold for a cell
-unfoldable pub stored : List ℕ → List ℕ → ℕ → ℕ
-stored erasable channels c =
-    if nat_lt c erasable_count then number_by c (slice_index erasable c) else slice_index channels (c - erasable_count)
+-- the number that is held for a cell
+unfoldable pub stored : (ℕ → ℕ) → List ℕ → ℕ → ℕ
+stored places channels c =
+    if nat_lt c erasable_count then number_by c (places c) else slice_index channels (c - erasable_count)
 
 -- what a cell holds is below this
 unfoldable pub cell_limit : ℕ → ℕ
@@ -26,6 +42,6 @@ cell_limit c =
     else 0o100000)))
 
 -- each number is one that its cell can hold, and a place that is no register holds an extended word
-pub record IsStored (erasable channels : List ℕ) : Type 0 where
-  pub limits : (c : ℕ) → stored erasable channels c < cell_limit c
-  pub extended : (c : ℕ) → register_count ≤ c → slice_index erasable c ≡ extend (correct (slice_index erasable c))
+pub record IsStored (places : ℕ → ℕ) (channels : List ℕ) : Type 0 where
+  pub limits : (c : ℕ) → stored places channels c < cell_limit c
+  pub extended : (c : ℕ) → register_count ≤ c → places c ≡ extend (correct (places c))

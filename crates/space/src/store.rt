@@ -2,7 +2,7 @@
 
 ghost use Rattle.std.specs.Prelude.{◌≡◌, ℕ, ◌<◌, ◌≤◌, ◌≢◌, length, take, drop, slice_index, replicate, not, ◌==◌};
 ghost use Rattle.space.specs.Cells.{at, word_at, get, put, get_channel, put_channel, kept, kept_of_word, zero_cells, changed_places, superbank, accumulator, return_address, erasable_bank, fixed_bank, program_counter, both_banks, always_zero, lower_accumulator_channel, return_address_channel, channel_cell, erasable_count, channel_count};
-ghost use Rattle.space.specs.Stored.{cell_limit, register_count};
+ghost use Rattle.space.specs.Stored.{cell_limit, register_count, bank_count, bank_size, banked};
 ghost use Rattle.words.specs.Numbers.{extend};
 ghost use Rattle.std.specs.FinMap.{insert};
 
@@ -20,10 +20,16 @@ const REGISTERS: u16 = 8;
 /// The superbank bit in its channel.
 const SUPERBANK_BIT: u16 = 0o100;
 
-/// The registers, erasable memory and the channels.
+/// How many words stand in a bank of erasable memory.
+const BANK_SIZE: usize = 0o400;
+
+/// The registers, the eight banks of erasable memory, and the channels.
+///
+/// The registers are the first places. A bank holds the other places as they are read, and the channels hold words.
 #[derive(Drop)]
 pub struct Store {
-    erasable: [u16; 2048],
+    registers: [u16; 8],
+    banks: [[u16; 256]; 8],
     channels: [u16; 512],
 }
 
@@ -32,15 +38,15 @@ impl Model for Store {
     ghost use Rattle.std.specs.Coded.{coded_ℕ};
     ghost use Rattle.std.specs.FinMap as map;
     ghost use Rattle.space.specs.Cells.{Cells, cells_by};
-    ghost use Rattle.space.specs.Stored.{stored, IsStored};
+    ghost use Rattle.space.specs.Stored.{held_at, stored, IsStored};
 
     ghost Value = { Cells };
 
     ghost coded = { map.code coded_ℕ coded_ℕ };
 
-    ghost view = { λ s. cells_by (stored s.erasable s.channels) };
+    ghost view = { λ s. cells_by (stored (held_at s.registers s.banks) s.channels) };
 
-    ghost invariant = { λ s. IsStored s.erasable s.channels };
+    ghost invariant = { λ s. IsStored (held_at s.registers s.banks) s.channels };
 }
 
 impl Store {
@@ -49,7 +55,8 @@ impl Store {
         ensures { result ≡ zero_cells }
     {
         Store {
-            erasable: zero_places(),
+            registers: zero_registers(),
+            banks: zero_banks(),
             channels: silent_channels(),
         }
     }
@@ -58,7 +65,8 @@ impl Store {
     pub fn copy_to(&self, other: &mut Store)
         ensures { other.new ≡ self.now }
     {
-        other.erasable.copy_from_slice(&self.erasable);
+        other.registers.copy_from_slice(&self.registers);
+        other.banks.copy_from_slice(&self.banks);
         other.channels.copy_from_slice(&self.channels);
     }
 
@@ -194,7 +202,7 @@ impl Store {
     }
 
     /// The number in the cell of a register.
-    #[tactic(auto, using(crate::proofs::CellLemmas::register_view, crate::proofs::CellLemmas::register_limit))]
+    #[tactic(auto, using(crate::proofs::CellLemmas::held_view, crate::proofs::CellLemmas::held_limit))]
     fn held(&self, place: Eras) -> u16
         requires register { place < register_count }
         requires both_banks { place ≢ both_banks }
@@ -202,7 +210,7 @@ impl Store {
         ensures value { result ≡ at self.now place }
         ensures limit { result < cell_limit place }
     {
-        self.erasable[usize::from(place.number())]
+        self.registers[usize::from(place.number())]
     }
 
     /// Puts a number into the cell of a register.
@@ -213,7 +221,7 @@ impl Store {
         requires limit { number < cell_limit place }
         ensures { self.new ≡ insert self.old place number }
     {
-        set(&mut self.erasable, usize::from(place.number()), number);
+        set(&mut self.registers, usize::from(place.number()), number);
     }
 
     /// What is read at a place that is no register.
@@ -221,7 +229,7 @@ impl Store {
         requires { register_count ≤ place }
         ensures { result ≡ extend (at self.now place) }
     {
-        Wide::of_u16(self.erasable[usize::from(place.number())])
+        Wide::of_u16(number_in(&self.banks, place.number()))
     }
 
     /// Puts a word into the cell of a place that is no register.
@@ -229,11 +237,7 @@ impl Store {
         requires { register_count ≤ place }
         ensures { self.new ≡ insert self.old place word }
     {
-        set(
-            &mut self.erasable,
-            usize::from(place.number()),
-            word.extend().to_u16(),
-        );
+        set_in(&mut self.banks, place.number(), word.extend().to_u16());
     }
 
     /// The number in the cell of a channel.
@@ -314,6 +318,34 @@ fn edited(place: Eras, word: Word) -> Word
     }
 }
 
+/// The number in the banks for a place.
+fn number_in(banks: &[[u16; 256]; 8], place: u16) -> u16
+    requires { place < erasable_count }
+    ensures { result ≡ banked banks.now place }
+{
+    let place = usize::from(place);
+    banks[place / BANK_SIZE][place % BANK_SIZE]
+}
+
+/// Puts a number into the banks for a place, and leaves the others.
+fn set_in(banks: &mut [[u16; 256]; 8], place: u16, number: u16)
+    requires { place < erasable_count }
+    ensures here { banked banks.new place ≡ number }
+    ensures others { (q : ℕ) → q ≢ place → banked banks.new q ≡ banked banks.old q }
+{
+    let place = usize::from(place);
+    set_word(&mut banks[place / BANK_SIZE], place % BANK_SIZE, number);
+}
+
+/// Puts a number at one place of a bank, and leaves the others.
+fn set_word(bank: &mut [u16; 256], index: usize, number: u16)
+    requires { index < bank_size }
+    ensures here { slice_index bank.new index ≡ number }
+    ensures others { (q : ℕ) → q ≢ index → slice_index bank.new q ≡ slice_index bank.old q }
+{
+    bank[index] = number;
+}
+
 /// Puts a number at one index, and leaves the others.
 fn set(numbers: &mut [u16], index: usize, number: u16)
     requires { index < length numbers.old }
@@ -331,10 +363,16 @@ fn word_of(number: u16) -> Word
     Word::of_low_bits(number)
 }
 
-fn zero_places() -> [u16; 2048]
-    ensures { result ≡ replicate erasable_count 0 }
+fn zero_registers() -> [u16; 8]
+    ensures { result ≡ replicate register_count 0 }
 {
-    [0; 2048]
+    [0; 8]
+}
+
+fn zero_banks() -> [[u16; 256]; 8]
+    ensures { result ≡ replicate bank_count (replicate bank_size 0) }
+{
+    [[0; 256]; 8]
 }
 
 fn silent_channels() -> [u16; 512]

@@ -1,24 +1,30 @@
-use Rattle.std.proofs.Common.{◌≡◌, ◌<◌, ap, ◌∙◌, arith, slice_index}
-use Rattle.space.proofs.CellLemmas.{view-place, IsStored-word, number_by-word}
-use Rattle.space.specs.Stored.{number_by}
+use Rattle.std.proofs.Common.{◌≡◌, ap, ◌∙◌, arith}
+use Rattle.space.proofs.CellLemmas.{view-place, IsStored-word, number_by-word, bank_here, bank_others}
+use Rattle.space.specs.Stored.{number_by, held_at, banked}
 use Rattle.words.specs.Numbers.{extend}
 use Rattle.space.proofs.store.Store.keep.Goals as goal
 
 pub invariant_of-self : goal.invariant_of-self
 invariant_of-self c =
-    let number = c.to_u16.ensures in
-    let wide = c.extend.ensures in
-    let at = c.set.ensures.here in
-    let here : slice_index c.set.new.numbers c.from.result ≡ extend c.args.word = cc in
-    IsStored-word c.self.inside.erasable c.set.new.numbers c.self.inside.channels c.from.result c.args.word c.self.invariant (omega arith) (omega arith) (omega arith) here c.set.ensures.others
+    let r = c.self.inside.registers in
+    let old = c.self.inside.banks in
+    let new = c.set_in.new.banks in
+    let p = c.number.result in
+    let wide : banked new p ≡ extend c.args.word = cc in
+    let here = bank_here r new p (extend c.args.word) (omega arith) wide in
+    let others = bank_others r old new p c.set_in.ensures.others in
+    IsStored-word (held_at r old) (held_at r new) c.self.inside.channels p c.args.word c.self.invariant (omega arith) (omega arith) (omega arith) here others
 
 pub returns : goal.returns
 returns c =
-    let number = c.to_u16.ensures in
-    let wide = c.extend.ensures in
-    let at = c.set.ensures.here in
-    let here : slice_index c.set.new.numbers c.from.result ≡ extend c.args.word = cc in
-    let same : c.from.result ≡ c.args.place = cc in
-    let held = number_by-word c.from.result c.args.word (omega arith) (omega arith) in
-    let view = view-place c.self.inside.erasable c.set.new.numbers c.self.inside.channels c.from.result c.args.word (omega arith) (λ e. omega arith) (λ e. omega arith) (ap (number_by c.from.result) here ∙ held) c.set.ensures.others in
+    let r = c.self.inside.registers in
+    let old = c.self.inside.banks in
+    let new = c.set_in.new.banks in
+    let p = c.number.result in
+    let wide : banked new p ≡ extend c.args.word = cc in
+    let here = bank_here r new p (extend c.args.word) (omega arith) wide in
+    let others = bank_others r old new p c.set_in.ensures.others in
+    let held = number_by-word p c.args.word (omega arith) (omega arith) in
+    let view = view-place (held_at r old) (held_at r new) c.self.inside.channels p c.args.word (omega arith) (λ e. omega arith) (λ e. omega arith) (ap (number_by p) here ∙ held) others in
+    let same : p ≡ c.args.place = cc in
     cc (view, c.self.view_is, same)
