@@ -4,6 +4,7 @@ use space::numbers::{Addr12, Bank, Chan, Eras, Offset};
 use space::place::Linear;
 use space::resolve::{banks_of, resolve, window};
 use space::store::{Store, changed};
+use std::process::Abort;
 use words::Wide;
 
 /// An erasable place of a test.
@@ -97,6 +98,46 @@ fn changed_places(rt: HostRuntime) {
         assert_eq!(rt; places[0], first);
         assert_eq!(rt; places[1], second);
     }
+}
+
+#[test]
+fn changed_places_rise(rt: HostRuntime) {
+    let one = Store::zero();
+    let mut other = Store::zero();
+    let mut places = [0; 2048];
+    for place in [0o3777, 0o40, 0, 0o37] {
+        put(&mut other, eras(place), 0o12345);
+    }
+    assert_eq!(rt; changed(&one, &other, &mut places), 4);
+    assert_eq!(rt; places[0], 0);
+    assert_eq!(rt; places[1], 0o37);
+    assert_eq!(rt; places[2], 0o40);
+    assert_eq!(rt; places[3], 0o3777);
+}
+
+#[test]
+fn changed_place_of_each_lane(rt: HostRuntime) {
+    let one = Store::zero();
+    // places that are read one by one, and a chunk of lanes
+    for place in 0o10..0o100 {
+        only_place_that_differs(&rt, &one, place);
+    }
+    // the last chunk
+    for place in 0o3740..0o4000 {
+        only_place_that_differs(&rt, &one, place);
+    }
+}
+
+/// Whether a place that alone differs is handed over, whichever of the stores holds the greater word.
+fn only_place_that_differs(rt: &impl Abort, one: &Store, place: u16) {
+    let mut other = Store::zero();
+    let mut places = [0o7777; 2048];
+    put(&mut other, eras(place), 0o12345);
+    assert_eq!(rt; changed(one, &other, &mut places), 1, "at {place}");
+    assert_eq!(rt; places[0], place);
+    assert_eq!(rt; changed(&other, one, &mut places), 1, "at {place}");
+    assert_eq!(rt; places[0], place);
+    assert_eq!(rt; places[1], 0o7777, "past {place}");
 }
 
 #[test]

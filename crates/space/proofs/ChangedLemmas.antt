@@ -1,10 +1,11 @@
 -- The places that read differently, one place after another.
-use Rattle.std.proofs.Common.{◌≡◌, ℕ, ◌++◌, ◌+◌, ◌≤◌, ◌<◌, take, drop, set, length-set, length-append, Bool, true, false, cond, not, ◌==◌, eqb, List, [], ◌∷◌, filter, length, refl, sym, ap, ◌∙◌, arith}
+use Rattle.std.proofs.Common.{◌≡◌, ℕ, zero, suc, ◌++◌, ◌+◌, ◌/◌, ◌%◌, ◌^◌, ◌≤◌, ◌<◌, ◌≢◌, take, drop, set, length-set, length-append, Bool, true, false, cond, not, ◌==◌, eqb, List, [], ◌∷◌, filter, length, refl, sym, ap, ◌∙◌, arith}
 use Rattle.std.proofs.lemmas.List.{map-id, append-nil, take_more_set, drop-set-lt}
 use Rattle.std.proofs.lemmas.List.Elements.{filter-append}
 use Rattle.std.proofs.lemmas.List.FromFn.{map-range_with_len_more}
 use Rattle.std.specs.List.{range_with_len}
 use Rattle.std.proofs.lemmas.Grind.{drop_more_same}
+use Rattle.std.proofs.Math.Nat.{zero-div}
 use Rattle.space.specs.Cells.{Cells, get, changed_below, erasable_count}
 
 range_more : (a n : ℕ) → range_with_len a (n + 1) ≡ range_with_len a n ++ (a + n) ∷ []
@@ -75,3 +76,29 @@ HandsOver-unchanged s t n count old places before same = record {
   all = before.all ∙ ap length (sym (unchanged_here s t n same));
   rest = before.rest;
 }
+
+-- the bit that tells of a place whether it reads differently
+pub bit-differs : (b : Bool) (n : ℕ) → n ≡ cond b 0 1 → n ≡ 1 → not b ≡ true
+bit-differs true n bit set = absurd (omega arith)
+bit-differs false n bit set = refl
+
+pub bit-same : (b : Bool) (n : ℕ) → n ≡ cond b 0 1 → n ≢ 1 → not b ≡ false
+bit-same true n bit clear = refl
+bit-same false n bit clear = absurd (clear bit)
+
+pub HandsOver-at : (s t : Cells) (n m count : ℕ) (old places : List ℕ) → n ≡ m → HandsOver s t n count old places → HandsOver s t m count old places
+HandsOver-at s t n m count old places e before = rw (← e) before
+
+-- some places that read the same are passed over
+pub HandsOver-passed : (s t : Cells) (n count m : ℕ) (old places : List ℕ) → HandsOver s t n count old places → ((k : ℕ) → k < m → differs s t (n + k) ≡ false)
+    → HandsOver s t (n + m) count old places
+HandsOver-passed s t n count zero old places before same = HandsOver-at s t n (n + 0) count old places (omega arith) before
+HandsOver-passed s t n count (suc m) old places before same =
+    let passed = HandsOver-passed s t n count m old places before (λ k lt. same k (omega arith)) in
+    HandsOver-at s t (n + m + 1) (n + suc m) count old places (omega arith) (HandsOver-unchanged s t (n + m) count old places passed (same m (omega arith)))
+
+-- a mask with no bit tells that all places of a chunk read the same
+pub no-bits : (s t : Cells) (first mask : ℕ) → mask ≡ 0 → ((k : ℕ) → k < 32 → mask / 2 ^ k % 2 ≡ cond (get s (first + k) == get t (first + k)) 0 1) → (k : ℕ) → k < 32 → differs s t (first + k) ≡ false
+no-bits s t first mask none bits k lt =
+    let clear : mask / 2 ^ k % 2 ≡ 0 = ap (λ m. m / 2 ^ k % 2) none ∙ ap (λ m. m % 2) (zero-div (2 ^ k)) in
+    bit-same (get s (first + k) == get t (first + k)) (mask / 2 ^ k % 2) (bits k lt) (λ e. omega arith)

@@ -1,4 +1,5 @@
 mod CellLemmas
 mod ChangedLemmas
+mod LaneLemmas
 pub mod CellLaws
 pub mod ReadLaws

@@ -15,6 +15,10 @@ bank_count = 8
 abbrev pub bank_size : ℕ
 bank_size = 0o400
 
+-- how many words are compared at a time
+abbrev pub lane_count : ℕ
+lane_count = 0o40
+
 -- the number that the banks hold for a place
 abbrev pub banked : List (List ℕ) → ℕ → ℕ
 banked banks p = slice_index (slice_index_or banks (p / bank_size) []) (p % bank_size)

@@ -1,11 +1,14 @@
 //! The cells of the registers, erasable memory and the channels.
 
-ghost use Rattle.std.specs.Prelude.{◌≡◌, ℕ, ◌<◌, ◌≤◌, ◌≢◌, length, take, drop, slice_index, replicate, not, ◌==◌};
+ghost use Rattle.std.specs.Prelude.{◌≡◌, ℕ, ◌+◌, ◌/◌, ◌%◌, ◌^◌, ◌<◌, ◌≤◌, ◌≢◌, length, take, drop, slice_index, replicate, not, ◌==◌, if◌then◌else◌};
 ghost use Rattle.space.specs.Cells.{at, word_at, get, put, get_channel, put_channel, kept, kept_of_word, zero_cells, changed_places, superbank, accumulator, return_address, erasable_bank, fixed_bank, program_counter, both_banks, always_zero, lower_accumulator_channel, return_address_channel, channel_cell, erasable_count, channel_count};
-ghost use Rattle.space.specs.Stored.{cell_limit, register_count, bank_count, bank_size, banked};
+ghost use Rattle.space.specs.Stored.{cell_limit, register_count, lane_count};
 ghost use Rattle.words.specs.Numbers.{extend};
 ghost use Rattle.std.specs.FinMap.{insert};
 
+mod banks;
+
+use self::banks::{ErasableBanks, LANES, differing, number_in, set_in, zero_banks};
 use crate::numbers::{Addr12, Chan, Eras};
 use crate::place::Banks;
 use std::marker::Model;
@@ -17,11 +20,11 @@ const SUPERBANK_MASK: u16 = 0o160;
 /// How many places are registers: the first.
 const REGISTERS: u16 = 8;
 
+/// How many chunks of erasable memory are compared, the first of them place by place, the others by lanes.
+const CHUNKS: u16 = 64;
+
 /// The superbank bit in its channel.
 const SUPERBANK_BIT: u16 = 0o100;
-
-/// How many words stand in a bank of erasable memory.
-const BANK_SIZE: usize = 0o400;
 
 /// The registers, the eight banks of erasable memory, and the channels.
 ///
@@ -29,7 +32,7 @@ const BANK_SIZE: usize = 0o400;
 #[derive(Drop)]
 pub struct Store {
     registers: [u16; 8],
-    banks: [[u16; 256]; 8],
+    banks: ErasableBanks,
     channels: [u16; 512],
 }
 
@@ -170,6 +173,16 @@ impl Store {
         self.read(place) != other.read(place)
     }
 
+    /// Which of the places of a chunk read differently in the other store: bit k tells of the first place plus k.
+    fn differing(&self, other: &Store, first: u16) -> u64
+        requires registers { register_count ≤ first }
+        requires chunk { first % lane_count ≡ 0 }
+        requires last { first < erasable_count }
+        ensures { (k : ℕ) → k < lane_count → result / 2 ^ k % 2 ≡ (if get self.now (first + k) == get other.now (first + k) then 0 else 1) }
+    {
+        differing(&self.banks, &other.banks, first)
+    }
+
     /// What is read on a channel.
     #[tactic(auto, unfolding(crate::specs::Cells::get_channel))]
     pub fn channel(&self, channel: Chan) -> Wide
@@ -270,10 +283,22 @@ pub fn changed(one: &Store, other: &Store, places: &mut [u16; 2048]) -> usize
     ensures rest { drop result places.new ≡ drop result places.old }
 {
     let mut count = 0;
-    for number in 0..0o4000u16 {
+    for number in 0..LANES {
         if one.differs(other, Eras::new(number)) {
             places[count] = number;
             count += 1;
+        }
+    }
+    for chunk in 1..CHUNKS {
+        let first = chunk * LANES;
+        let differing = one.differing(other, first);
+        if differing != 0 {
+            for lane in 0..LANES {
+                if (differing >> lane) % 2 == 1 {
+                    places[count] = first + lane;
+                    count += 1;
+                }
+            }
         }
     }
     count
@@ -318,34 +343,6 @@ fn edited(place: Eras, word: Word) -> Word
     }
 }
 
-/// The number in the banks for a place.
-fn number_in(banks: &[[u16; 256]; 8], place: u16) -> u16
-    requires { place < erasable_count }
-    ensures { result ≡ banked banks.now place }
-{
-    let place = usize::from(place);
-    banks[place / BANK_SIZE][place % BANK_SIZE]
-}
-
-/// Puts a number into the banks for a place, and leaves the others.
-fn set_in(banks: &mut [[u16; 256]; 8], place: u16, number: u16)
-    requires { place < erasable_count }
-    ensures here { banked banks.new place ≡ number }
-    ensures others { (q : ℕ) → q ≢ place → banked banks.new q ≡ banked banks.old q }
-{
-    let place = usize::from(place);
-    set_word(&mut banks[place / BANK_SIZE], place % BANK_SIZE, number);
-}
-
-/// Puts a number at one place of a bank, and leaves the others.
-fn set_word(bank: &mut [u16; 256], index: usize, number: u16)
-    requires { index < bank_size }
-    ensures here { slice_index bank.new index ≡ number }
-    ensures others { (q : ℕ) → q ≢ index → slice_index bank.new q ≡ slice_index bank.old q }
-{
-    bank[index] = number;
-}
-
 /// Puts a number at one index, and leaves the others.
 fn set(numbers: &mut [u16], index: usize, number: u16)
     requires { index < length numbers.old }
@@ -367,12 +364,6 @@ fn zero_registers() -> [u16; 8]
     ensures { result ≡ replicate register_count 0 }
 {
     [0; 8]
-}
-
-fn zero_banks() -> [[u16; 256]; 8]
-    ensures { result ≡ replicate bank_count (replicate bank_size 0) }
-{
-    [[0; 256]; 8]
 }
 
 fn silent_channels() -> [u16; 512]
