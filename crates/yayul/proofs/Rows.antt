@@ -48,6 +48,12 @@ good =
     ∷ (codes " BANK 37;X OCT 0; BANK 40;Y OCT 0; BANK 30;Z OCT 0; SETLOC 4000; 2CADR X; 2CADR Y +1; 2CADR Z", 0 ∷ 0 ∷ 0 ∷ 0o02000 ∷ 0o76000 ∷ 0o02001 ∷ 0o60100 ∷ 0o02000 ∷ 0o60000 ∷ [])
     ∷ (codes " 2CADR 4000; 2CADR 7777; 2CADR +1", 0o04000 ∷ 0o04000 ∷ 0o07777 ∷ 0o06000 ∷ 0o04005 ∷ 0o04000 ∷ [])
     ∷ (codes " EBANK= 400; 2CADR 4000; EBANK= 3777; 2CADR 4000", 0o04000 ∷ 0o04001 ∷ 0o04000 ∷ 0o04007 ∷ [])
+    ∷ (codes " TC X; TCR X; TCF X; CA X; CAF X; CS X; AD X; MASK X; MSK X;X OCT 0", 0o04011 ∷ 0o04011 ∷ 0o14011 ∷ 0o34011 ∷ 0o34011 ∷ 0o44011 ∷ 0o64011 ∷ 0o74011 ∷ 0o74011 ∷ 0o00000 ∷ [])
+    ∷ (codes " CCS X; DAS X; LXCH X; INCR X; ADS X; CAE X; INDEX X; NDX X; DXCH X; TS X; XCH X;X EQUALS 100", 0o10100 ∷ 0o20101 ∷ 0o22100 ∷ 0o24100 ∷ 0o26100 ∷ 0o30100 ∷ 0o50100 ∷ 0o50100 ∷ 0o52101 ∷ 0o54100 ∷ 0o56100 ∷ [])
+    ∷ (codes " EXTEND; READ X; EXTEND; WRITE X; EXTEND; RAND X; EXTEND; WAND X; EXTEND; ROR X; EXTEND; WOR X; EXTEND; RXOR X;X EQUALS 100", 0o00006 ∷ 0o00100 ∷ 0o00006 ∷ 0o01100 ∷ 0o00006 ∷ 0o02100 ∷ 0o00006 ∷ 0o03100 ∷ 0o00006 ∷ 0o04100 ∷ 0o00006 ∷ 0o05100 ∷ 0o00006 ∷ 0o06100 ∷ [])
+    ∷ (codes " EXTEND; DV X; EXTEND; MSU X; EXTEND; QXCH X; EXTEND; AUG X; EXTEND; DIM X; EXTEND; DCA X; EXTEND; DCS X; EXTEND; SU X; EXTEND; MP X;X EQUALS 100", 0o00006 ∷ 0o10100 ∷ 0o00006 ∷ 0o20100 ∷ 0o00006 ∷ 0o22100 ∷ 0o00006 ∷ 0o24100 ∷ 0o00006 ∷ 0o26100 ∷ 0o00006 ∷ 0o30101 ∷ 0o00006 ∷ 0o40101 ∷ 0o00006 ∷ 0o60100 ∷ 0o00006 ∷ 0o70100 ∷ [])
+    ∷ (codes " EXTEND; BZF X; EXTEND; BZMF X; ADRES X; CADR X; FCADR X; 2CADR X;X OCT 0; ECADR Y;Y EQUALS 100", 0o00006 ∷ 0o14011 ∷ 0o00006 ∷ 0o64011 ∷ 0o04011 ∷ 0o04011 ∷ 0o04011 ∷ 0o04011 ∷ 0o04000 ∷ 0o00000 ∷ 0o00100 ∷ [])
+    ∷ (codes " XXALQ; XLQ; ZL; COM; DTCF; OVSK; TCAA; DOUBLE; EXTEND; ZQ; EXTEND; DCOM", 0o00000 ∷ 0o00001 ∷ 0o22007 ∷ 0o40000 ∷ 0o52005 ∷ 0o54000 ∷ 0o54005 ∷ 0o60000 ∷ 0o00006 ∷ 0o22007 ∷ 0o00006 ∷ 0o40001 ∷ [])
     ∷ []
 
 each_good : map {B = Bool × List ℕ} (λ row. (is_ok (program (source row.0)), map (λ p. p.word) (placed (source row.0)))) good ≡ map {B = Bool × List ℕ} (λ row. (true, row.1)) good
@@ -168,6 +174,11 @@ faulty =
     ∷ (codes " SETLOC 5777;Y OCT 1; SETLOC 4000; 2CADR Y +1", 4, OutOfRange)
     ∷ (codes " 2CADR NOSUCH", 1, Undefined)
     ∷ (codes " 2CADR", 1, BadOperand)
+    ∷ (codes " SETLOC 4000; CA NOSUCH; INDEX LAST;LAST OCT 1", 2, Undefined)
+    ∷ (codes " SETLOC 4000; CA NOSUCH; INDEX LAST;LAST OCT 1; FROB", 5, UnknownOperator)
+    ∷ (codes " CA X +1;X EQUALS 77777", 1, OutOfRange)
+    ∷ (codes " OCT 1; MP X; TS Y;X EQUALS 1;Y OCT 1", 2, NeedsExtend)
+    ∷ (codes " TS X; MP X;X OCT 1", 1, WrongKindOfAddress)
     ∷ []
 
 each_faulty : map (λ row. program (source row.0)) faulty ≡ map (λ row. Err (record { line = row.1; number = fault_number row.2 })) faulty

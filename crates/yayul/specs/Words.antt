@@ -79,7 +79,7 @@ extracode_of (Plain i) = i.extracode
 extracode_of (Addressed i operand) = i.extracode
 extracode_of _ = No
 
--- an extracode has to be in force, and must not be where a word is none
+-- the fault of an extracode where extracode is not in force, and of a word that is none where it is
 abbrev pub extracode_fault : Extracode → Bool → Option FaultKind
 extracode_fault No extracode = fault_if extracode NotExtracode
 extracode_fault Yes extracode = fault_if (not extracode) NeedsExtend
