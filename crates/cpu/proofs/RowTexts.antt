@@ -30,11 +30,19 @@ the_one p (x ∷ xs) (suc k) d one lt pass =
 abbrev pub row_at : Bool → ℕ → Row
 row_at extracode k = get_or (table extracode) k no_row
 
+-- how many low bits of a row's words are the operand
+abbrev pub row_bits : Bool → ℕ → ℕ
+row_bits extracode k = (row_at extracode k).bits
+
+-- the row's instruction of an operand, as text
+abbrev pub row_text : Bool → ℕ → ℕ → List ℕ
+row_text extracode k operand = instruction_text ((row_at extracode k).instruction operand)
+
 -- a word in the range of a row is shown as the row's instruction of its operand
 pub shown_by_row : (extracode : Bool) (k word operand : ℕ) → k < length (table extracode) → word < 2 ^ 15 → (row_at extracode k).least ≤ word → word ≤ (row_at extracode k).greatest
-    → word % 2 ^ (row_at extracode k).bits ≡ operand → disassembly extracode word ≡ instruction_text ((row_at extracode k).instruction operand)
+    → word % 2 ^ row_bits extracode k ≡ operand → disassembly extracode word ≡ row_text extracode k operand
 unfolding code_of rows_serving
 shown_by_row extracode k word operand few high least greatest is =
     let lies : serves word (row_at extracode k) ≡ true = grind (arith, nat_tests) in
     let found : find (serves word) (table extracode) ≡ Some (row_at extracode k) = the_one (serves word) (table extracode) k no_row (one_row extracode word high) few lies in
-    rw found (ap (λ (n : ℕ). instruction_text ((row_at extracode k).instruction n)) is)
+    rw found (ap (row_text extracode k) is)

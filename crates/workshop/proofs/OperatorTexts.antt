@@ -9,7 +9,7 @@ use Rattle.words.specs.Numerals.{octal_text}
 use Rattle.cpu.specs.Codes.{basic_rows, extracode_rows, table, code_of}
 use Rattle.cpu.specs.Effects.{first_of}
 use Rattle.cpu.specs.Texts.{instruction_text, disassembly}
-use Rattle.cpu.proofs.RowTexts.{row_at, shown_by_row}
+use Rattle.cpu.proofs.RowTexts.{row_at, row_bits, row_text, shown_by_row}
 use Rattle.yayul.specs.Layout.{and_then}
 use Rattle.yayul.specs.Operators.{operators}
 use Rattle.yayul.specs.Words.{accepted, address_of, address_below}
@@ -109,15 +109,15 @@ record Suits (extracode : Bool) (k least size : ℕ) (kind : Kind) : Type 0 wher
   few : k < length (table extracode)
   low : (row_at extracode k).least ≤ least + field_from kind
   high : least + field_to kind size ≤ (row_at extracode k).greatest + 1
-  room : field_to kind size ≤ 2 ^ (row_at extracode k).bits
-  whole : least / 2 ^ (row_at extracode k).bits * 2 ^ (row_at extracode k).bits ≡ least
+  room : field_to kind size ≤ 2 ^ row_bits extracode k
+  whole : least / 2 ^ row_bits extracode k * 2 ^ row_bits extracode k ≡ least
   most : (row_at extracode k).greatest < 2 ^ 15
 
 abbrev suits : Bool → ℕ → ℕ → ℕ → Kind → Bool
 suits extracode k least size kind =
     let r = row_at extracode k in
     ltb k (length (table extracode)) && (leb r.least (least + field_from kind) && (leb (least + field_to kind size) (r.greatest + 1)
-    && (leb (field_to kind size) (2 ^ r.bits) && (eqb (least / 2 ^ r.bits * 2 ^ r.bits) least && ltb r.greatest (2 ^ 15)))))
+    && (leb (field_to kind size) (2 ^ row_bits extracode k) && (eqb (least / 2 ^ row_bits extracode k * 2 ^ row_bits extracode k) least && ltb r.greatest (2 ^ 15)))))
 
 if_suits : (extracode : Bool) (k least size : ℕ) (kind : Kind) → suits extracode k least size kind ≡ true → Suits extracode k least size kind
 if_suits extracode k least size kind e =
@@ -145,17 +145,17 @@ first_of_next size n lt =
 
 -- the fields of a code are shown as the row has it
 field_text : (name : List ℕ) (extracode : Bool) (k least size f : ℕ) (kind : Kind) → Suits extracode k least size kind → field_from kind ≤ f → f < field_to kind size
-    → ((m : ℕ) → instruction_text ((row_at extracode k).instruction m) ≡ name ++ codes " " ++ shown_field kind size m)
+    → ((m : ℕ) → row_text extracode k m ≡ name ++ codes " " ++ shown_field kind size m)
     → disassembly extracode (least + f) ≡ name ++ codes " " ++ shown_field kind size f
 field_text name extracode k least size f kind s from to texts =
-    let m = 2 ^ (row_at extracode k).bits in
+    let m = 2 ^ row_bits extracode k in
     let part : (least / m * m + f) % m ≡ f = mod-mul-add (least / m) m f (omega (arith, s.room)) in
     let operand : (least + f) % m ≡ f = ap (λ (l : ℕ). (l + f) % m) (sym s.whole) ∙ part in
     shown_by_row extracode k (least + f) f s.few (omega arith) (omega arith) (omega arith) operand ∙ texts f
 
 -- the word of a code and a number is shown with the number
 number_text : (name : List ℕ) (extracode : Bool) (k least size n f : ℕ) (kind : Kind) → Suits extracode k least size kind
-    → ((m : ℕ) → instruction_text ((row_at extracode k).instruction m) ≡ name ++ codes " " ++ shown_field kind size m)
+    → ((m : ℕ) → row_text extracode k m ≡ name ++ codes " " ++ shown_field kind size m)
     → Holds kind size n f → disassembly extracode (least + f) ≡ name ++ codes " " ++ octal_text (digits kind) n
 number_text name extracode k least size n f Number s texts (lt, is) =
     field_text name extracode k least size f Number s (omega arith) (omega arith) texts ∙ ap (λ (m : ℕ). name ++ codes " " ++ octal_text 4 m) is
@@ -172,7 +172,7 @@ abbrev Gives : Kind → ℕ → ℕ → ℕ → ℕ → Type 0
 Gives kind least size n word = and_then (λ f. Ok ((least + f) ∷ [])) (field kind size n) ≡ Ok (word ∷ [])
 
 given_text : (name : List ℕ) (extracode : Bool) (k least size n word : ℕ) (kind : Kind) → Suits extracode k least size kind
-    → ((m : ℕ) → instruction_text ((row_at extracode k).instruction m) ≡ name ++ codes " " ++ shown_field kind size m)
+    → ((m : ℕ) → row_text extracode k m ≡ name ++ codes " " ++ shown_field kind size m)
     → Gives kind least size n word → disassembly extracode word ≡ name ++ codes " " ++ octal_text (digits kind) n
 given_text name extracode k least size n word kind s texts e =
     let h = then_ok {A = ℕ} {B = List ℕ} (λ f. Ok ((least + f) ∷ [])) (field kind size n) (word ∷ []) e in
@@ -184,10 +184,10 @@ abbrev basic_stands : Bool → Bool
 basic_stands extracode = not extracode
 
 abbrev extra_stands : Bool → Bool
-extra_stands extracode = not (not extracode) && true
+extra_stands extracode = extracode
 
 numbered_basic : (name : List ℕ) (k least size : ℕ) (kind : Kind) → suits false k least size kind ≡ true
-    → ((m : ℕ) → instruction_text ((row_at false k).instruction m) ≡ name ++ codes " " ++ shown_field kind size m)
+    → ((m : ℕ) → row_text false k m ≡ name ++ codes " " ++ shown_field kind size m)
     → IsShown name (λ extracode word. ⊥) (λ extracode n word. (basic_stands extracode ≡ true) × Gives kind least size n word) (digits kind)
 numbered_basic name k least size kind s texts = record {
   alone = λ extracode word no. absurd no;
@@ -199,7 +199,7 @@ numbered_basic name k least size kind s texts = record {
     at true n word given = absurd (let no = given.0 in cc)
 
 numbered_extra : (name : List ℕ) (k least size : ℕ) (kind : Kind) → suits true k least size kind ≡ true
-    → ((m : ℕ) → instruction_text ((row_at true k).instruction m) ≡ name ++ codes " " ++ shown_field kind size m)
+    → ((m : ℕ) → row_text true k m ≡ name ++ codes " " ++ shown_field kind size m)
     → IsShown name (λ extracode word. ⊥) (λ extracode n word. (extra_stands extracode ≡ true) × Gives kind least size n word) (digits kind)
 numbered_extra name k least size kind s texts = record {
   alone = λ extracode word no. absurd no;

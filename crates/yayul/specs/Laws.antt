@@ -1,10 +1,10 @@
 -- What the definitions of the source language come to.
-use Rattle.std.specs.Prelude.{◌≡◌, ℕ, ◌&&◌, not, Bool, true, List, [], ◌∷◌, filter, codes, Ok}
+use Rattle.std.specs.Prelude.{◌≡◌, ℕ, not, Bool, true, List, [], ◌∷◌, filter, codes, Ok}
 use Rattle.std.specs.List.{list_any}
 use Rattle.agc_text.specs.Tables.{same_name}
-use Rattle.yayul.specs.Operators.{operators, needs_extend, is_barred}
+use Rattle.yayul.specs.Operators.{operators}
 use Rattle.yayul.specs.Words.{addressed_word}
-use Rattle.yayul.specs.Language.{AddressedCode, Channel, Extracode, Num, Operator, Takes}
+use Rattle.yayul.specs.Language.{AddressedCode, Channel, Either, Extracode, No, Num, Operator, Takes, Yes}
 
 -- ## The words of instructions
 -- the operators whose words are addresses, and no instructions
@@ -17,7 +17,9 @@ instructions = filter (λ row. not (list_any (same_name row.0) address_operators
 
 -- an operator may stand where extracode is in force, or where it is not
 abbrev pub may_stand : Extracode → Bool → Bool
-may_stand e extracode = not (needs_extend e && not extracode) && not (is_barred e && extracode)
+may_stand No extracode = not extracode
+may_stand Yes extracode = extracode
+may_stand Either extracode = true
 
 -- an operator without an operand gives a word, where extracode is in force or is not
 abbrev pub GivesAlone : Operator → Bool → ℕ → Type 0
