@@ -359,7 +359,7 @@ static void make_call(int count, char **words, char **environment, struct outcom
 /* Judging */
 
 static const char *command;
-static int image_version, has_end, has_bank, has_twin;
+static int image_version, has_end, has_bank, has_case, has_twin;
 static uint64_t allowed;
 
 static int has_option(int count, char **words, const char *option)
@@ -561,7 +561,8 @@ static void find_files(int count, char **words)
     has_end = has_option(count, words, "--end");
     has_twin = has_option(count, words, "twin");
     has_bank = strcmp(command, "words") == 0 && strcmp(words[count - 1], "case") != 0;
-    if (has_option(count, words, "case")) call.files[call.file_count++].path = "case";
+    has_case = has_option(count, words, "case");
+    if (has_case) call.files[call.file_count++].path = "case";
     if (has_twin) call.files[call.file_count++].path = "twin";
     for (int at = 2; at < count && call.file_count < MOST_FILES; at++) {
         struct text text = read_file(words[at]);
@@ -674,44 +675,77 @@ static void tell_all(void)
     fflush(stdout);
 }
 
-static int try_all(int count, char **words, char **environment)
+static struct {
+    const char *seed;
+    int kind, has_failures, is_told;
+    uint64_t first, last, step;
+    struct text sound[MOST_SOUND];
+    size_t sounds;
+} given;
+
+static uint64_t number_set(const char *name)
 {
-    static struct text sound[MOST_SOUND];
-    static unsigned char bytes[MOST_BYTES];
-    static unsigned char twin[MOST_BYTES];
-    struct outcome plain = {.out = __libc_malloc(MOST_OUT), .made = __libc_malloc(MOST_OUT)}, failed = {.out = __libc_malloc(MOST_OUT), .made = __libc_malloc(MOST_OUT)};
-    const char *seed = setting("HOSTILE_SEED");
-    int kind = atoi(setting("HOSTILE_KIND")), has_failures = getenv("HOSTILE_FAILURES") != NULL, is_told = getenv("HOSTILE_TELL") != NULL;
-    uint64_t last = strtoull(setting("HOSTILE_LAST"), NULL, 10), step = strtoull(setting("HOSTILE_STEP"), NULL, 10);
-    size_t sounds = read_sound(sound);
+    return strtoull(setting(name), NULL, 10);
+}
+
+static void read_settings(void)
+{
+    given.seed = setting("HOSTILE_SEED");
+    given.kind = (int)number_set("HOSTILE_KIND");
+    given.first = number_set("HOSTILE_FIRST");
+    given.step = number_set("HOSTILE_STEP");
+    given.last = number_set("HOSTILE_LAST");
+    given.has_failures = getenv("HOSTILE_FAILURES") != NULL;
+    given.is_told = getenv("HOSTILE_TELL") != NULL;
+    given.sounds = read_sound(given.sound);
     char *refusals = strdup(setting("HOSTILE_REFUSALS")), *rest = refusals;
     for (char *refusal; (refusal = strsep(&rest, ","));) allowed |= *refusal ? 1ull << atoi(refusal) : 0;
-    find_files(count, words);
+    free(refusals);
     struct text input = read_file(setting("HOSTILE_INPUT"));
     call.standard_input = (struct file){"", input.bytes, input.length, 0};
+}
+
+/* Sets up the files of a case, and by how many bytes they are read and written at a time; answers how many bytes the case has. */
+static size_t set_case(uint64_t number)
+{
+    static unsigned char bytes[MOST_BYTES], twin[MOST_BYTES];
+    struct file *file = has_case ? &call.files[0] : &call.standard_input;
+    file->bytes = bytes;
+    file->length = make_case(given.seed, given.kind, number, given.sound, given.sounds, bytes);
+    if (has_twin) {
+        memcpy(twin, bytes, file->length);
+        call.files[1].bytes = twin;
+        call.files[1].length = make_twin(given.seed, given.kind, number, twin, file->length);
+    }
+    call.most_read = mixed(number + 3, 4) ? SIZE_MAX : 1 + mixed(number + 4, given.kind == IMAGE ? 4096 : 16);
+    call.most_written = mixed(number + 5, 8) ? SIZE_MAX : 1 + mixed(number + 6, 4096);
+    return file->length;
+}
+
+static void try_case(int count, char **words, char **environment, uint64_t number)
+{
+    static unsigned char room[4][MOST_OUT];
+    static struct outcome plain = {.out = room[0], .made = room[1]}, failed = {.out = room[2], .made = room[3]};
+    size_t length = set_case(number);
+    long processor = microseconds(CLOCK_PROCESS_CPUTIME_ID), wall = microseconds(CLOCK_MONOTONIC);
+    make_call(count, words, environment, &plain, NONE, 0);
+    count_answer(number, &plain, time_since(processor, wall));
+    const char *why = judge(&plain, given.kind, length);
+    if (why) tell_wrong(number, why, &plain);
+    if (given.is_told) tell_answer(number, &plain);
+    if (given.has_failures) try_failure(count, words, environment, number, &plain, &failed);
+}
+
+static int try_all(int count, char **words, char **environment)
+{
+    read_settings();
+    find_files(count, words);
     start_watching();
     arena.start = arena.high = mmap(NULL, ARENA_BYTES, PROT_READ | PROT_WRITE, MAP_PRIVATE | MAP_ANONYMOUS | MAP_NORESERVE, -1, 0);
     dl_iterate_phdr(find_variables, NULL);
-    int has_case_file = call.file_count > 0 && strcmp(call.files[0].path, "case") == 0;
-    struct file *file = has_case_file ? &call.files[0] : &call.standard_input;
-    for (uint64_t number = strtoull(setting("HOSTILE_FIRST"), NULL, 10); number < last && told.wrong < MOST_WRONG; number += step) {
+    for (uint64_t number = given.first; number < given.last && told.wrong < MOST_WRONG; number += given.step) {
         *progress = number;
-        file->length = make_case(seed, kind, number, sound, sounds, bytes);
-        file->bytes = bytes;
-        if (has_twin) {
-            memcpy(twin, bytes, file->length);
-            call.files[1].length = make_twin(seed, kind, number, twin, file->length);
-            call.files[1].bytes = twin;
-        }
-        call.most_read = mixed(number + 3, 4) ? SIZE_MAX : 1 + mixed(number + 4, kind == IMAGE ? 4096 : 16);
-        call.most_written = mixed(number + 5, 8) ? SIZE_MAX : 1 + mixed(number + 6, 4096);
-        long processor = microseconds(CLOCK_PROCESS_CPUTIME_ID), wall = microseconds(CLOCK_MONOTONIC);
-        make_call(count, words, environment, &plain, NONE, 0);
-        count_answer(number, &plain, time_since(processor, wall));
-        const char *why = judge(&plain, kind, file->length);
-        if (why) tell_wrong(number, why, &plain);
-        if (is_told) tell_answer(number, &plain);
-        if (has_failures) try_failure(count, words, environment, number, &plain, &failed);
+        try_case(count, words, environment, number);
     }
     tell_all();
     return told.wrong > 0;
