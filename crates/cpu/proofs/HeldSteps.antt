@@ -9,10 +9,10 @@ use Rattle.feed.specs.declared.input.Input.TheVariants.{Count, Word}
 use Rattle.space.specs.Cells.{put, get}
 use Rattle.space.specs.declared.place.Linear.{Linear}
 use Rattle.space.specs.declared.place.Linear.TheVariants.{Fixed}
-use Rattle.cpu.specs.declared.instruction.Code.{Code}
 use Rattle.cpu.specs.declared.instruction.Instruction.{Instruction}
 use Rattle.cpu.specs.declared.instruction.Instruction.TheVariants.{Extend, Tcf, Ca, Ad, Write}
 use Rattle.cpu.specs.declared.output.Output.{Output}
+use Rattle.cpu.specs.Codes.{Code}
 use Rattle.cpu.specs.State.{State}
 use Rattle.cpu.specs.Effects.{value_at, after, ca, ad, tcf, write, edits, changes, change}
 use Rattle.cpu.specs.Effects.Change.{AtPlace, OnChannel}
@@ -54,23 +54,23 @@ fetched-state h =
     (λ i. record (state h) { cells = put (holding h.cells) 5 ((get-holding h.cells 5 i + 1) % 0o10000) })
     ∙ put-state h 5 ((z_held h + 1) % 0o10000)
 
-abbrev code : Instruction → ℕ → ℕ → Code
-code instruction cycles jump = record { instruction = instruction; cycles = cycles; jump_cycles = jump }
+abbrev code : Instruction → ℕ → Code
+code instruction operand = record { instruction = instruction; operand = operand }
 
 -- what executing gives after the fetch
 abbrev execute_fetched : List Placed → Code → State → State × Option Output
-execute_fetched ps c s = let t = executed (rope ps) s c in (t, output_on t (written_channel c.instruction))
+execute_fetched ps c s = let t = executed (rope ps) s c in (t, output_on t (written_channel c))
 
 -- EXTEND
-pub extends : (ps : List Placed) (h : Held) → execute_code (rope ps) (state h) (code Extend 1 1) ≡ (state (ended (fetch h) true 1), None)
+pub extends : (ps : List Placed) (h : Held) → execute_code (rope ps) (state h) (code Extend 0) ≡ (state (ended (fetch h) true 1), None)
 unfolding executed after
-extends ps h = ap (execute_fetched ps (code Extend 1 1)) (fetched-state h)
+extends ps h = ap (execute_fetched ps (code Extend 0)) (fetched-state h)
 
 -- TCF
-pub jumps_to : (ps : List Placed) (h : Held) (k : ℕ) → execute_code (rope ps) (state h) (code (Tcf k) 1 1) ≡ (state (ended (stored (fetch h) 5 k) false 1), None)
+pub jumps_to : (ps : List Placed) (h : Held) (k : ℕ) → execute_code (rope ps) (state h) (code Tcf k) ≡ (state (ended (stored (fetch h) 5 k) false 1), None)
 unfolding executed after tcf
 jumps_to ps h k =
-    ap (execute_fetched ps (code (Tcf k) 1 1)) (fetched-state h)
+    ap (execute_fetched ps (code Tcf k)) (fetched-state h)
     ∙ ap (λ (s : State). (record s { extra = false; cycles = h.cycles + 1 }, None)) (put-state (fetch h) 5 k)
 
 -- CA of a word in fixed memory
@@ -87,10 +87,10 @@ load-fixed ps h bank offset =
     ∙ put-state (fetch h) 0 (extend (word_placed ps bank offset))
 
 pub loads : (ps : List Placed) (h : Held) (k bank offset : ℕ) → place_held (fetch h) k ≡ Fixed bank offset
-    → execute_code (rope ps) (state h) (code (Ca k) 2 2) ≡ (state (ended (loaded ps h bank offset) false 2), None)
+    → execute_code (rope ps) (state h) (code Ca k) ≡ (state (ended (loaded ps h bank offset) false 2), None)
 unfolding executed after ca load
 loads ps h k bank offset e =
-    ap (execute_fetched ps (code (Ca k) 2 2)) (fetched-state h)
+    ap (execute_fetched ps (code Ca k)) (fetched-state h)
     ∙ ap (λ (s : State). (record s { extra = false; cycles = h.cycles + 2 }, None))
     (ap (λ l. load ps l (state (fetch h))) (place_in-held (fetch h) k ∙ e) ∙ load-fixed ps h bank offset)
 
@@ -108,10 +108,10 @@ add-fixed ps h bank offset =
     ∙ put-state (fetch h) 0 (sum (get_held (fetch h).cells 0) (extend (word_placed ps bank offset)))
 
 pub adds : (ps : List Placed) (h : Held) (k bank offset : ℕ) → place_held (fetch h) k ≡ Fixed bank offset
-    → execute_code (rope ps) (state h) (code (Ad k) 2 2) ≡ (state (ended (added ps h bank offset) false 2), None)
+    → execute_code (rope ps) (state h) (code Ad k) ≡ (state (ended (added ps h bank offset) false 2), None)
 unfolding executed after ad add
 adds ps h k bank offset e =
-    ap (execute_fetched ps (code (Ad k) 2 2)) (fetched-state h)
+    ap (execute_fetched ps (code Ad k)) (fetched-state h)
     ∙ ap (λ (s : State). (record s { extra = false; cycles = h.cycles + 2 }, None))
     (ap (λ l. add ps l (state (fetch h))) (place_in-held (fetch h) k ∙ e) ∙ add-fixed ps h bank offset)
 
@@ -120,11 +120,11 @@ abbrev written : Held → ℕ → Held
 written h n = ended (sent (fetch h) n (get_held (fetch h).cells 0)) false 2
 
 pub writes : (ps : List Placed) (h : Held) (n : ℕ)
-    → execute_code (rope ps) (state h) (code (Write n) 2 2)
+    → execute_code (rope ps) (state h) (code Write n)
     ≡ (state (written h n), output_on (state (written h n)) (Some n))
 unfolding executed after write
 writes ps h n =
-    ap (execute_fetched ps (code (Write n) 2 2)) (fetched-state h)
+    ap (execute_fetched ps (code Write n)) (fetched-state h)
     ∙ ap (λ (s : State). let t : State = record s { extra = false; cycles = h.cycles + 2 } in (t, output_on t (Some n)))
     (ap (λ x. change (state (fetch h)) (OnChannel n x)) (get-holding (fetch h).cells 0) ∙ put_channel-state (fetch h) n (get_held (fetch h).cells 0))
 

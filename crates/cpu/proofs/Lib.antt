@@ -6,6 +6,7 @@ mod ChangeLaws
 mod BitLaws
 pub mod RowLaws
 pub mod RowTexts
+mod EntryLaws
 mod RequestLemmas
 pub mod Holding
 pub mod Held

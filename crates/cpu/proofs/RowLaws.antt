@@ -2,23 +2,23 @@
 use Rattle.std.proofs.Common.{◌≡◌, ◌≤◌, ◌<◌, ◌+◌, ◌^◌, ℕ, List, [], ◌∷◌, Bool, true, false, refl, arith, ◌&&◌, eqb, leb, filter, length, ⊎_elim}
 use Rattle.std.proofs.lemmas.Bool.{leb-true, eqb-true, cases_lt}
 use Rattle.std.proofs.lemmas.Bool.Decides.{nat_tests}
-use Rattle.cpu.specs.Codes.{Row, basic_rows, extracode_rows, serves, rows_serving}
+use Rattle.cpu.specs.Codes.{Range, basic_rows, extracode_rows, serves, rows_serving}
 
 -- rows that follow one another from a number to the greatest word
-abbrev tiles : ℕ → List Row → Bool
+abbrev tiles : ℕ → List Range → Bool
 tiles from [] = eqb from (2 ^ 15)
 tiles from (r ∷ rs) = eqb r.least from && (leb from r.greatest && tiles (r.greatest + 1) rs)
 
-first_part : (b c : Bool) → (b && c) ≡ true → b ≡ true
+pub first_part : (b c : Bool) → (b && c) ≡ true → b ≡ true
 first_part true c e = refl
 first_part false c e = e
 
-second_part : (b c : Bool) → (b && c) ≡ true → c ≡ true
+pub second_part : (b c : Bool) → (b && c) ≡ true → c ≡ true
 second_part true c e = e
 second_part false c e = absurd (cc)
 
 -- rows further on serve no word
-none : (from : ℕ) (rs : List Row) (word : ℕ) → tiles from rs ≡ true → word < from → length (filter (serves word) rs) ≡ 0
+none : (from : ℕ) (rs : List Range) (word : ℕ) → tiles from rs ≡ true → word < from → length (filter (serves word) rs) ≡ 0
 none from [] word t lt = refl
 none from (r ∷ rs) word t lt =
     let least : eqb r.least from ≡ true = first_part _ _ t in
@@ -32,7 +32,7 @@ none from (r ∷ rs) word t lt =
     rw no later
 
 -- rows from below a word serve it once
-one : (from : ℕ) (rs : List Row) (word : ℕ) → tiles from rs ≡ true → from ≤ word → word < 2 ^ 15
+one : (from : ℕ) (rs : List Range) (word : ℕ) → tiles from rs ≡ true → from ≤ word → word < 2 ^ 15
     → length (filter (serves word) rs) ≡ 1
 one from [] word t low high = let at : from ≡ 2 ^ 15 = eqb-true _ _ t in absurd (omega arith)
 one from (r ∷ rs) word t low high =

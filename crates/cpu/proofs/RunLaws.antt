@@ -1,9 +1,6 @@
 -- The reference run, step by step.
-use Rattle.std.proofs.Common.{◌≡◌, ◌≤◌, ◌<◌, ◌+◌, ◌*◌, ◌^◌, ◌++◌, ℕ, zero, suc, List, [], ◌∷◌, Bool, true, false, cond, Option, Some, None, refl, arith, add-one, ◌∙◌, find, ◌&&◌, inl, inr, ◌⊎◌}
-use Rattle.std.specs.Prelude.{nat_le, unwrap_or}
+use Rattle.std.proofs.Common.{◌≡◌, ◌≤◌, ◌<◌, ◌+◌, ◌*◌, ◌^◌, ◌++◌, ℕ, zero, suc, List, [], ◌∷◌, Bool, true, false, cond, Option, Some, None, refl, arith, add-one, ◌∙◌, inl, inr, ◌⊎◌}
 use Rattle.std.specs.Option.{option_to_list}
-use Rattle.std.specs.List.{list_all}
-use Rattle.std.proofs.lemmas.Bool.{leb-true}
 use Rattle.words.specs.declared.counters.Carry.{Carry}
 use Rattle.words.specs.declared.counters.Carry.TheVariants.{No, Plus, Minus, ShiftedOut}
 use Rattle.rope.specs.Places.{Words}
@@ -17,8 +14,8 @@ use Rattle.cpu.specs.Effects.{Change, change, changes, after, dxch}
 use Rattle.cpu.specs.Effects.Change.{AtPlace, OnChannel, Inhibits, Serves, WaitsWithSum, WaitsWithWord}
 use Rattle.cpu.specs.declared.instruction.Instruction.{Instruction}
 use Rattle.cpu.specs.declared.instruction.Instruction.TheVariants.{Extend, Edrupt}
-use Rattle.cpu.specs.Codes.{Row, no_row, basic_rows, extracode_rows, table, serves, code_of}
-use Rattle.cpu.specs.Next.{fetched, jumps, executed, execute, instruction_word, entry, entered, next_by, next, most_cycles}
+use Rattle.cpu.specs.Codes.{row_of, code_of}
+use Rattle.cpu.specs.Next.{fetched, jumps, jump_cycles, executed, execute, instruction_word, entry, entered, next_by, next, most_cycles}
 use Rattle.cpu.specs.Inputs.{take, input_effect, input_cycles, counted, received, asked, asked_after, asked_on, carried, carries_into, stepped, step_of, count_of}
 use Rattle.cpu.specs.Run.{run, out, outs}
 
@@ -55,43 +52,15 @@ cycles-changes : (s : State) (cs : List Change) → (changes s cs).cycles ≡ s.
 cycles-changes s [] = refl
 cycles-changes s (c ∷ cs) = cycles-changes (change s c) cs ∙ cycles-change s c
 
--- no code takes more than six cycles, also where it jumps
-few_cycles : Row → Bool
-few_cycles r = nat_le r.cycles 6 && nat_le r.jump_cycles 6
+-- no instruction takes more than six cycles
+few-row : (instruction : Instruction) → (row_of instruction).cycles ≤ 6
+few-row instruction = search (arith)
 
-kept_here : (b c : Bool) → (b && c) ≡ true → b ≡ true
-kept_here true c e = refl
-kept_here false c e = e
-
-kept_later : (b c : Bool) → (b && c) ≡ true → c ≡ true
-kept_later true c e = e
-kept_later false c e = absurd (cc)
-
-row-find : (p : Row → Bool) (rs : List Row) → list_all few_cycles rs ≡ true → few_cycles (unwrap_or (find p rs) no_row) ≡ true
-unfolding few_cycles
-row-find p [] few = refl
-row-find p (r ∷ rs) few =
-    elim (p r) as (λ b. few_cycles (unwrap_or (cond b (Some r) (find p rs)) no_row) ≡ true) [
-      | true ↦ kept_here _ _ few
-      | false ↦ row-find p rs (kept_later _ _ few)
-    ]
-
-few_cycles_all : (extracode : Bool) → list_all few_cycles (table extracode) ≡ true
-unfolding basic_rows extracode_rows few_cycles
-few_cycles_all false = refl
-few_cycles_all true = refl
-
-few-code_of : (extracode : Bool) (word : ℕ) → ((code_of extracode word).cycles ≤ 6) × ((code_of extracode word).jump_cycles ≤ 6)
-unfolding code_of few_cycles
-few-code_of extracode word =
-    let f = row-find (serves word) (table extracode) (few_cycles_all extracode) in
-    (leb-true _ _ (kept_here _ _ f), leb-true _ _ (kept_later _ _ f))
-
-cycles-after : (rope : Words) (s : State) (instruction : Instruction) → (after rope s instruction).cycles ≡ s.cycles
+cycles-after : (rope : Words) (s : State) (instruction : Instruction) (k : ℕ) → (after rope s instruction k).cycles ≡ s.cycles
 unfolding after dxch
-cycles-after rope s Extend = refl
-cycles-after rope s (Edrupt n) = refl
-cycles-after rope s instruction = search (cycles-changes)
+cycles-after rope s Extend k = refl
+cycles-after rope s Edrupt k = refl
+cycles-after rope s instruction k = search (cycles-changes)
 
 cycles-either : (b : Bool) (m n : ℕ) → m ≤ 6 → n ≤ 6 → cond b m n ≤ 6
 cycles-either true m n p q = p
@@ -101,8 +70,8 @@ cycles-execute : (rope : Words) (s : State) → (execute rope s).0.cycles ≤ s.
 unfolding execute executed fetched
 cycles-execute rope s =
     let code = code_of s.extra (instruction_word rope s) in
-    let few = few-code_of s.extra (instruction_word rope s) in
-    let most = cycles-either (jumps (fetched s) code.instruction) code.jump_cycles code.cycles few.1 few.0 in
+    let few = few-row code.instruction in
+    let most = cycles-either (jumps (fetched s) code.instruction) jump_cycles (row_of code.instruction).cycles (omega arith) few in
     omega (arith, most)
 
 cycles-asked : (s : State) (o : Option ℕ) → (asked s o).cycles ≡ s.cycles

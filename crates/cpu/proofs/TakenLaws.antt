@@ -45,11 +45,11 @@ account-changes : (s : State) (cs : List Change) → account (changes s cs) ≡ 
 account-changes s [] = refl
 account-changes s (c ∷ cs) = account-changes (change s c) cs ∙ account-change s c
 
-account-after : (rope : Words) (s : State) (instruction : Instruction) → account (after rope s instruction) ≡ account s
+account-after : (rope : Words) (s : State) (instruction : Instruction) (k : ℕ) → account (after rope s instruction k) ≡ account s
 unfolding after dxch
-account-after rope s Extend = refl
-account-after rope s (Edrupt n) = refl
-account-after rope s instruction = search (account-changes)
+account-after rope s Extend k = refl
+account-after rope s Edrupt k = refl
+account-after rope s instruction k = search (account-changes)
 
 account-asked : (s : State) (o : Option ℕ) → account (asked s o) ≡ account s
 account-asked s None = refl
@@ -79,7 +79,7 @@ account-take s given = account-effect (counted_in s given) given.0
 account-next_by : (rope : Words) (s : State) (o : Option ℕ) → account (next_by rope s None o).0 ≡ account s
 unfolding entered execute executed fetched
 account-next_by rope s (Some k) = refl
-account-next_by rope s None = account-after rope _ _
+account-next_by rope s None = account-after rope _ _ _
 
 fits-by : (scenario : Scenario) (s t : State) → account t ≡ account s → FitsRun scenario s → FitsRun scenario t
 fits-by scenario s t e f = subst (λ (a : ℕ × List ℕ). Fits scenario.inputs a.0 a.1) (sym e) f

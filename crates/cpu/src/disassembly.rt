@@ -1,15 +1,15 @@
 //! Instructions as text.
 
-ghost use Rattle.std.specs.Prelude.{◌≡◌, ◌≤◌, ◌<◌, ◌^◌, ◌++◌, length, codes};
-ghost use Rattle.words.specs.Numerals.{octal_text};
-ghost use Rattle.cpu.specs.Codes.{rows_serving};
+ghost use Rattle.std.specs.Prelude.{◌≡◌, ◌+◌, ◌≤◌, ◌%◌, ◌^◌, ◌++◌};
+ghost use Rattle.arrayvec.specs.ArrayVec.{array_vec_len};
+ghost use Rattle.cpu.specs.Codes.{rows_serving, bits};
 ghost use Rattle.cpu.specs.Next.{extracode_after};
-ghost use Rattle.cpu.specs.Texts.{with_address, numbered, instruction_text, disassembly};
+ghost use Rattle.cpu.specs.Texts.{address_text, channel_text, operand_text, operand_width, disassembly};
 
-use crate::address::before;
+use crate::address::{Addr10, address_of_word, before, channel_of_word};
 use crate::dispatch::decode;
 use crate::execute::extra_after;
-use crate::instruction::Instruction;
+use crate::instruction::Operand;
 use arrayvec::ArrayVec;
 use words::{Word, push_all, push_octal};
 
@@ -18,12 +18,17 @@ const MOST_TEXT: usize = 10;
 
 /// The instruction that a word is, under extracode or not, as text: its name, and after a blank its address in four octal
 /// digits or its channel in three. Each word lies in exactly one row of each code table.
-#[tactic(auto, using(crate::proofs::RowLaws::one_row))]
+#[tactic(auto, using(crate::proofs::RowLaws::one_row), unfolding(crate::specs::Texts::instruction_text))]
 pub fn disassemble(word: Word, extra: bool) -> ArrayVec<u8, 10>
     ensures text { result.items ≡ disassembly extra word }
     ensures row { rows_serving extra word ≡ 1 }
 {
-    instruction_text(&decode(word.to_u16(), extra).instruction)
+    let number = word.to_u16();
+    let row = decode(number, extra).row();
+    let mut text = ArrayVec::new();
+    push_all(&mut text, row.name);
+    push_operand(&mut text, row.operand, number);
+    text
 }
 
 /// Whether a word, under extracode or not, puts extracode in force for the word after it: EXTEND does, and INDEX under
@@ -31,83 +36,36 @@ pub fn disassemble(word: Word, extra: bool) -> ArrayVec<u8, 10>
 pub fn extracode_after(word: Word, extra: bool) -> bool
     ensures { result ≡ extracode_after extra word }
 {
-    extra_after(&decode(word.to_u16(), extra).instruction, extra)
+    extra_after(decode(word.to_u16(), extra), extra)
 }
 
-/// An instruction as text.
-#[tactic(auto, unfolding(crate::specs::Texts::instruction_text))]
-fn instruction_text(instruction: &Instruction) -> ArrayVec<u8, MOST_TEXT>
-    ensures { result.items ≡ instruction_text instruction.now }
+/// Appends the operand in a word.
+fn push_operand(text: &mut ArrayVec<u8, MOST_TEXT>, operand: Operand, word: u16)
+    requires { array_vec_len text.old + operand_width operand ≤ 10 }
+    ensures { text.new.items ≡ text.old.items ++ operand_text operand (word % 2 ^ bits operand) }
 {
-    match *instruction {
-        Instruction::Relint => name(b"RELINT"),
-        Instruction::Inhint => name(b"INHINT"),
-        Instruction::Extend => name(b"EXTEND"),
-        Instruction::Resume => name(b"RESUME"),
-        Instruction::Tc(address) => with_address(b"TC", address.number()),
-        Instruction::Ccs(address) => with_address(b"CCS", address.number()),
-        Instruction::Tcf(address) => with_address(b"TCF", address.number()),
-        Instruction::Das(address) => with_address(b"DAS", address.before().number()),
-        Instruction::Lxch(address) => with_address(b"LXCH", address.number()),
-        Instruction::Incr(address) => with_address(b"INCR", address.number()),
-        Instruction::Ads(address) => with_address(b"ADS", address.number()),
-        Instruction::Ca(address) => with_address(b"CA", address.number()),
-        Instruction::Cs(address) => with_address(b"CS", address.number()),
-        Instruction::Index(address) => with_address(b"INDEX", address.number()),
-        Instruction::Dxch(address) => with_address(b"DXCH", address.before().number()),
-        Instruction::Ts(address) => with_address(b"TS", address.number()),
-        Instruction::Xch(address) => with_address(b"XCH", address.number()),
-        Instruction::Ad(address) => with_address(b"AD", address.number()),
-        Instruction::Mask(address) => with_address(b"MASK", address.number()),
-        Instruction::Read(channel) => numbered(b"READ", channel.number()),
-        Instruction::Write(channel) => numbered(b"WRITE", channel.number()),
-        Instruction::Rand(channel) => numbered(b"RAND", channel.number()),
-        Instruction::Wand(channel) => numbered(b"WAND", channel.number()),
-        Instruction::Ror(channel) => numbered(b"ROR", channel.number()),
-        Instruction::Wor(channel) => numbered(b"WOR", channel.number()),
-        Instruction::Rxor(channel) => numbered(b"RXOR", channel.number()),
-        Instruction::Edrupt(channel) => numbered(b"EDRUPT", channel.number()),
-        Instruction::Dv(address) => with_address(b"DV", address.number()),
-        Instruction::Bzf(address) => with_address(b"BZF", address.number()),
-        Instruction::Msu(address) => with_address(b"MSU", address.number()),
-        Instruction::Qxch(address) => with_address(b"QXCH", address.number()),
-        Instruction::Aug(address) => with_address(b"AUG", address.number()),
-        Instruction::Dim(address) => with_address(b"DIM", address.number()),
-        Instruction::Dca(address) => with_address(b"DCA", before(address).number()),
-        Instruction::Dcs(address) => with_address(b"DCS", before(address).number()),
-        Instruction::Su(address) => with_address(b"SU", address.number()),
-        Instruction::Bzmf(address) => with_address(b"BZMF", address.number()),
-        Instruction::Mp(address) => with_address(b"MP", address.number()),
+    match operand {
+        Operand::Nothing => {}
+        Operand::Short => push_address(text, Addr10::of_word(word).number()),
+        Operand::Long => push_address(text, address_of_word(word).number()),
+        Operand::ShortPair => push_address(text, Addr10::of_word(word).before().number()),
+        Operand::LongPair => push_address(text, before(address_of_word(word)).number()),
+        Operand::Channel => push_channel(text, channel_of_word(word).number()),
     }
 }
 
-fn name(text: &[u8]) -> ArrayVec<u8, MOST_TEXT>
-    requires { length text.now ≤ 6 }
-    ensures { result.items ≡ text.now }
+fn push_address(text: &mut ArrayVec<u8, MOST_TEXT>, address: u16)
+    requires { array_vec_len text.old + 5 ≤ 10 }
+    ensures { text.new.items ≡ text.old.items ++ address_text address }
 {
-    let mut line = ArrayVec::new();
-    push_all(&mut line, text);
-    line
+    push_all(text, b" ");
+    push_octal(text, 4, address);
 }
 
-/// A name with an address.
-fn with_address(text: &[u8], address: u16) -> ArrayVec<u8, MOST_TEXT>
-    requires { length text.now ≤ 5 }
-    ensures { result.items ≡ with_address text.now address }
+fn push_channel(text: &mut ArrayVec<u8, MOST_TEXT>, channel: u16)
+    requires { array_vec_len text.old + 4 ≤ 10 }
+    ensures { text.new.items ≡ text.old.items ++ channel_text channel }
 {
-    let mut line = name(text);
-    push_all(&mut line, b" ");
-    push_octal(&mut line, 4, address);
-    line
-}
-
-/// A name with a channel.
-fn numbered(text: &[u8], channel: u16) -> ArrayVec<u8, MOST_TEXT>
-    requires { length text.now ≤ 6 }
-    ensures { result.items ≡ numbered text.now channel }
-{
-    let mut line = name(text);
-    push_all(&mut line, b" ");
-    push_octal(&mut line, 3, channel);
-    line
+    push_all(text, b" ");
+    push_octal(text, 3, channel);
 }

@@ -1,11 +1,13 @@
 //! Executing one instruction, and entering an interrupt.
 
 ghost use Rattle.std.specs.Prelude.{◌≡◌, ◌+◌, ◌*◌, ◌%◌, ◌^◌, ◌≤◌, Some, None, true, false};
+ghost use Rattle.cpu.specs.Codes.{operand_of};
 ghost use Rattle.cpu.specs.Effects.{after};
-ghost use Rattle.cpu.specs.Next.{following_address, word_at_z, instruction_word, fetched, extra_after, written_channel, output_on, cycles_of, jumps, entry, entered, execute, most_cycles};
+ghost use Rattle.cpu.specs.Next.{following_address, word_at_z, instruction_word, fetched, extra_after, written_channel, output_on, cycles_of, jumps_by, entry, entered, execute, most_cycles};
 
+use crate::address::{Addr10, address_of_word, channel_of_word};
 use crate::dispatch::decode;
-use crate::instruction::{Code, Instruction};
+use crate::instruction::{Instruction, Role};
 use crate::machine::{FIRST_ADDRESS, Machine};
 use crate::output::Output;
 use feed::request::Request;
@@ -16,6 +18,9 @@ use words::{Overflow, Wide, Word};
 
 /// The cycles that the entry of an interrupt takes.
 const ENTRY_CYCLES: u64 = 3;
+
+/// The cycles of a branch that jumps.
+const JUMP_CYCLES: u8 = 1;
 
 impl Machine {
     /// The word at Z.
@@ -113,79 +118,85 @@ impl Machine {
     {
         let word = self.fetch(rope).to_u16();
         let extra = self.extra();
-        let code = decode(word, extra);
-        let cycles = self.cycles() + u64::from(self.cycles_of(&code));
-        self.perform(rope, &code.instruction);
-        self.end_instruction(extra_after(&code.instruction, extra), cycles);
-        self.output(written_channel(&code.instruction))
+        let instruction = decode(word, extra);
+        let cycles = self.cycles() + u64::from(self.cycles_of(instruction));
+        self.perform(rope, instruction, word);
+        self.end_instruction(extra_after(instruction, extra), cycles);
+        self.output(written_channel(instruction, word))
     }
 
-    /// The effect of an instruction.
+    /// The effect of an instruction, with its operand in a word.
     #[inline(always)]
     #[tactic(auto, unfolding(crate::specs::Effects::after))]
-    fn perform(&mut self, rope: &Rope, instruction: &Instruction)
-        ensures { self.new ≡ after rope.now self.old instruction.now }
+    fn perform(&mut self, rope: &Rope, instruction: Instruction, word: u16)
+        ensures { self.new ≡ after rope.now self.old instruction (operand_of instruction word) }
     {
-        match *instruction {
+        let short = Addr10::of_word(word);
+        let address = address_of_word(word);
+        let channel = channel_of_word(word);
+        match instruction {
             Instruction::Relint => self.allow_interrupts(),
             Instruction::Inhint => self.inhibit_interrupts(),
             Instruction::Extend => {}
             Instruction::Resume => self.resume(),
-            Instruction::Tc(address) => self.transfer_control(address),
-            Instruction::Ccs(address) => self.count_compare_and_skip(rope, address),
-            Instruction::Tcf(address) => self.jump(address),
-            Instruction::Das(address) => self.double_add_to_storage(address),
-            Instruction::Lxch(address) => self.exchange_l(address),
-            Instruction::Incr(address) => self.increment(address),
-            Instruction::Ads(address) => self.add_to_storage(address),
-            Instruction::Ca(address) => self.clear_and_add(rope, address),
-            Instruction::Cs(address) => self.clear_and_subtract(rope, address),
-            Instruction::Index(address) => self.index(rope, address),
-            Instruction::Dxch(address) => self.double_exchange(address),
-            Instruction::Ts(address) => self.transfer_to_storage(address),
-            Instruction::Xch(address) => self.exchange_a(address),
-            Instruction::Ad(address) => self.add(rope, address),
-            Instruction::Mask(address) => self.mask(rope, address),
-            Instruction::Read(channel) => self.read_channel(channel),
-            Instruction::Write(channel) => self.write_channel(channel),
-            Instruction::Rand(channel) => self.read_and(channel),
-            Instruction::Wand(channel) => self.write_and(channel),
-            Instruction::Ror(channel) => self.read_or(channel),
-            Instruction::Wor(channel) => self.write_or(channel),
-            Instruction::Rxor(channel) => self.read_xor(channel),
-            Instruction::Edrupt(_) => {}
-            Instruction::Dv(address) => self.divide(rope, address),
-            Instruction::Bzf(address) => self.branch_on_zero(address),
-            Instruction::Msu(address) => self.modular_subtract(rope, address),
-            Instruction::Qxch(address) => self.exchange_q(address),
-            Instruction::Aug(address) => self.augment(address),
-            Instruction::Dim(address) => self.diminish(address),
-            Instruction::Dca(address) => self.double_clear_and_add(rope, address),
-            Instruction::Dcs(address) => self.double_clear_and_subtract(rope, address),
-            Instruction::Su(address) => self.subtract(rope, address),
-            Instruction::Bzmf(address) => self.branch_on_zero_or_minus(address),
-            Instruction::Mp(address) => self.multiply(rope, address),
+            Instruction::Tc => self.transfer_control(address),
+            Instruction::Ccs => self.count_compare_and_skip(rope, short),
+            Instruction::Tcf => self.jump(address),
+            Instruction::Das => self.double_add_to_storage(short),
+            Instruction::Lxch => self.exchange_l(short),
+            Instruction::Incr => self.increment(short),
+            Instruction::Ads => self.add_to_storage(short),
+            Instruction::Ca => self.clear_and_add(rope, address),
+            Instruction::Cs => self.clear_and_subtract(rope, address),
+            Instruction::Index => self.index(rope, address),
+            Instruction::Dxch => self.double_exchange(short),
+            Instruction::Ts => self.transfer_to_storage(short),
+            Instruction::Xch => self.exchange_a(short),
+            Instruction::Ad => self.add(rope, address),
+            Instruction::Mask => self.mask(rope, address),
+            Instruction::Read => self.read_channel(channel),
+            Instruction::Write => self.write_channel(channel),
+            Instruction::Rand => self.read_and(channel),
+            Instruction::Wand => self.write_and(channel),
+            Instruction::Ror => self.read_or(channel),
+            Instruction::Wor => self.write_or(channel),
+            Instruction::Rxor => self.read_xor(channel),
+            Instruction::Edrupt => {}
+            Instruction::Dv => self.divide(rope, short),
+            Instruction::Bzf => self.branch_on_zero(address),
+            Instruction::Msu => self.modular_subtract(rope, short),
+            Instruction::Qxch => self.exchange_q(short),
+            Instruction::Aug => self.augment(short),
+            Instruction::Dim => self.diminish(short),
+            Instruction::Dca => self.double_clear_and_add(rope, address),
+            Instruction::Dcs => self.double_clear_and_subtract(rope, address),
+            Instruction::Su => self.subtract(rope, short),
+            Instruction::Bzmf => self.branch_on_zero_or_minus(address),
+            Instruction::Mp => self.multiply(rope, address),
         }
     }
 
     /// The cycles that an instruction takes.
-    fn cycles_of(&self, code: &Code) -> u8
-        ensures { result ≡ cycles_of self.now code.now }
+    #[inline(always)]
+    fn cycles_of(&self, instruction: Instruction) -> u8
+        ensures cycles { result ≡ cycles_of self.now instruction }
     {
-        if self.jumps(&code.instruction) {
-            code.jump_cycles
+        let row = instruction.row();
+        if self.jumps(row.role) {
+            JUMP_CYCLES
         } else {
-            code.cycles
+            row.cycles
         }
     }
 
-    /// Whether an instruction jumps, for those that take fewer cycles then.
-    fn jumps(&self, instruction: &Instruction) -> bool
-        ensures { result ≡ jumps self.now instruction.now }
+    /// Whether an instruction of a role jumps, for those that take fewer cycles then.
+    #[inline(always)]
+    fn jumps(&self, role: Role) -> bool
+        ensures { result ≡ jumps_by self.now role }
     {
-        match *instruction {
-            Instruction::Bzf(_) => self.is_at_zero(),
-            Instruction::Bzmf(_) => self.is_at_zero_or_minus(),
+        match role {
+            Role::JumpsAtZero => self.is_at_zero(),
+            Role::JumpsAtZeroOrMinus => self.is_at_zero_or_minus(),
             _ => false,
         }
     }
@@ -258,24 +269,24 @@ impl Machine {
 }
 
 /// Whether extracode is in force after an instruction.
-pub(crate) fn extra_after(instruction: &Instruction, extra: bool) -> bool
-    ensures { result ≡ extra_after instruction.now extra }
+#[inline(always)]
+pub(crate) fn extra_after(instruction: Instruction, extra: bool) -> bool
+    ensures { result ≡ extra_after instruction extra }
 {
-    match *instruction {
-        Instruction::Extend => true,
-        Instruction::Index(_) => extra,
+    match instruction.row().role {
+        Role::BeginsExtracode => true,
+        Role::KeepsExtracode => extra,
         _ => false,
     }
 }
 
-/// The channel that an instruction writes.
-fn written_channel(instruction: &Instruction) -> Option<Chan>
-    ensures { result ≡ written_channel instruction.now }
+/// The channel that an instruction writes, with its operand in a word.
+#[inline(always)]
+fn written_channel(instruction: Instruction, word: u16) -> Option<Chan>
+    ensures { result ≡ written_channel (record { instruction = instruction; operand = operand_of instruction word }) }
 {
-    match *instruction {
-        Instruction::Write(channel) => Some(channel),
-        Instruction::Wand(channel) => Some(channel),
-        Instruction::Wor(channel) => Some(channel),
+    match instruction.row().role {
+        Role::PutsOut => Some(channel_of_word(word)),
         _ => None,
     }
 }

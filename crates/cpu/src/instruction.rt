@@ -1,10 +1,10 @@
-//! Instructions with their operands.
+//! Instructions, and what there is to say of each.
 
-use crate::address::Addr10;
-use space::numbers::{Addr12, Chan};
+ghost use Rattle.std.specs.Prelude.{◌≡◌, ◌+◌, ◌≤◌, length};
+ghost use Rattle.cpu.specs.Codes.{row_of};
+ghost use Rattle.cpu.specs.Texts.{operand_width};
 
-/// An instruction with its operand: an address of 10 or 12 bits, or a channel. In those that take two places the operand is
-/// one more than the first place's address.
+/// An instruction.
 #[derive(Clone, Copy)]
 pub(crate) enum Instruction {
     /// Interrupts are no longer inhibited.
@@ -16,82 +16,186 @@ pub(crate) enum Instruction {
     /// Ends an interrupt.
     Resume,
     /// Transfer control: the next instruction is at the address, and Q keeps where to return.
-    Tc(Addr12),
+    Tc,
     /// Count, compare and skip: skips by what is read, and A takes its magnitude less one.
-    Ccs(Addr10),
+    Ccs,
     /// Transfer control to fixed memory: the next instruction is at the address.
-    Tcf(Addr12),
+    Tcf,
     /// Double add to storage: A and L are added to two places.
-    Das(Addr10),
+    Das,
     /// L is exchanged with a place.
-    Lxch(Addr10),
+    Lxch,
     /// A place is incremented.
-    Incr(Addr10),
+    Incr,
     /// Add to storage: the sum with A goes to the place and to A.
-    Ads(Addr10),
+    Ads,
     /// Clear and add: A takes what is read.
-    Ca(Addr12),
+    Ca,
     /// Clear and subtract: A takes the complement of what is read.
-    Cs(Addr12),
+    Cs,
     /// What is read is added to the next instruction.
-    Index(Addr12),
+    Index,
     /// A and L are exchanged with two places.
-    Dxch(Addr10),
+    Dxch,
     /// Transfer to storage: A is stored, and an overflow skips one instruction.
-    Ts(Addr10),
+    Ts,
     /// A is exchanged with a place.
-    Xch(Addr10),
+    Xch,
     /// Add: what is read is added to A.
-    Ad(Addr12),
+    Ad,
     /// A keeps the bits that also stand in what is read.
-    Mask(Addr12),
+    Mask,
     /// A takes a channel.
-    Read(Chan),
+    Read,
     /// A is written on a channel.
-    Write(Chan),
+    Write,
     /// A keeps the bits that also stand on a channel.
-    Rand(Chan),
+    Rand,
     /// A and a channel take the bits that stand in both.
-    Wand(Chan),
+    Wand,
     /// A takes the bits of a channel besides its own.
-    Ror(Chan),
+    Ror,
     /// A and a channel take the bits that stand in either.
-    Wor(Chan),
+    Wor,
     /// A takes the bits that stand in one of it and a channel.
-    Rxor(Chan),
+    Rxor,
     /// Does nothing.
-    Edrupt(Chan),
+    Edrupt,
     /// Divide: A and L are divided by what is read.
-    Dv(Addr10),
+    Dv,
     /// Branch on zero to fixed memory.
-    Bzf(Addr12),
+    Bzf,
     /// Modular subtract: the difference of unsigned numbers.
-    Msu(Addr10),
+    Msu,
     /// Q is exchanged with a place.
-    Qxch(Addr10),
+    Qxch,
     /// Augment: a place's magnitude grows by one.
-    Aug(Addr10),
+    Aug,
     /// Diminish: a place's magnitude falls by one, and zeros stay.
-    Dim(Addr10),
+    Dim,
     /// Double clear and add: A and L take two places.
-    Dca(Addr12),
+    Dca,
     /// Double clear and subtract: A and L take the complements of two places.
-    Dcs(Addr12),
+    Dcs,
     /// Subtract: the complement of what is read is added to A.
-    Su(Addr10),
+    Su,
     /// Branch on zero or minus to fixed memory.
-    Bzmf(Addr12),
+    Bzmf,
     /// Multiply: A and L take the product of A and what is read.
-    Mp(Addr12),
+    Mp,
 }
 
-/// What a word is: an instruction, and the cycles that it takes.
+/// What the low bits of a word hold for its instruction.
 #[derive(Clone, Copy)]
-pub(crate) struct Code {
-    /// The instruction.
-    pub(crate) instruction: Instruction,
-    /// How many cycles it takes.
+pub(crate) enum Operand {
+    /// Nothing.
+    Nothing,
+    /// An address of 10 bits.
+    Short,
+    /// An address of 12 bits.
+    Long,
+    /// Of two addresses of 10 bits that follow one another, the second.
+    ShortPair,
+    /// Of two addresses of 12 bits that follow one another, the second.
+    LongPair,
+    /// A channel.
+    Channel,
+}
+
+/// What an instruction does besides its effect.
+#[derive(Clone, Copy)]
+pub(crate) enum Role {
+    /// Nothing.
+    Plain,
+    /// It jumps where A is +0 or -0, and takes fewer cycles then.
+    JumpsAtZero,
+    /// It jumps where A is +0 or -0 or below, and takes fewer cycles then.
+    JumpsAtZeroOrMinus,
+    /// What it writes on its channel goes out.
+    PutsOut,
+    /// It puts extracode in force.
+    BeginsExtracode,
+    /// It keeps extracode in force.
+    KeepsExtracode,
+}
+
+/// All that there is to say of an instruction but its effect.
+#[derive(Clone, Copy)]
+pub(crate) struct Row {
+    /// Its name.
+    pub(crate) name: &'static [u8],
+    /// What a word's low bits hold.
+    pub(crate) operand: Operand,
+    /// How many cycles it takes, where it does not jump.
     pub(crate) cycles: u8,
-    /// How many it takes where it jumps.
-    pub(crate) jump_cycles: u8,
+    /// What it does besides.
+    pub(crate) role: Role,
+}
+
+impl Instruction {
+    /// Its row.
+    #[inline(always)]
+    pub(crate) fn row(self) -> Row
+        ensures name { result.name.now ≡ (row_of self).name }
+        ensures operand { result.operand ≡ (row_of self).operand }
+        ensures cycles { result.cycles ≡ (row_of self).cycles }
+        ensures role { result.role ≡ (row_of self).role }
+        ensures width { length result.name.now + operand_width result.operand ≤ 10 }
+    {
+        match self {
+            Instruction::Relint => make_row(b"RELINT", Operand::Nothing, 1, Role::Plain),
+            Instruction::Inhint => make_row(b"INHINT", Operand::Nothing, 1, Role::Plain),
+            Instruction::Extend => make_row(b"EXTEND", Operand::Nothing, 1, Role::BeginsExtracode),
+            Instruction::Resume => make_row(b"RESUME", Operand::Nothing, 2, Role::Plain),
+            Instruction::Tc => make_row(b"TC", Operand::Long, 1, Role::Plain),
+            Instruction::Ccs => make_row(b"CCS", Operand::Short, 2, Role::Plain),
+            Instruction::Tcf => make_row(b"TCF", Operand::Long, 1, Role::Plain),
+            Instruction::Das => make_row(b"DAS", Operand::ShortPair, 3, Role::Plain),
+            Instruction::Lxch => make_row(b"LXCH", Operand::Short, 2, Role::Plain),
+            Instruction::Incr => make_row(b"INCR", Operand::Short, 2, Role::Plain),
+            Instruction::Ads => make_row(b"ADS", Operand::Short, 2, Role::Plain),
+            Instruction::Ca => make_row(b"CA", Operand::Long, 2, Role::Plain),
+            Instruction::Cs => make_row(b"CS", Operand::Long, 2, Role::Plain),
+            Instruction::Index => make_row(b"INDEX", Operand::Long, 2, Role::KeepsExtracode),
+            Instruction::Dxch => make_row(b"DXCH", Operand::ShortPair, 3, Role::Plain),
+            Instruction::Ts => make_row(b"TS", Operand::Short, 2, Role::Plain),
+            Instruction::Xch => make_row(b"XCH", Operand::Short, 2, Role::Plain),
+            Instruction::Ad => make_row(b"AD", Operand::Long, 2, Role::Plain),
+            Instruction::Mask => make_row(b"MASK", Operand::Long, 2, Role::Plain),
+            Instruction::Read => make_row(b"READ", Operand::Channel, 2, Role::Plain),
+            Instruction::Write => make_row(b"WRITE", Operand::Channel, 2, Role::PutsOut),
+            Instruction::Rand => make_row(b"RAND", Operand::Channel, 2, Role::Plain),
+            Instruction::Wand => make_row(b"WAND", Operand::Channel, 2, Role::PutsOut),
+            Instruction::Ror => make_row(b"ROR", Operand::Channel, 2, Role::Plain),
+            Instruction::Wor => make_row(b"WOR", Operand::Channel, 2, Role::PutsOut),
+            Instruction::Rxor => make_row(b"RXOR", Operand::Channel, 2, Role::Plain),
+            Instruction::Edrupt => make_row(b"EDRUPT", Operand::Channel, 3, Role::Plain),
+            Instruction::Dv => make_row(b"DV", Operand::Short, 6, Role::Plain),
+            Instruction::Bzf => make_row(b"BZF", Operand::Long, 2, Role::JumpsAtZero),
+            Instruction::Msu => make_row(b"MSU", Operand::Short, 2, Role::Plain),
+            Instruction::Qxch => make_row(b"QXCH", Operand::Short, 2, Role::Plain),
+            Instruction::Aug => make_row(b"AUG", Operand::Short, 2, Role::Plain),
+            Instruction::Dim => make_row(b"DIM", Operand::Short, 2, Role::Plain),
+            Instruction::Dca => make_row(b"DCA", Operand::LongPair, 3, Role::Plain),
+            Instruction::Dcs => make_row(b"DCS", Operand::LongPair, 3, Role::Plain),
+            Instruction::Su => make_row(b"SU", Operand::Short, 2, Role::Plain),
+            Instruction::Bzmf => make_row(b"BZMF", Operand::Long, 2, Role::JumpsAtZeroOrMinus),
+            Instruction::Mp => make_row(b"MP", Operand::Long, 3, Role::Plain),
+        }
+    }
+}
+
+#[inline(always)]
+fn make_row(name: &'static [u8], operand: Operand, cycles: u8, role: Role) -> Row
+    ensures name { result.name.now ≡ name.now }
+    ensures operand { result.operand ≡ operand }
+    ensures cycles { result.cycles ≡ cycles }
+    ensures role { result.role ≡ role }
+{
+    Row {
+        name,
+        operand,
+        cycles,
+        role,
+    }
 }

@@ -7,8 +7,7 @@ use Rattle.space.specs.Cells.{erasable_count, accumulator, lower_accumulator, re
 use Rattle.space.specs.declared.place.Linear.{Linear}
 use Rattle.space.specs.declared.place.Linear.TheVariants.{Erasable, Fixed}
 use Rattle.cpu.specs.declared.output.Output.{Output}
-use Rattle.cpu.specs.Codes.{code_of}
-use Rattle.cpu.specs.Texts.{instruction_text}
+use Rattle.cpu.specs.Texts.{disassembly}
 use Rattle.yayul.specs.Listing.{value_text}
 use Rattle.yayul.specs.declared.values.Value.{Value}
 use Rattle.debugger.specs.ChannelLines.{channel_lines}
@@ -173,7 +172,7 @@ unfoldable pub next_line : Sight → List ℕ
 next_line seen =
     line
     (codes "NEXT " ++ octal_text 5 seen.instruction ++ codes " "
-    ++ instruction_text (code_of seen.extra seen.instruction).instruction)
+    ++ disassembly seen.extra seen.instruction)
 
 -- the word at a place
 abbrev pub memory_word : History → Sight → Linear → ℕ
