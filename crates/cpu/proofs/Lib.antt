@@ -7,6 +7,7 @@ mod BitLaws
 pub mod RowLaws
 pub mod RowTexts
 mod EntryLaws
+mod StepLaws
 mod RequestLemmas
 pub mod Holding
 pub mod Held

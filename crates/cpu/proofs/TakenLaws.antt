@@ -30,7 +30,7 @@ use Rattle.cpu.specs.Run.{run}
 use Rattle.cpu.proofs.RunLaws.{counted_in, rise-take, rise-next_by, rise-run}
 
 -- how many inputs a state has taken, and how many from each series
-abbrev account : State → ℕ × List ℕ
+abbrev pub account : State → ℕ × List ℕ
 account s = (s.taken, s.counts)
 
 account-change : (s : State) (c : Change) → account (change s c) ≡ account s
@@ -71,12 +71,12 @@ account-effect s (Word n w) = account-asked _ (asked_on n)
 account-effect s (Request k) = refl
 
 -- an input that is taken is counted
-account-take : (s : State) (given : Input × Option ℕ) → account (inputs.take s given) ≡ (s.taken + 1, from.counts_after s.counts given.1)
+pub account-take : (s : State) (given : Input × Option ℕ) → account (inputs.take s given) ≡ (s.taken + 1, from.counts_after s.counts given.1)
 unfolding inputs.take
 account-take s given = account-effect (counted_in s given) given.0
 
 -- nothing else is
-account-next_by : (rope : Words) (s : State) (o : Option ℕ) → account (next_by rope s None o).0 ≡ account s
+pub account-next_by : (rope : Words) (s : State) (o : Option ℕ) → account (next_by rope s None o).0 ≡ account s
 unfolding entered execute executed fetched
 account-next_by rope s (Some k) = refl
 account-next_by rope s None = account-after rope _ _ _

@@ -7,6 +7,7 @@ pub mod Next
 pub mod Texts
 pub mod Run
 pub mod Additions
+pub mod Laws
 pub use Rattle.space.specs.Cells
 pub use Rattle.rope.specs.Places as RopePlaces
 pub use Rattle.feed.specs.Added as FeedAdded

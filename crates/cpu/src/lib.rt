@@ -10,6 +10,7 @@ mod execute;
 mod inputs;
 mod instruction;
 mod instructions;
+pub mod laws;
 mod machine;
 mod output;
 mod processor;
