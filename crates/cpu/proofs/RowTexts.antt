@@ -2,7 +2,7 @@
 use Rattle.std.proofs.Common.{◌≡◌, ◌≤◌, ◌<◌, ◌%◌, ◌^◌, ℕ, zero, suc, List, [], ◌∷◌, Bool, true, refl, arith, filter, find, length, get_or, Some, ap, inl, inr}
 use Rattle.std.proofs.lemmas.Bool.{cases_Bool}
 use Rattle.std.proofs.lemmas.Bool.Decides.{nat_tests}
-use Rattle.cpu.specs.Codes.{Row, table, serves, rows_serving, code_of, no_row}
+use Rattle.cpu.specs.Codes.{Range, table, serves, rows_serving, code_of, no_range, row_of, bits}
 use Rattle.cpu.specs.Texts.{instruction_text, disassembly}
 use Rattle.cpu.proofs.RowLaws.{one_row}
 
@@ -27,16 +27,16 @@ the_one p (x ∷ xs) (suc k) d one lt pass =
     ]
 
 -- a row of a table, by its place
-abbrev pub row_at : Bool → ℕ → Row
-row_at extracode k = get_or (table extracode) k no_row
+abbrev pub row_at : Bool → ℕ → Range
+row_at extracode k = get_or (table extracode) k no_range
 
 -- how many low bits of a row's words are the operand
 abbrev pub row_bits : Bool → ℕ → ℕ
-row_bits extracode k = (row_at extracode k).bits
+row_bits extracode k = bits (row_of (row_at extracode k).instruction).operand
 
 -- the row's instruction of an operand, as text
 abbrev pub row_text : Bool → ℕ → ℕ → List ℕ
-row_text extracode k operand = instruction_text ((row_at extracode k).instruction operand)
+row_text extracode k operand = instruction_text (record { instruction = (row_at extracode k).instruction; operand = operand })
 
 -- a word in the range of a row is shown as the row's instruction of its operand
 pub shown_by_row : (extracode : Bool) (k word operand : ℕ) → k < length (table extracode) → word < 2 ^ 15 → (row_at extracode k).least ≤ word → word ≤ (row_at extracode k).greatest
@@ -44,5 +44,5 @@ pub shown_by_row : (extracode : Bool) (k word operand : ℕ) → k < length (tab
 unfolding code_of rows_serving
 shown_by_row extracode k word operand few high least greatest is =
     let lies : serves word (row_at extracode k) ≡ true = grind (arith, nat_tests) in
-    let found : find (serves word) (table extracode) ≡ Some (row_at extracode k) = the_one (serves word) (table extracode) k no_row (one_row extracode word high) few lies in
+    let found : find (serves word) (table extracode) ≡ Some (row_at extracode k) = the_one (serves word) (table extracode) k no_range (one_row extracode word high) few lies in
     rw found (ap (row_text extracode k) is)
