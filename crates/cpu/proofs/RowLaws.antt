@@ -1,8 +1,10 @@
 -- Each word lies in exactly one row of each code table.
-use Rattle.std.proofs.Common.{◌≡◌, ◌≤◌, ◌<◌, ◌+◌, ◌^◌, ℕ, List, [], ◌∷◌, Bool, true, false, refl, arith, ◌&&◌, eqb, leb, filter, length, ⊎_elim}
+use Rattle.std.proofs.Common.{◌≡◌, ◌≤◌, ◌<◌, ◌+◌, ◌^◌, ℕ, List, [], ◌∷◌, Bool, true, false, refl, arith, rules, ◌%◌, ◌&&◌, eqb, leb, filter, length, ⊎_elim}
 use Rattle.std.proofs.lemmas.Bool.{leb-true, eqb-true, cases_lt}
 use Rattle.std.proofs.lemmas.Bool.Decides.{nat_tests}
-use Rattle.cpu.specs.Codes.{Range, basic_rows, extracode_rows, serves, rows_serving}
+use Rattle.cpu.specs.declared.instruction.Instruction.{Instruction}
+use Rattle.cpu.specs.Codes.{Range, basic_rows, extracode_rows, serves, rows_serving, row_of, operand_of}
+use Rattle.cpu.specs.Next.{written_by}
 
 -- rows that follow one another from a number to the greatest word
 abbrev tiles : ℕ → List Range → Bool
@@ -62,3 +64,8 @@ pub one_row : (extracode : Bool) (word : ℕ) → word < 2 ^ 15 → rows_serving
 unfolding rows_serving
 one_row false word high = one 0 basic_rows word basic_tiles (omega arith) high
 one_row true word high = one 0 extracode_rows word extracode_tiles (omega arith) high
+
+-- the operand of what puts out is a channel
+pub written_operand : (instruction : Instruction) (word : ℕ)
+    → written_by (row_of instruction).role (word % 2 ^ 9) ≡ written_by (row_of instruction).role (operand_of instruction word)
+written_operand instruction word = search rules

@@ -8,7 +8,7 @@ ghost use Rattle.cpu.specs.Texts.{address_text, channel_text, operand_text, oper
 
 use crate::address::{Addr10, address_of_word, before, channel_of_word};
 use crate::dispatch::decode;
-use crate::execute::extra_after;
+use crate::execute::extra_by;
 use crate::instruction::Operand;
 use arrayvec::ArrayVec;
 use words::{Word, push_all, push_octal};
@@ -36,7 +36,7 @@ pub fn disassemble(word: Word, extra: bool) -> ArrayVec<u8, 10>
 pub fn extracode_after(word: Word, extra: bool) -> bool
     ensures { result ≡ extracode_after extra word }
 {
-    extra_after(decode(word.to_u16(), extra), extra)
+    extra_by(decode(word.to_u16(), extra).row().role, extra)
 }
 
 /// Appends the operand in a word.

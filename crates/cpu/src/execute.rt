@@ -1,9 +1,9 @@
 //! Executing one instruction, and entering an interrupt.
 
-ghost use Rattle.std.specs.Prelude.{◌≡◌, ◌+◌, ◌*◌, ◌%◌, ◌^◌, ◌≤◌, Some, None, true, false};
+ghost use Rattle.std.specs.Prelude.{◌≡◌, ◌+◌, ◌*◌, ◌%◌, ◌^◌, ◌≤◌, Some, None, true, false, if◌then◌else◌};
 ghost use Rattle.cpu.specs.Codes.{operand_of};
 ghost use Rattle.cpu.specs.Effects.{after};
-ghost use Rattle.cpu.specs.Next.{following_address, word_at_z, instruction_word, fetched, extra_after, written_channel, output_on, cycles_of, jumps_by, entry, entered, execute, most_cycles};
+ghost use Rattle.cpu.specs.Next.{following_address, word_at_z, instruction_word, fetched, extra_by, written_by, output_on, jumps_by, jump_cycles, entry, entered, execute, most_cycles};
 
 use crate::address::{Addr10, address_of_word, channel_of_word};
 use crate::dispatch::decode;
@@ -110,7 +110,7 @@ impl Machine {
 
     /// Executes one instruction.
     #[inline(always)]
-    #[tactic(auto, unfolding(crate::specs::Next::execute, crate::specs::Next::executed, crate::specs::Next::fetched))]
+    #[tactic(auto, using(crate::proofs::RowLaws::written_operand), unfolding(crate::specs::Next::execute, crate::specs::Next::executed, crate::specs::Next::fetched))]
     pub(crate) fn execute(&mut self, rope: &Rope) -> Option<Output>
         requires { self.old.cycles ≤ most_cycles }
         ensures state { self.new ≡ (execute rope.now self.old).0 }
@@ -119,10 +119,11 @@ impl Machine {
         let word = self.fetch(rope).to_u16();
         let extra = self.extra();
         let instruction = decode(word, extra);
-        let cycles = self.cycles() + u64::from(self.cycles_of(instruction));
+        let row = instruction.row();
+        let cycles = self.cycles() + u64::from(self.cycles_by(row.role, row.cycles));
         self.perform(rope, instruction, word);
-        self.end_instruction(extra_after(instruction, extra), cycles);
-        self.output(written_channel(instruction, word))
+        self.end_instruction(extra_by(row.role, extra), cycles);
+        self.output(written_by(row.role, word))
     }
 
     /// The effect of an instruction, with its operand in a word.
@@ -176,16 +177,15 @@ impl Machine {
         }
     }
 
-    /// The cycles that an instruction takes.
+    /// The cycles that an instruction of a role takes, which takes so many where it does not jump.
     #[inline(always)]
-    fn cycles_of(&self, instruction: Instruction) -> u8
-        ensures cycles { result ≡ cycles_of self.now instruction }
+    fn cycles_by(&self, role: Role, cycles: u8) -> u8
+        ensures { result ≡ (if jumps_by self.now role then jump_cycles else cycles) }
     {
-        let row = instruction.row();
-        if self.jumps(row.role) {
+        if self.jumps(role) {
             JUMP_CYCLES
         } else {
-            row.cycles
+            cycles
         }
     }
 
@@ -268,24 +268,24 @@ impl Machine {
     }
 }
 
-/// Whether extracode is in force after an instruction.
+/// Whether extracode is in force after an instruction of a role.
 #[inline(always)]
-pub(crate) fn extra_after(instruction: Instruction, extra: bool) -> bool
-    ensures { result ≡ extra_after instruction extra }
+pub(crate) fn extra_by(role: Role, extra: bool) -> bool
+    ensures { result ≡ extra_by role extra }
 {
-    match instruction.row().role {
+    match role {
         Role::BeginsExtracode => true,
         Role::KeepsExtracode => extra,
         _ => false,
     }
 }
 
-/// The channel that an instruction writes, with its operand in a word.
+/// The channel that an instruction of a role writes, with its operand in a word.
 #[inline(always)]
-fn written_channel(instruction: Instruction, word: u16) -> Option<Chan>
-    ensures { result ≡ written_channel (record { instruction = instruction; operand = operand_of instruction word }) }
+fn written_by(role: Role, word: u16) -> Option<Chan>
+    ensures { result ≡ written_by role (word % 2 ^ 9) }
 {
-    match instruction.row().role {
+    match role {
         Role::PutsOut => Some(channel_of_word(word)),
         _ => None,
     }

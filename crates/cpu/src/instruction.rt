@@ -185,7 +185,6 @@ impl Instruction {
     }
 }
 
-#[inline(always)]
 fn make_row(name: &'static [u8], operand: Operand, cycles: u8, role: Role) -> Row
     ensures name { result.name.now ≡ name.now }
     ensures operand { result.operand ≡ operand }
