@@ -78,6 +78,10 @@ unfoldable pub edits : Linear → ℕ → List Change
 edits (Erasable p) x = if nat_le cycle_right p && nat_le p edit_opcode then AtPlace p x ∷ [] else []
 edits (Fixed bank offset) x = []
 
+-- changes by what is read at an address, which is stored there again where the place edits
+abbrev pub reading : Words → State → ℕ → (ℕ → List Change) → List Change
+reading rope s k changes_by = let x = operand rope s k in changes_by x ++ edits (place_in s k) x
+
 -- the greatest addresses of 10 and of 12 bits
 abbrev pub greatest_short : ℕ
 greatest_short = 0o1777
@@ -144,8 +148,7 @@ ccs_skip x =
 -- CCS: A takes the magnitude less one of what K holds
 unfoldable pub ccs : Words → State → ℕ → List Change
 ccs rope s k =
-    let x = operand rope s k in
-    AtPlace accumulator (dabs x) ∷ AtPlace program_counter (next_address s + ccs_skip x) ∷ edits (place_in s k) x
+    reading rope s k (λ x. AtPlace accumulator (dabs x) ∷ AtPlace program_counter (next_address s + ccs_skip x) ∷ [])
 
 -- TCF: the next instruction is at K
 unfoldable pub tcf : ℕ → List Change
@@ -154,32 +157,27 @@ tcf k = AtPlace program_counter k ∷ []
 -- CA: A is what K holds
 unfoldable pub ca : Words → State → ℕ → List Change
 ca rope s k =
-    let x = operand rope s k in
-    AtPlace accumulator x ∷ edits (place_in s k) x
+    reading rope s k (λ x. AtPlace accumulator x ∷ [])
 
 -- CS: A is the complement of what K holds
 unfoldable pub cs : Words → State → ℕ → List Change
 cs rope s k =
-    let x = operand rope s k in
-    AtPlace accumulator (neg_wide x) ∷ edits (place_in s k) x
+    reading rope s k (λ x. AtPlace accumulator (neg_wide x) ∷ [])
 
 -- AD: what K holds is added to A
 unfoldable pub ad : Words → State → ℕ → List Change
 ad rope s k =
-    let x = operand rope s k in
-    AtPlace accumulator (sum (accumulator_of s) x) ∷ edits (place_in s k) x
+    reading rope s k (λ x. AtPlace accumulator (sum (accumulator_of s) x) ∷ [])
 
 -- SU: the complement of what K holds is added to A
 unfoldable pub su : Words → State → ℕ → List Change
 su rope s k =
-    let x = operand rope s k in
-    AtPlace accumulator (sum (accumulator_of s) (neg_wide x)) ∷ edits (place_in s k) x
+    reading rope s k (λ x. AtPlace accumulator (sum (accumulator_of s) (neg_wide x)) ∷ [])
 
 -- MASK: A is A and what K holds, on all bits where K is A or Q
 unfoldable pub mask : Words → State → ℕ → List Change
 mask rope s k =
-    let x = operand rope s k in
-    AtPlace accumulator (bitwise and_sum (is_whole (place_in s k)) (accumulator_of s) x) ∷ edits (place_in s k) x
+    reading rope s k (λ x. AtPlace accumulator (bitwise and_sum (is_whole (place_in s k)) (accumulator_of s) x) ∷ [])
 
 -- TS: K takes A. Where A overflows, K takes it corrected, A the carry, and one instruction is skipped;
 -- TS A then leaves A and skips, and TS Z skips nothing besides
@@ -251,49 +249,49 @@ das s k =
     else AtPlace low (extend (correct x)) ∷ AtPlace high (extend (correct y))
     ∷ AtPlace lower_accumulator 0 ∷ AtPlace accumulator (carry (over y)) ∷ []
 
+-- changes by what is read at two addresses that follow one another, the second of which is k
+abbrev pub reading_two : Words → State → ℕ → (ℕ → ℕ → List Change) → List Change
+reading_two rope s k changes_by =
+    let first = first_of greatest_address k in
+    let x = operand rope s first in
+    let y = operand rope s k in
+    changes_by x y ++ edits (place_in s first) x ++ edits (place_in s k) y
+
 -- DCA: A and L take what K and K+1 hold
 unfoldable pub dca : Words → State → ℕ → List Change
 dca rope s k =
-    let high = place_in s (first_of greatest_address k) in
-    let low = place_in s k in
-    let x = value_at rope s high in
-    let y = value_at rope s low in
-    AtPlace accumulator x ∷ AtPlace lower_accumulator y ∷ edits high x ++ edits low y
+    reading_two rope s k (λ x y. AtPlace accumulator x ∷ AtPlace lower_accumulator y ∷ [])
 
 -- DCS: A and L take the complements of what K and K+1 hold
 unfoldable pub dcs : Words → State → ℕ → List Change
 dcs rope s k =
-    let high = place_in s (first_of greatest_address k) in
-    let low = place_in s k in
-    let x = value_at rope s high in
-    let y = value_at rope s low in
-    AtPlace accumulator (neg_wide x) ∷ AtPlace lower_accumulator (neg_wide y) ∷ edits high x ++ edits low y
+    reading_two rope s k (λ x y. AtPlace accumulator (neg_wide x) ∷ AtPlace lower_accumulator (neg_wide y) ∷ [])
 
 -- INDEX: what K holds is added to the next instruction
 unfoldable pub index : Words → State → ℕ → List Change
 index rope s k =
-    let x = operand rope s k in
-    WaitsWithSum x ∷ edits (place_in s k) x
+    reading rope s k (λ x. WaitsWithSum x ∷ [])
 
 -- MP: A and L take the product of A and what K holds
 unfoldable pub mp : Words → State → ℕ → List Change
 mp rope s k =
-    let x = operand rope s k in
+    reading rope s k
+    (λ x.
     let p = product (correct (accumulator_of s)) (correct x) in
-    AtPlace accumulator (extend p.high) ∷ AtPlace lower_accumulator (extend p.low) ∷ edits (place_in s k) x
+    AtPlace accumulator (extend p.high) ∷ AtPlace lower_accumulator (extend p.low) ∷ [])
 
 -- DV: A takes the quotient of A and L by what K holds, and L the remainder
 unfoldable pub dv : Words → State → ℕ → List Change
 dv rope s k =
-    let x = operand rope s k in
+    reading rope s k
+    (λ x.
     let q = quotient (correct (accumulator_of s)) (correct (lower_of s)) (correct x) in
-    AtPlace accumulator (extend q.quotient) ∷ AtPlace lower_accumulator (extend q.remainder) ∷ edits (place_in s k) x
+    AtPlace accumulator (extend q.quotient) ∷ AtPlace lower_accumulator (extend q.remainder) ∷ [])
 
 -- MSU: A takes the difference of A and what K holds as unsigned numbers
 unfoldable pub msu : Words → State → ℕ → List Change
 msu rope s k =
-    let x = operand rope s k in
-    AtPlace accumulator (extend (modular_difference (correct (accumulator_of s)) (correct x))) ∷ edits (place_in s k) x
+    reading rope s k (λ x. AtPlace accumulator (extend (modular_difference (correct (accumulator_of s)) (correct x))) ∷ [])
 
 -- whether BZF and BZMF jump
 abbrev pub is_at_zero : State → Bool

@@ -37,12 +37,11 @@ impl Machine {
     pub(crate) fn count_compare_and_skip(&mut self, rope: &Rope, address: Addr10)
         ensures { self.new ≡ changes self.old (ccs rope.now self.old address) }
     {
-        let place = self.place(address.widen());
-        let count = self.operand(rope, address.widen());
-        let next = self.next_address().number() + ccs_skip(count);
-        self.put(Eras::A, count.dabs());
+        let count = self.reading(rope, address.widen());
+        let next = self.next_address().number() + ccs_skip(count.value);
+        self.put(Eras::A, count.value.dabs());
         self.put(Eras::Z, Wide::of_u16(next));
-        self.edit(&place, count);
+        self.edit(&count);
     }
 
     /// TCF
@@ -60,10 +59,9 @@ impl Machine {
     pub(crate) fn clear_and_add(&mut self, rope: &Rope, address: Addr12)
         ensures { self.new ≡ changes self.old (ca rope.now self.old address) }
     {
-        let place = self.place(address);
-        let value = self.operand(rope, address);
-        self.put(Eras::A, value);
-        self.edit(&place, value);
+        let read = self.reading(rope, address);
+        self.put(Eras::A, read.value);
+        self.edit(&read);
     }
 
     /// CS
@@ -72,10 +70,9 @@ impl Machine {
     pub(crate) fn clear_and_subtract(&mut self, rope: &Rope, address: Addr12)
         ensures { self.new ≡ changes self.old (cs rope.now self.old address) }
     {
-        let place = self.place(address);
-        let operand = self.operand(rope, address);
-        self.put(Eras::A, operand.neg());
-        self.edit(&place, operand);
+        let operand = self.reading(rope, address);
+        self.put(Eras::A, operand.value.neg());
+        self.edit(&operand);
     }
 
     /// AD
@@ -84,11 +81,10 @@ impl Machine {
     pub(crate) fn add(&mut self, rope: &Rope, address: Addr12)
         ensures { self.new ≡ changes self.old (ad rope.now self.old address) }
     {
-        let place = self.place(address);
-        let addend = self.operand(rope, address);
-        let sum = self.reg(Eras::A).add(addend);
+        let addend = self.reading(rope, address);
+        let sum = self.reg(Eras::A).add(addend.value);
         self.put(Eras::A, sum);
-        self.edit(&place, addend);
+        self.edit(&addend);
     }
 
     /// SU
@@ -96,11 +92,10 @@ impl Machine {
     pub(crate) fn subtract(&mut self, rope: &Rope, address: Addr10)
         ensures { self.new ≡ changes self.old (su rope.now self.old address) }
     {
-        let place = self.place(address.widen());
-        let subtrahend = self.operand(rope, address.widen());
-        let difference = self.reg(Eras::A).add(subtrahend.neg());
+        let subtrahend = self.reading(rope, address.widen());
+        let difference = self.reg(Eras::A).add(subtrahend.value.neg());
         self.put(Eras::A, difference);
-        self.edit(&place, subtrahend);
+        self.edit(&subtrahend);
     }
 
     /// MASK
@@ -109,11 +104,10 @@ impl Machine {
     pub(crate) fn mask(&mut self, rope: &Rope, address: Addr12)
         ensures { self.new ≡ changes self.old (mask rope.now self.old address) }
     {
-        let place = self.place(address);
-        let mask = self.operand(rope, address);
-        let masked = and(is_whole(&place), self.reg(Eras::A), mask);
+        let mask = self.reading(rope, address);
+        let masked = and(is_whole(&mask.place), self.reg(Eras::A), mask.value);
         self.put(Eras::A, masked);
-        self.edit(&place, mask);
+        self.edit(&mask);
     }
 
     /// TS
@@ -261,14 +255,12 @@ impl Machine {
     pub(crate) fn double_clear_and_add(&mut self, rope: &Rope, address: Addr12)
         ensures { self.new ≡ changes self.old (dca rope.now self.old address) }
     {
-        let high = self.place(before(address));
-        let low = self.place(address);
-        let high_value = self.value_at(rope, &high);
-        let low_value = self.value_at(rope, &low);
-        self.put(Eras::A, high_value);
-        self.put(Eras::L, low_value);
-        self.edit(&high, high_value);
-        self.edit(&low, low_value);
+        let high = self.reading(rope, before(address));
+        let low = self.reading(rope, address);
+        self.put(Eras::A, high.value);
+        self.put(Eras::L, low.value);
+        self.edit(&high);
+        self.edit(&low);
     }
 
     /// DCS
@@ -276,14 +268,12 @@ impl Machine {
     pub(crate) fn double_clear_and_subtract(&mut self, rope: &Rope, address: Addr12)
         ensures { self.new ≡ changes self.old (dcs rope.now self.old address) }
     {
-        let high = self.place(before(address));
-        let low = self.place(address);
-        let high_value = self.value_at(rope, &high);
-        let low_value = self.value_at(rope, &low);
-        self.put(Eras::A, high_value.neg());
-        self.put(Eras::L, low_value.neg());
-        self.edit(&high, high_value);
-        self.edit(&low, low_value);
+        let high = self.reading(rope, before(address));
+        let low = self.reading(rope, address);
+        self.put(Eras::A, high.value.neg());
+        self.put(Eras::L, low.value.neg());
+        self.edit(&high);
+        self.edit(&low);
     }
 
     /// INDEX
@@ -292,10 +282,9 @@ impl Machine {
     pub(crate) fn index(&mut self, rope: &Rope, address: Addr12)
         ensures { self.new ≡ changes self.old (index rope.now self.old address) }
     {
-        let place = self.place(address);
-        let increment = self.operand(rope, address);
-        self.wait_with_sum(increment);
-        self.edit(&place, increment);
+        let increment = self.reading(rope, address);
+        self.wait_with_sum(increment.value);
+        self.edit(&increment);
     }
 
     /// MP
@@ -303,12 +292,11 @@ impl Machine {
     pub(crate) fn multiply(&mut self, rope: &Rope, address: Addr12)
         ensures { self.new ≡ changes self.old (mp rope.now self.old address) }
     {
-        let place = self.place(address);
-        let multiplier = self.operand(rope, address);
-        let product = self.word(Eras::A).mul(multiplier.correct());
+        let multiplier = self.reading(rope, address);
+        let product = self.word(Eras::A).mul(multiplier.value.correct());
         self.put(Eras::A, product.high.extend());
         self.put(Eras::L, product.low.extend());
-        self.edit(&place, multiplier);
+        self.edit(&multiplier);
     }
 
     /// DV
@@ -316,12 +304,15 @@ impl Machine {
     pub(crate) fn divide(&mut self, rope: &Rope, address: Addr10)
         ensures { self.new ≡ changes self.old (dv rope.now self.old address) }
     {
-        let place = self.place(address.widen());
-        let divisor = self.operand(rope, address.widen());
-        let quotient = div(self.word(Eras::A), self.word(Eras::L), divisor.correct());
+        let divisor = self.reading(rope, address.widen());
+        let quotient = div(
+            self.word(Eras::A),
+            self.word(Eras::L),
+            divisor.value.correct(),
+        );
         self.put(Eras::A, quotient.quotient.extend());
         self.put(Eras::L, quotient.remainder.extend());
-        self.edit(&place, divisor);
+        self.edit(&divisor);
     }
 
     /// MSU
@@ -329,11 +320,10 @@ impl Machine {
     pub(crate) fn modular_subtract(&mut self, rope: &Rope, address: Addr10)
         ensures { self.new ≡ changes self.old (msu rope.now self.old address) }
     {
-        let place = self.place(address.widen());
-        let other = self.operand(rope, address.widen());
-        let difference = self.word(Eras::A).modular_sub(other.correct());
+        let other = self.reading(rope, address.widen());
+        let difference = self.word(Eras::A).modular_sub(other.value.correct());
         self.put(Eras::A, difference.extend());
-        self.edit(&place, other);
+        self.edit(&other);
     }
 
     /// BZF

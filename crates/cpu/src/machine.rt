@@ -29,6 +29,15 @@ const REQUESTS: usize = 10;
 /// The address at which a run starts.
 pub(crate) const FIRST_ADDRESS: u16 = 0o4000;
 
+/// What was read at an address, and the place to which the address led.
+#[derive(Clone, Copy)]
+pub(crate) struct Reading {
+    /// The place.
+    pub(crate) place: Linear,
+    /// What was read.
+    pub(crate) value: Wide,
+}
+
 /// The registers, erasable memory, the channels, and what else the next step depends on.
 #[derive(Drop)]
 pub struct Machine {
@@ -400,15 +409,27 @@ impl Machine {
         }
     }
 
+    /// What is read at an address, and where.
+    #[inline(always)]
+    pub(crate) fn reading(&self, rope: &Rope, address: Addr12) -> Reading
+        ensures place { result.place ≡ place_in self.now address }
+        ensures value { result.value ≡ operand rope.now self.now address }
+    {
+        Reading {
+            place: self.place(address),
+            value: self.operand(rope, address),
+        }
+    }
+
     /// Stores a word again that was read at an editing place.
     #[tactic(auto, unfolding(crate::specs::Effects::edits))]
-    pub(crate) fn edit(&mut self, place: &Linear, value: Wide)
-        ensures { self.new ≡ changes self.old (edits place.now value) }
+    pub(crate) fn edit(&mut self, reading: &Reading)
+        ensures { self.new ≡ changes self.old (edits reading.now.place reading.now.value) }
     {
-        if let Linear::Erasable(place) = *place {
+        if let Linear::Erasable(place) = reading.place {
             let number = place.number();
             if number >= Eras::CYR.number() && number <= Eras::EDOP.number() {
-                self.put(place, value);
+                self.put(place, reading.value);
             }
         }
     }
