@@ -2,13 +2,13 @@
 use Rattle.std.specs.Prelude.{ℕ, ◌+◌, Bool, true, false, Option, Some, None, if◌then◌else◌, ◌==◌}
 use Rattle.std.specs.FinSet as set
 use Rattle.words.specs.declared.counters.Carry.{Carry}
-use Rattle.words.specs.declared.counters.Carry.TheVariants.{No, Plus, Minus, ShiftedOut}
+use Rattle.words.specs.declared.counters.Carry.TheVariants.{Plus, Minus, ShiftedOut}
 use Rattle.words.specs.declared.counters.CounterStep.{CounterStep}
 use Rattle.words.specs.Numbers.{extend, correct}
 use Rattle.words.specs.Counters.{pinc, minc, dinc, pcdu, mcdu, shinc, shanc}
 use Rattle.space.specs.Cells.{get}
 use Rattle.feed.specs.declared.input.Counter.{Counter}
-use Rattle.feed.specs.declared.input.Counter.TheVariants.{Time1, Time2, Time3, Time4, Time5, Time6, CduX, CduY, CduZ, OptY, OptX, PipaX, PipaY, PipaZ, Inlink}
+use Rattle.feed.specs.declared.input.Counter.TheVariants.{Time1, Time2, Time3, Time4, Time5, Time6, Inlink}
 use Rattle.feed.specs.declared.input.Sequence.{Sequence}
 use Rattle.feed.specs.declared.input.Sequence.TheVariants.{Pinc, Minc, Dinc, Pcdu, Mcdu, Shinc, Shanc}
 use Rattle.feed.specs.declared.input.Input.{Input}
@@ -60,54 +60,29 @@ step_of Shanc w = shanc w
 
 -- whether plus or minus one has overflowed
 abbrev pub is_overflow : Carry → Bool
-is_overflow No = false
 is_overflow Plus = true
 is_overflow Minus = true
-is_overflow ShiftedOut = false
+is_overflow _ = false
 
 -- whether a one was shifted out
 abbrev pub is_shifted_out : Carry → Bool
-is_shifted_out No = false
-is_shifted_out Plus = false
-is_shifted_out Minus = false
 is_shifted_out ShiftedOut = true
+is_shifted_out _ = false
 
 -- the interrupt for which a counter asks after a step: TIME3, TIME4 and TIME5 on an overflow, TIME6 on a result of +0,
 -- INLINK on a one that is shifted out
 abbrev pub asked_after : Counter → CounterStep → Option ℕ
-asked_after Time1 step = None
-asked_after Time2 step = None
 asked_after Time3 step = if is_overflow step.carry then Some timer_3_interrupt else None
 asked_after Time4 step = if is_overflow step.carry then Some timer_4_interrupt else None
 asked_after Time5 step = if is_overflow step.carry then Some timer_5_interrupt else None
 asked_after Time6 step = if step.word == 0 then Some timer_6_interrupt else None
-asked_after CduX step = None
-asked_after CduY step = None
-asked_after CduZ step = None
-asked_after OptY step = None
-asked_after OptX step = None
-asked_after PipaX step = None
-asked_after PipaY step = None
-asked_after PipaZ step = None
 asked_after Inlink step = if is_shifted_out step.carry then Some uplink_interrupt else None
+asked_after _ step = None
 
 -- the counter into which an overflow is carried: TIME2 for TIME1
 abbrev pub carries_into : Counter → Option Counter
 carries_into Time1 = Some Time2
-carries_into Time2 = None
-carries_into Time3 = None
-carries_into Time4 = None
-carries_into Time5 = None
-carries_into Time6 = None
-carries_into CduX = None
-carries_into CduY = None
-carries_into CduZ = None
-carries_into OptY = None
-carries_into OptX = None
-carries_into PipaX = None
-carries_into PipaY = None
-carries_into PipaZ = None
-carries_into Inlink = None
+carries_into _ = None
 
 -- the word that a counter holds
 abbrev pub count_of : State → Counter → ℕ
