@@ -1,6 +1,6 @@
 //! Images and listings of sources, and the machine after steps of them.
 
-use crate::sources::FIVE_PLUS_FIVE;
+use crate::sources::{FIVE_PLUS_FIVE, IMAGE_BYTES, IMAGE_OF_TWO, LISTING};
 use cpu::{Machine, Processor};
 use feed::Feed;
 use rope::RopeFault;
@@ -8,20 +8,8 @@ use space::numbers::{Bank, Eras, Offset};
 use space::place::Linear;
 use std::alloc::Global;
 use words::Buffer;
-use words::faulty::{FaultyReader, FaultyWriter, Trouble};
 use workshop::{Version, WorkshopFault, asm_engine, upgrade_engine};
 use yayul::{Fault, Program, assemble};
-
-const LISTING: &[u8] = b"    1                 SETLOC 4000
-    2 02,4000 34005   CA FIVE
-    3 02,4001 64005   AD FIVE
-    4 02,4002 00006   EXTEND
-    5 02,4003 01010   WRITE 10
-    6 02,4004 14000   TCF 4000
-    7 02,4005 00005  FIVE OCT 5
-SYMBOLS 1
-FIVE     FIXED 02,0005
-";
 
 const FAR_TRANSFER: &[u8] = b" SETLOC 4000
  CA SUPB
@@ -36,15 +24,8 @@ TARG 2CADR FAR
 FAR TCF FAR
 ";
 
-/// How many bytes an image has.
-const IMAGE_BYTES: usize = 73_728;
-
 const IMAGE_OF_ONE: [u8; 12] = [
     0x70, 0x0a, 0xd0, 0x0a, 0x00, 0x0c, 0x04, 0x10, 0x30, 0x00, 0x00, 0x0a,
-];
-
-const IMAGE_OF_TWO: [u8; 14] = [
-    0x70, 0x0a, 0xd0, 0x0a, 0x00, 0x0d, 0x04, 0x11, 0x30, 0x01, 0x00, 0x0b, 0x00, 0x01,
 ];
 
 /// The image of five plus five, and its listing.
@@ -93,15 +74,6 @@ fn image_is_upgraded(rt: HostRuntime) {
         Ok(())
     );
     assert!(rt; upgraded.as_slice() == new.as_slice());
-    for trouble in [Trouble::Fails, Trouble::TakesNothing] {
-        let mut broken = FaultyWriter::new(rt.alloc(), Some(13), trouble);
-        let mut reader = old.as_slice();
-        assert_eq!(rt;
-            upgrade_engine(rt.alloc(), &mut reader, &mut broken),
-            Err(WorkshopFault::WriteFailed)
-        );
-        assert_eq!(rt; broken.as_slice(), &IMAGE_OF_TWO[..13]);
-    }
 }
 
 #[test]
@@ -126,15 +98,6 @@ fn refused_images_write_nothing(rt: HostRuntime) {
         );
         assert_eq!(rt; upgraded.as_slice(), b"".as_slice());
     }
-    for place in 0..6 {
-        let mut broken = FaultyReader::new(&IMAGE_OF_ONE, Some(place));
-        let mut upgraded = Buffer::new(rt.alloc());
-        assert_eq!(rt;
-            upgrade_engine(rt.alloc(), &mut broken, &mut upgraded),
-            Err(WorkshopFault::ReadFailed)
-        );
-        assert_eq!(rt; upgraded.as_slice(), b"".as_slice());
-    }
 }
 
 #[test]
@@ -155,57 +118,8 @@ fn refused_sources_write_nothing(rt: HostRuntime) {
             number: 17,
         }))
     );
-    let mut broken = FaultyReader::new(FIVE_PLUS_FIVE, Some(20));
-    assert_eq!(rt;
-        asm_engine(
-            rt.alloc(),
-            &mut broken,
-            &mut image,
-            &mut listing,
-            Version::Two
-        ),
-        Err(WorkshopFault::ReadFailed)
-    );
     assert_eq!(rt; image.as_slice(), b"".as_slice());
     assert_eq!(rt; listing.as_slice(), b"".as_slice());
-}
-
-#[test]
-fn image_stands_whole_before_the_listing(rt: HostRuntime) {
-    for trouble in [Trouble::Fails, Trouble::TakesNothing] {
-        for place in [0, 5, 60, 240] {
-            let mut source = FIVE_PLUS_FIVE;
-            let mut image = Buffer::new(rt.alloc());
-            let mut listing = FaultyWriter::new(rt.alloc(), Some(place), trouble);
-            assert_eq!(rt;
-                asm_engine(
-                    rt.alloc(),
-                    &mut source,
-                    &mut image,
-                    &mut listing,
-                    Version::Two
-                ),
-                Err(WorkshopFault::WriteFailed)
-            );
-            assert_eq!(rt; image.as_slice().len(), IMAGE_BYTES);
-            assert_eq!(rt; listing.as_slice(), &LISTING[..place]);
-        }
-        let mut source = FIVE_PLUS_FIVE;
-        let mut image = FaultyWriter::new(rt.alloc(), Some(11), trouble);
-        let mut listing = Buffer::new(rt.alloc());
-        assert_eq!(rt;
-            asm_engine(
-                rt.alloc(),
-                &mut source,
-                &mut image,
-                &mut listing,
-                Version::Two
-            ),
-            Err(WorkshopFault::WriteFailed)
-        );
-        assert_eq!(rt; image.as_slice().len(), 11);
-        assert_eq!(rt; listing.as_slice(), b"".as_slice());
-    }
 }
 
 /// The machine after some steps of a source, which put nothing out.

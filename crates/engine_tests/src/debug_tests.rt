@@ -8,7 +8,6 @@ use replay::{Keeper, Session, SlotKeeper, VecKeeper};
 use std::alloc::Global;
 use std::process::Abort;
 use std::test::Fail;
-use words::faulty::{FaultyReader, FaultyWriter, Trouble};
 use words::{Buffer, Read, Write};
 use workshop::{WorkshopFault, debug_engine};
 use yayul::{Fault, assemble};
@@ -204,55 +203,6 @@ COUNT 0
 E41 NOT YET
 ";
     assert_replies(&rt, rt.alloc(), FIVE_PLUS_FIVE, b"", commands, lines)
-}
-
-#[test]
-fn failed_read_of_commands(rt: HostRuntime) -> Result<(), Fail> {
-    let alloc = rt.alloc();
-    let commands = b"step 1\nstep 1\nstep 1";
-    let rows: [(usize, &[u8]); 5] = [
-        (0, b""),
-        (6, b""),
-        (7, b"AT 1 2 4001\n"),
-        (13, b"AT 1 2 4001\n"),
-        (20, b"AT 1 2 4001\nAT 2 4 4002\n"),
-    ];
-    for (fails_after, replies) in rows {
-        let mut script = FaultyReader::new(commands, Some(fails_after));
-        let mut out = Buffer::new(alloc);
-        let ended = session_over::<SlotKeeper, _, _>(
-            alloc,
-            FIVE_PLUS_FIVE,
-            b"",
-            &mut script,
-            &mut out,
-        )?;
-        assert!(rt; ended == Err(DebugFault::ReadFailed));
-        assert_eq!(rt; out.as_slice(), replies);
-    }
-    Ok(())
-}
-
-#[test]
-fn failed_write_of_replies(rt: HostRuntime) -> Result<(), Fail> {
-    let alloc = rt.alloc();
-    let replies = b"7 CH 010 00012\nAT 4 7 4004\nE50 COMMAND\n".as_slice();
-    for trouble in [Trouble::Fails, Trouble::TakesNothing] {
-        for bytes in 0..replies.len() {
-            let mut script = b"run 4\nfly\nquit\n".as_slice();
-            let mut out = FaultyWriter::new(alloc, Some(bytes), trouble);
-            let ended = session_over::<SlotKeeper, _, _>(
-                alloc,
-                FIVE_PLUS_FIVE,
-                b"",
-                &mut script,
-                &mut out,
-            )?;
-            assert!(rt; ended == Err(DebugFault::WriteFailed));
-            assert_eq!(rt; out.as_slice(), &replies[..bytes]);
-        }
-    }
-    Ok(())
 }
 
 #[test]

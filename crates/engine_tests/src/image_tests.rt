@@ -1,15 +1,13 @@
 //! Images: their words, differences and sums as text, and runs and sessions over them.
 
-use crate::sources::FIVE_PLUS_FIVE;
+use crate::sources::{FIVE_PLUS_FIVE, IMAGE_BYTES, image_of};
 use feed::FeedFault;
 use rope::RopeFault;
 use space::numbers::Bank;
-use std::alloc::Global;
 use words::Buffer;
-use words::faulty::{FaultyReader, FaultyWriter, Trouble};
 use workshop::{
-    Summary, Version, WorkshopFault, asm_engine, compare_engine, debug_image_engine,
-    run_image_engine, sums_engine, words_engine,
+    Summary, Version, WorkshopFault, compare_engine, debug_image_engine, run_image_engine,
+    sums_engine, words_engine,
 };
 
 const FIVE_PLUS_FIVE_WORDS: &[u8] = b"02,4000 34005 CA 4005
@@ -41,18 +39,6 @@ const EXTRACODE_WORDS: &[u8] = b"03,6000 00006 EXTEND
 ";
 
 const ONE_LINE: &[u8] = b"7 CH 010 00012\n";
-
-/// How many bytes an image has.
-const IMAGE_BYTES: usize = 73_728;
-
-/// The image of a source.
-fn image_of(alloc: Global, source: &[u8], version: Version) -> Buffer {
-    let mut source = source;
-    let mut image = Buffer::new(alloc);
-    let mut listing = Buffer::new(alloc);
-    let _outcome = asm_engine(alloc, &mut source, &mut image, &mut listing, version);
-    image
-}
 
 /// How many lines a text has.
 fn lines_of(text: &[u8]) -> usize {
@@ -320,56 +306,4 @@ fn image_is_debugged_without_symbols(rt: HostRuntime) {
         out.as_slice(),
         b"7 CH 010 00012\nAT 4 7 4004\nAT 1 2 4001\nE17 UNDEFINED\nMEM 00005\n".as_slice()
     );
-}
-
-#[test]
-fn devices_of_images_fail(rt: HostRuntime) {
-    let image = image_of(rt.alloc(), FIVE_PLUS_FIVE, Version::Two);
-    for trouble in [Trouble::Fails, Trouble::TakesNothing] {
-        let mut reader = image.as_slice();
-        let mut broken = FaultyWriter::new(rt.alloc(), Some(30), trouble);
-        assert_eq!(rt;
-            words_engine(
-                rt.alloc(),
-                &mut reader,
-                Version::Two,
-                Bank::try_new(2),
-                &mut broken
-            ),
-            Err(WorkshopFault::WriteFailed)
-        );
-        assert_eq!(rt; broken.as_slice(), &FIVE_PLUS_FIVE_WORDS[..30]);
-        let mut reader = image.as_slice();
-        let mut feed = b"".as_slice();
-        let mut broken = FaultyWriter::new(rt.alloc(), Some(3), trouble);
-        assert_eq!(rt;
-            run_image_engine(
-                rt.alloc(),
-                &mut reader,
-                Version::Two,
-                &mut feed,
-                4,
-                &mut broken
-            ),
-            Err(WorkshopFault::WriteFailed)
-        );
-        assert_eq!(rt; broken.as_slice(), &ONE_LINE[..3]);
-    }
-    for place in 0..6 {
-        let mut broken = FaultyReader::new(&[0, 1, 0, 1, 0, 1, 0, 1], Some(place));
-        let mut feed = b"".as_slice();
-        let mut out = Buffer::new(rt.alloc());
-        assert_eq!(rt;
-            run_image_engine(
-                rt.alloc(),
-                &mut broken,
-                Version::Two,
-                &mut feed,
-                4,
-                &mut out
-            ),
-            Err(WorkshopFault::ReadFailed)
-        );
-        assert_eq!(rt; out.as_slice(), b"".as_slice());
-    }
 }

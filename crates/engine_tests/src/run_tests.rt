@@ -75,6 +75,11 @@ fn end_of_a_run_is_told(rt: HostRuntime) {
             && let Ok(summary) = run(rt.alloc(), source, b"", steps, &mut out)
         {
             assert_eq!(rt; write_end(&summary, &mut told), Ok(()));
+            for place in 0..line.len() {
+                let mut broken = FaultyWriter::new(rt.alloc(), Some(place), Trouble::TakesNothing);
+                assert!(rt; write_end(&summary, &mut broken).is_err());
+                assert!(rt; broken.as_slice() == &line[..place]);
+            }
         }
         assert_eq!(rt; told.as_slice(), line);
     }
@@ -221,42 +226,6 @@ fn long_texts_are_refused(rt: HostRuntime) {
 }
 
 #[test]
-fn writers_in_trouble(rt: HostRuntime) {
-    for trouble in [Trouble::Fails, Trouble::TakesNothing] {
-        for place in 0..ONE_LINE.len() {
-            let mut source = FIVE_PLUS_FIVE;
-            let mut feed: &[u8] = b"";
-            let mut out = FaultyWriter::new(rt.alloc(), Some(place), trouble);
-            assert_eq!(rt;
-                run_engine(rt.alloc(), &mut source, &mut feed, 9, &mut out),
-                Err(WorkshopFault::WriteFailed)
-            );
-            assert_eq!(rt; out.as_slice(), &ONE_LINE[..place]);
-        }
-    }
-}
-
-#[test]
-fn readers_in_trouble(rt: HostRuntime) {
-    let mut out = Buffer::new(rt.alloc());
-    for place in 0..FIVE_PLUS_FIVE.len() {
-        let mut source = FaultyReader::new(FIVE_PLUS_FIVE, Some(place));
-        let mut feed: &[u8] = b"";
-        assert_eq!(rt;
-            run_engine(rt.alloc(), &mut source, &mut feed, 4, &mut out),
-            Err(WorkshopFault::ReadFailed)
-        );
-    }
-    let mut source = FIVE_PLUS_FIVE;
-    let mut feed = FaultyReader::new(b"0 RUPT 1\n", Some(3));
-    assert_eq!(rt;
-        run_engine(rt.alloc(), &mut source, &mut feed, 4, &mut out),
-        Err(WorkshopFault::ReadFailed)
-    );
-    assert_eq!(rt; out.as_slice(), b"".as_slice());
-}
-
-#[test]
 fn source_is_told_before_the_feed_is_read(rt: HostRuntime) {
     let mut out = Buffer::new(rt.alloc());
     let mut source: &[u8] = b" SETLOC 4000\n FROB 100\n";
@@ -302,11 +271,13 @@ fn faults_are_reported(rt: HostRuntime) {
         let mut errors = Buffer::new(rt.alloc());
         assert_eq!(rt; report(&fault, &mut errors), Ok(status));
         assert_eq!(rt; errors.as_slice(), text);
-        let mut broken = FaultyWriter::new(rt.alloc(), Some(8), Trouble::TakesNothing);
-        assert_eq!(rt;
-            report(&fault, &mut broken),
-            Err(WorkshopFault::WriteFailed)
-        );
-        assert_eq!(rt; broken.as_slice(), &text[..8]);
+        for trouble in [Trouble::Fails, Trouble::TakesNothing] {
+            for place in 0..text.len() {
+                let mut broken = FaultyWriter::new(rt.alloc(), Some(place), trouble);
+                let told = report(&fault, &mut broken);
+                assert!(rt; told == Err(WorkshopFault::WriteFailed));
+                assert!(rt; broken.as_slice() == &text[..place]);
+            }
+        }
     }
 }

@@ -1,0 +1,76 @@
+//! Commands over a keeper that refuses each image once.
+
+use crate::sources::FIVE_PLUS_FIVE;
+use cpu::{Machine, Processor};
+use debugger::debug_session;
+use feed::Feed;
+use replay::{Keeper, Refusal, Session, VecKeeper};
+use std::alloc::Global;
+use std::test::Fail;
+use words::Buffer;
+use yayul::assemble;
+
+/// A keeper that refuses an image, hands the next one to another keeper, and so on.
+#[derive(Drop)]
+struct RefusingKeeper<K: Keeper> {
+    inner: K,
+    refused: bool,
+}
+
+impl<K: Keeper> Keeper for RefusingKeeper<K> {
+    ghost use Rattle.std.specs.Prelude.{true};
+
+    ghost images = { λ k. K.images k.inner };
+
+    ghost may_refuse = { true };
+
+    fn new(alloc: Global) -> Result<Self, Refusal> {
+        Ok(RefusingKeeper {
+            inner: K::new(alloc)?,
+            refused: false,
+        })
+    }
+
+    fn before(&self, t: u64) -> Option<(u64, &Machine)> {
+        self.inner.before(t)
+    }
+
+    fn keep(&mut self, step: u64, machine: &Machine) -> Result<(), Refusal> {
+        self.refused = !self.refused;
+        if self.refused {
+            return Err(Refusal::NoMemory);
+        }
+        self.inner.keep(step, machine)
+    }
+
+    fn remove(&mut self, step: u64) {
+        self.inner.remove(step);
+    }
+
+    fn count(&self) -> usize {
+        self.inner.count()
+    }
+
+    ghost rising = { λ k. K.rising k.inner };
+}
+
+#[test]
+fn refused_steps_are_told_and_made_again(rt: HostRuntime) -> Result<(), Fail> {
+    let alloc = rt.alloc();
+    let (rope, symbols) = assemble(alloc, FIVE_PLUS_FIVE)?.split();
+    let processor = Processor::new(rope, Feed::empty(alloc));
+    let mut session = Session::<RefusingKeeper<VecKeeper>>::open(alloc, processor)?;
+    let mut commands = b"step 2\nstep 2\nrun 1\ngoto 0\nstep 3\nstep 3\nrun 3\ntail\n".as_slice();
+    let mut out = Buffer::new(alloc);
+    let ended = debug_session(alloc, &mut session, &symbols, &mut commands, &mut out);
+    assert!(rt; ended.is_ok());
+    assert_eq!(rt;
+        out.as_slice(),
+        b"E2 MEMORY\nAT 0 0 4000\nE2 MEMORY\nAT 1 2 4001\nAT 2 4 4002\nAT 0 0 4000
+E2 MEMORY\nAT 2 4 4002\nE2 MEMORY\nAT 3 5 4003\n7 CH 010 00012\nE2 MEMORY\nAT 4 7 4004
+7 CH 010 00012\nTAIL 1\n"
+            .as_slice()
+    );
+    assert_eq!(rt; session.steps(), 4);
+    Ok(())
+}
