@@ -14,7 +14,10 @@ mod source;
 mod statement;
 
 pub use fault::{FeedFault, LineFault};
+pub use input::{Counter, Input, Sequence};
 pub use list::{AddFault, Feed};
 pub use merge::MOST_SERIES;
-pub use reading::{MOST_BYTES, read};
+pub use reading::read;
+pub use request::{REQUESTS, Request};
 pub use statement::{parse_line, word_in};
+pub use words::MOST_BYTES;

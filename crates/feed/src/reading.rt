@@ -19,10 +19,7 @@ use crate::statement::{Statement, statement_of};
 use agc_text::next_line;
 use arrayvec::ArrayVec;
 use std::alloc::Global;
-use words::{Read, ReadFault, read_text};
-
-/// The most bytes of a feed, and of any text that is read whole.
-pub const MOST_BYTES: usize = 8_388_608;
+use words::{MOST_BYTES, Read, ReadFault, read_text};
 
 /// Reads a feed to its end, and answers its inputs.
 ///

@@ -5,7 +5,7 @@ ghost use Rattle.std.specs.Prelude.{◌≡◌, ◌+◌, ◌-◌, ◌≤◌, ◌<
 use std::marker::Model;
 
 /// How many interrupts there are.
-pub(crate) const REQUESTS: u64 = 10;
+pub const REQUESTS: u8 = 10;
 
 /// The number of an interrupt, 1 to 10.
 #[derive(Clone, Copy, PartialEq, Eq, Debug)]

@@ -278,7 +278,7 @@ fn request_in(field: &[u8]) -> Option<Input>
     ensures { result ≡ request_in field.now }
 {
     match decimal(field, REQUEST_DIGITS) {
-        Some(number) if (1..=REQUESTS).contains(&number) => {
+        Some(number) if (1..=u64::from(REQUESTS)).contains(&number) => {
             Some(Input::Request(Request::new(number as u8)))
         }
         Some(_) => None,

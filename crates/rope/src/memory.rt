@@ -11,13 +11,13 @@ use std::marker::Model;
 use words::Word;
 
 /// How many banks hold words.
-const BANKS: u16 = 0o44;
+const BANKS: u16 = space::FIXED_BANKS;
 
 /// The words of one bank.
-pub(crate) const BANK_WORDS: usize = 0o2000;
+pub(crate) const BANK_WORDS: usize = space::BANK_WORDS as usize;
 
 /// How many banks an image has.
-pub(crate) const ENTRIES: usize = 0o44;
+pub(crate) const ENTRIES: usize = BANKS as usize;
 
 /// The places of the banks 0 to 043.
 pub(crate) const PLACES: usize = ENTRIES * BANK_WORDS;

@@ -220,6 +220,12 @@ impl Chan {
     }
 }
 
+/// How many fixed banks hold words: 0 to 043.
+pub const FIXED_BANKS: u16 = 0o44;
+
+/// How many words a fixed bank holds.
+pub const BANK_WORDS: u16 = 0o2000;
+
 /// The number of a fixed bank: 0 to 047. Words stand in banks up to 043.
 #[derive(Clone, Copy, PartialEq, Eq, Debug)]
 pub struct Bank {

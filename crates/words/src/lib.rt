@@ -21,6 +21,6 @@ pub use memory::Buffer;
 pub use numerals::{push_all, push_decimal, push_octal};
 pub use product::{Product, Quotient, div};
 pub use standard::Std;
-pub use text::{ReadFault, read_text};
+pub use text::{MOST_BYTES, ReadFault, read_text};
 pub use wide::{Overflow, Wide};
 pub use word::{Word, WordFault};

@@ -22,6 +22,9 @@ pub enum ReadFault {
     TooLong,
 }
 
+/// The most bytes of a text that is read whole.
+pub const MOST_BYTES: usize = 8_388_608;
+
 const CHUNK: usize = 4096;
 
 /// Reads to the end, and answers the whole text of at most `most` bytes.
