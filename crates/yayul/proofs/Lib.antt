@@ -14,3 +14,5 @@ mod Completed
 mod Ends
 mod Decimals
 mod Fronts
+mod Nearest
+mod Apart

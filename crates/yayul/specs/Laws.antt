@@ -1,7 +1,10 @@
 -- What the definitions of the source language come to.
-use Rattle.std.specs.Prelude.{◌≡◌, ℕ, not, Bool, true, List, [], ◌∷◌, filter, codes, Ok}
+use Rattle.std.specs.Prelude.{◌≡◌, ℕ, ◌+◌, ◌*◌, ◌^◌, ◌<◌, ◌≤◌, not, Bool, true, false, List, [], ◌∷◌, filter, slice_get, codes, Some, Ok}
 use Rattle.std.specs.List.{list_any}
+use Rattle.agc_text.specs.Lines.{lines}
 use Rattle.agc_text.specs.Tables.{same_name}
+use Rattle.yayul.specs.Forms.{scaled}
+use Rattle.yayul.specs.Layout.{Request, start, stands_at, layout_after, layout_faults}
 use Rattle.yayul.specs.Operators.{operators}
 use Rattle.yayul.specs.Words.{addressed_word}
 use Rattle.yayul.specs.Language.{AddressedCode, Channel, Either, Extracode, No, Num, Operator, Takes, Yes}
@@ -45,3 +48,24 @@ digits_shown _ = 4
 abbrev pub operand_digits : Operator → ℕ
 operand_digits (Operator.Addressed i) = digits_shown i.takes
 operand_digits _ = 4
+
+-- ## Fractions
+-- so many multiples of 2 ^ -14 are nearer to a fraction of decimals and their unit than any other: less than half of one away, on either side
+pub record IsNearest (word decimals unit : ℕ) : Type 0 where
+  pub above : 2 * (word * unit) < decimals * 2 ^ 15 + unit
+  pub below : decimals * 2 ^ 15 < 2 * (word * unit) + unit
+
+-- the word of a fraction of 1 to 9 decimals is nearest
+abbrev pub ScalesToNearest : ℕ → ℕ → Type 0
+ScalesToNearest decimals digits = 1 ≤ digits → digits ≤ 9 → IsNearest (scaled decimals (10 ^ digits)) decimals (10 ^ digits)
+
+-- ## Places
+-- of two requests of which one stands before the other, none asks for a place of the other's
+abbrev pub ShareNoPlace : List Request → Type 0
+ShareNoPlace requests =
+    (i j : ℕ) (q r : Request) → i < j → slice_get requests i ≡ Some q → slice_get requests j ≡ Some r
+    → (bank offset : ℕ) → stands_at bank offset q ≡ true → stands_at bank offset r ≡ false
+
+-- no two words of a source without a layout fault share a place
+abbrev pub WordsShareNoPlace : List ℕ → Type 0
+WordsShareNoPlace source = layout_faults 1 start (lines source) ≡ [] → ShareNoPlace (layout_after 1 start (lines source)).requests

@@ -10,6 +10,7 @@ mod decimal;
 mod faults;
 mod instruction;
 mod language;
+pub mod laws;
 mod layout;
 mod line;
 mod listing;

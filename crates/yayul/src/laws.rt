@@ -1,0 +1,20 @@
+//! Laws of the source language. Each is the contract of a call that does nothing.
+
+ghost use Rattle.yayul.specs.Laws.{ScalesToNearest, WordsShareNoPlace};
+
+/// The word of a fraction of 1 to 9 decimals is the nearest multiple of 2^-14: less than half of one away, so that none is as near.
+#[tactic(auto, using(crate::proofs::Nearest::scales_to_nearest))]
+pub fn fraction_is_nearest(decimals: u32, digits: u8)
+    ensures { ScalesToNearest decimals digits }
+{
+    let _decimals = decimals;
+    let _digits = digits;
+}
+
+/// No two words share a place: of a source without a layout fault, no line asks for a place of another's.
+#[tactic(auto, using(crate::proofs::Apart::words_share_no_place))]
+pub fn words_share_no_place(source: &[u8])
+    ensures { WordsShareNoPlace source.now }
+{
+    let _source = source;
+}
