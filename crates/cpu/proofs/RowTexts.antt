@@ -1,8 +1,10 @@
 -- The row that a word lies in tells its text.
-use Rattle.std.proofs.Common.{◌≡◌, ◌≤◌, ◌<◌, ◌%◌, ◌^◌, ℕ, zero, suc, List, [], ◌∷◌, Bool, true, refl, arith, filter, find, length, get_or, Some, ap, inl, inr}
+use Rattle.std.proofs.Common.{◌≡◌, ◌≤◌, ◌<◌, ◌%◌, ◌^◌, ℕ, zero, suc, List, [], ◌∷◌, Bool, true, refl, arith, filter, find, length, get_or, Option, Some, ap, ◌∙◌, inl, inr}
 use Rattle.std.proofs.lemmas.Bool.{cases_Bool}
 use Rattle.std.proofs.lemmas.Bool.Decides.{nat_tests}
-use Rattle.cpu.specs.Codes.{Range, table, serves, rows_serving, code_of, no_range, row_of, bits}
+use Rattle.cpu.specs.Codes.{Range, table, serves, rows_serving, row_of, bits, instruction_of, operand_of, code_of, no_range}
+use Rattle.cpu.specs.declared.instruction.Instruction.{Instruction}
+use Rattle.std.specs.Prelude.{unwrap_or}
 use Rattle.cpu.specs.Texts.{instruction_text, disassembly}
 use Rattle.cpu.proofs.RowLaws.{one_row}
 
@@ -45,4 +47,5 @@ unfolding code_of rows_serving
 shown_by_row extracode k word operand few high least greatest is =
     let lies : serves word (row_at extracode k) ≡ true = grind (arith, nat_tests) in
     let found : find (serves word) (table extracode) ≡ Some (row_at extracode k) = the_one (serves word) (table extracode) k no_range (one_row extracode word high) few lies in
-    rw found (ap (row_text extracode k) is)
+    let same : instruction_of extracode word ≡ (row_at extracode k).instruction = ap (λ (o : Option Range). (unwrap_or o no_range).instruction) found in
+    ap (λ (i : Instruction). instruction_text (record { instruction = i; operand = operand_of i word })) same ∙ ap (row_text extracode k) is
