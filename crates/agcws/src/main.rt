@@ -33,10 +33,16 @@ const DIFFERENT: u8 = 1;
 /// The exit status where the arguments are wrong.
 const WRONG_ARGUMENTS: u8 = 2;
 
+/// A folder that always stands.
+const ROOT: &str = "/";
+
 /// The exit status where not even a fault's line can be written.
 const NOT_REPORTED: u8 = 3;
 
 fn main(rt: HostRuntime) -> ExitCode {
+    // A file that is opened gets the lowest number that is free, and so that of a standard stream which was closed. A folder,
+    // which can be neither read nor written, takes its place.
+    let _in_place_of_closed_streams = [fs::open(&rt, ROOT), fs::open(&rt, ROOT), fs::open(&rt, ROOT)];
     ExitCode::from(match perform(&rt) {
         Ok(status) => status,
         Err(fault) => match report(&fault, &mut Std::new(rt.stderr())) {
