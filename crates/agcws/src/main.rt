@@ -33,16 +33,20 @@ const DIFFERENT: u8 = 1;
 /// The exit status where the arguments are wrong.
 const WRONG_ARGUMENTS: u8 = 2;
 
-/// A folder that always stands.
-const ROOT: &str = "/";
+/// The null device.
+const NULL: &str = "/dev/null";
 
 /// The exit status where not even a fault's line can be written.
 const NOT_REPORTED: u8 = 3;
 
 fn main(rt: HostRuntime) -> ExitCode {
-    // A file that is opened gets the lowest number that is free, and so that of a standard stream which was closed. A folder,
-    // which can be neither read nor written, takes its place.
-    let _in_place_of_closed_streams = [fs::open(&rt, ROOT), fs::open(&rt, ROOT), fs::open(&rt, ROOT)];
+    // A file that is opened gets the lowest number that is free, and so that of a standard stream which was closed. The null
+    // device takes its place: it has nothing to read, and opened so it can't be written.
+    let _in_place_of_closed_streams = [
+        fs::open(&rt, NULL),
+        fs::open(&rt, NULL),
+        fs::open(&rt, NULL),
+    ];
     ExitCode::from(match perform(&rt) {
         Ok(status) => status,
         Err(fault) => match report(&fault, &mut Std::new(rt.stderr())) {
