@@ -75,6 +75,26 @@ fn counter_steps_and_sums(rt: HostRuntime) {
 }
 
 #[test]
+fn bits_and_edits(rt: HostRuntime) {
+    let (one, other) = (wide(0o123456), wide(0o007070));
+    assert_eq!(rt; one.and(other), wide(0o003050));
+    assert_eq!(rt; one.or(other), wide(0o127476));
+    assert_eq!(rt; one.xor(other), wide(0o124426));
+    assert_eq!(rt; one.neg(), wide(0o054321));
+    for (number, right, left) in [
+        (0o40003, 0o60001, 0o00007),
+        (0o00003, 0o00001, 0o00006),
+        (0o20000, 0o10000, 0o40000),
+    ] {
+        assert_eq!(rt; word(number).sr(), word(right), "at {number:o}");
+        assert_eq!(rt; word(number).cyl(), word(left), "at {number:o}");
+    }
+    for (number, diminished) in [(5, 4), (1, 0), (0, 0), (0o177772, 4), (0o177777, 0)] {
+        assert_eq!(rt; wide(number).dabs(), wide(diminished), "at {number:o}");
+    }
+}
+
+#[test]
 fn product_then_quotient(rt: HostRuntime) {
     let squared = word(0o20000).mul(word(0o20000));
     assert_eq!(rt; squared, product(0o10000, 0));
@@ -129,6 +149,19 @@ fn writers_in_trouble_at_each_place(rt: HostRuntime) {
         let mut out = FaultyWriter::new(rt.alloc(), Some(text.len()), trouble);
         assert_eq!(rt; write_all(&mut out, text), Ok(()));
         assert_eq!(rt; out.as_slice(), text.as_slice());
+    }
+}
+
+#[test]
+fn each_trouble_comes_once(rt: HostRuntime) {
+    for (trouble, answer) in [(Trouble::Fails, None), (Trouble::TakesNothing, Some(0))] {
+        let mut out = FaultyWriter::new(rt.alloc(), Some(1), trouble);
+        assert_eq!(rt; out.write(b"").ok(), Some(0));
+        assert_eq!(rt; out.write(b"hello").ok(), Some(1));
+        assert_eq!(rt; out.write(b"").ok(), Some(0));
+        assert_eq!(rt; out.write(b"ello").ok(), answer);
+        assert_eq!(rt; out.write(b"ello").ok(), Some(1));
+        assert_eq!(rt; out.as_slice(), b"he".as_slice());
     }
 }
 

@@ -234,6 +234,7 @@ fn faults_have_numbers(rt: HostRuntime) {
         (FeedFault::TooMany, 32, None),
         (FeedFault::WrongCounter(9), 33, Some(9)),
         (FeedFault::TooLong, 34, None),
+        (FeedFault::TooManySeries(9), 35, Some(9)),
     ];
     for (fault, number, line) in rows {
         assert_eq!(rt; fault.number(), number);
