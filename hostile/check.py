@@ -197,6 +197,8 @@ def devices(room):
             told(f"devices: {name_of(words)}", answer == (3, b"", E6), f"{answer}")
     told("devices: a file that cannot be read leaves no image", not os.path.exists(made))
     inputs_that_fail(folder, writing[-2:])
+    no_streams(made)
+    os.remove(made)
     endless_inputs(made)
     few_of_the_system(writing)
     without_rights(room, image)
@@ -235,6 +237,17 @@ def inputs_that_fail(folder, sessions):
         told(f"devices: {name_of(words)}, with its input closed", (answer.returncode, answer.stdout, answer.stderr) == agcws(*words), f"{answer}")
 
 
+def no_streams(made):
+    """Where standard streams are closed, what is written to them does not go into the file of the image, which the system would give their place."""
+    agcws("asm", FIVE, made)
+    image = read(made)
+    for closed in ((0, 1), (0, 2), (0, 1, 2)):
+        os.remove(made)
+        ran = subprocess.run([PROGRAM, "asm", FIVE, made], stdin=None, stdout=subprocess.PIPE, stderr=subprocess.PIPE, timeout=60, preexec_fn=lambda closed=closed: [os.close(it) for it in closed])
+        status, error = (3, E7 if 2 not in closed else b"") if 1 in closed else (0, b"")
+        told(f"devices: asm with {closed} closed", (ran.returncode, ran.stderr) == (status, error) and read(made) == image, f"{ran} {os.path.getsize(made)} bytes")
+
+
 def endless_inputs(made):
     """A device without an end is read as far as the greatest input goes, and one byte more."""
     zeros = "/dev/zero"
@@ -264,7 +277,8 @@ def few_of_the_system(writing):
         ran = limited(words, resource.RLIMIT_DATA, 1 << 17)
         told(f"devices: {name_of(words)}, with little memory", ran == (3, b"", b"agcws: E2\n"), f"{ran}")
         if len([it for it in words if "/" in it]) > 1:
-            ran = limited(words, resource.RLIMIT_NOFILE, 4)
+            # (the assembler opens three more, for standard streams that may be closed)
+            ran = limited(words, resource.RLIMIT_NOFILE, 7 if words[0] == "asm" else 4)
             told(f"devices: {name_of(words)}, with one file to be had", ran == (3, b"", E7 if words[0] == "asm" else E6), f"{ran}")
 
 
