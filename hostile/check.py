@@ -277,8 +277,8 @@ def few_of_the_system(writing):
         ran = limited(words, resource.RLIMIT_DATA, 1 << 17)
         told(f"devices: {name_of(words)}, with little memory", ran == (3, b"", b"agcws: E2\n"), f"{ran}")
         if len([it for it in words if "/" in it]) > 1:
-            # (the assembler opens three more, for standard streams that may be closed)
-            ran = limited(words, resource.RLIMIT_NOFILE, 7 if words[0] == "asm" else 4)
+            # three are the standard streams, and three stand in for those of them that may be closed
+            ran = limited(words, resource.RLIMIT_NOFILE, 7)
             told(f"devices: {name_of(words)}, with one file to be had", ran == (3, b"", E7 if words[0] == "asm" else E6), f"{ran}")
 
 
