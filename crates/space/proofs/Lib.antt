@@ -1,3 +1,4 @@
+mod BankLemmas
 mod CellLemmas
 mod ChangedLemmas
 mod LaneLemmas

@@ -1,5 +1,5 @@
 -- How a store holds its cells: eight banks of erasable places beside the registers and the channels.
-use Rattle.std.specs.Prelude.{ℕ, ◌-◌, ◌/◌, ◌%◌, ◌<◌, ◌≤◌, ◌≡◌, ◌==◌, nat_lt, if◌then◌else◌, ◌||◌, List, [], slice_index, slice_index_or}
+use Rattle.std.specs.Prelude.{ℕ, ◌-◌, ◌/◌, ◌%◌, ◌<◌, ◌≤◌, ◌≡◌, ◌==◌, nat_lt, if◌then◌else◌, ◌||◌, List, [], length, slice_index, slice_index_or}
 use Rattle.words.specs.Numbers.{extend, correct}
 use Rattle.space.specs.Cells.{erasable_count, accumulator, return_address, erasable_bank, fixed_bank, program_counter}
 
@@ -14,6 +14,10 @@ bank_count = 8
 -- how many words stand in a bank
 abbrev pub bank_size : ℕ
 bank_size = 0o400
+
+-- each bank has all its words
+abbrev pub AreWhole : List (List ℕ) → Type 0
+AreWhole banks = (i : ℕ) → i < bank_count → length (slice_index_or banks i []) ≡ bank_size
 
 -- how many words are compared at a time
 abbrev pub lane_count : ℕ
@@ -49,3 +53,8 @@ cell_limit c =
 pub record IsStored (places : ℕ → ℕ) (channels : List ℕ) : Type 0 where
   pub limits : (c : ℕ) → stored places channels c < cell_limit c
   pub extended : (c : ℕ) → register_count ≤ c → places c ≡ extend (correct (places c))
+
+-- the same of the arrays, of which each bank has all its words
+pub record Holds (registers : List ℕ) (banks : List (List ℕ)) (channels : List ℕ) : Type 0 where
+  pub numbers : IsStored (held_at registers banks) channels
+  pub whole : AreWhole banks

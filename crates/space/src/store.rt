@@ -41,7 +41,7 @@ impl Model for Store {
     ghost use Rattle.std.specs.Coded.{coded_ℕ};
     ghost use Rattle.std.specs.FinMap as map;
     ghost use Rattle.space.specs.Cells.{Cells, cells_by};
-    ghost use Rattle.space.specs.Stored.{held_at, stored, IsStored};
+    ghost use Rattle.space.specs.Stored.{held_at, stored, Holds};
 
     ghost Value = { Cells };
 
@@ -49,7 +49,7 @@ impl Model for Store {
 
     ghost view = { λ s. cells_by (stored (held_at s.registers s.banks) s.channels) };
 
-    ghost invariant = { λ s. IsStored (held_at s.registers s.banks) s.channels };
+    ghost invariant = { λ s. Holds s.registers s.banks s.channels };
 }
 
 impl Store {

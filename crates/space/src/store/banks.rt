@@ -1,8 +1,8 @@
 //! The eight banks of erasable memory.
 
-ghost use Rattle.std.specs.Prelude.{◌≡◌, ℕ, ◌+◌, ◌/◌, ◌%◌, ◌^◌, ◌<◌, ◌≤◌, ◌≢◌, slice_index, replicate, if◌then◌else◌, ◌==◌};
+ghost use Rattle.std.specs.Prelude.{◌≡◌, ℕ, ◌+◌, ◌/◌, ◌%◌, ◌^◌, ◌<◌, ◌≤◌, ◌≢◌, length, slice_index, replicate, if◌then◌else◌, ◌==◌};
 ghost use Rattle.space.specs.Cells.{erasable_count};
-ghost use Rattle.space.specs.Stored.{bank_count, bank_size, lane_count, banked};
+ghost use Rattle.space.specs.Stored.{bank_count, bank_size, lane_count, banked, AreWhole};
 
 use std::simd::prelude::*;
 
@@ -16,23 +16,26 @@ const BANK_SIZE: usize = 0o400;
 pub(super) const LANES: u16 = 32;
 
 pub(super) fn zero_banks() -> ErasableBanks
-    ensures { result ≡ replicate bank_count (replicate bank_size 0) }
+    ensures value { result ≡ replicate bank_count (replicate bank_size 0) }
+    ensures whole { AreWhole result }
 {
     [[0; 256]; 8]
 }
 
 /// The number that the banks hold for a place.
 pub(super) fn number_in(banks: &ErasableBanks, place: u16) -> u16
-    requires { place < erasable_count }
+    requires place { place < erasable_count }
+    requires whole { AreWhole banks.now }
     ensures { result ≡ banked banks.now place }
 {
-    let place = usize::from(place);
-    banks[place / BANK_SIZE][place % BANK_SIZE]
+    banks.as_flattened()[usize::from(place)]
 }
 
 /// Puts a number into the banks for a place, and leaves the others.
 pub(super) fn set_in(banks: &mut ErasableBanks, place: u16, number: u16)
-    requires { place < erasable_count }
+    requires place { place < erasable_count }
+    requires whole { AreWhole banks.old }
+    ensures whole { AreWhole banks.new }
     ensures here { banked banks.new place ≡ number }
     ensures others { (q : ℕ) → q ≢ place → banked banks.new q ≡ banked banks.old q }
 {
@@ -43,6 +46,7 @@ pub(super) fn set_in(banks: &mut ErasableBanks, place: u16, number: u16)
 /// Puts a number at one place of a bank, and leaves the others.
 fn set_word(bank: &mut [u16; 256], index: usize, number: u16)
     requires { index < bank_size }
+    ensures size { length bank.new ≡ bank_size }
     ensures here { slice_index bank.new index ≡ number }
     ensures others { (q : ℕ) → q ≢ index → slice_index bank.new q ≡ slice_index bank.old q }
 {

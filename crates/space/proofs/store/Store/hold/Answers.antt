@@ -11,7 +11,10 @@ invariant_of-self c =
     let same : c.from.result ≡ c.args.place = cc in
     let here = register_here new b c.from.result c.args.number (omega (arith, c.requires.register)) c.set.ensures.here in
     let others = register_others old new b c.from.result c.set.ensures.others in
-    IsStored-register (held_at old b) (held_at new b) c.self.inside.channels c.from.result c.args.number c.self.invariant (omega (arith, c.requires.register)) (rw same c.requires.limit) here others
+    record {
+      numbers = IsStored-register (held_at old b) (held_at new b) c.self.inside.channels c.from.result c.args.number c.self.invariant.numbers (omega (arith, c.requires.register)) (rw same c.requires.limit) here others;
+      whole = c.self.invariant.whole;
+    }
 
 pub returns : goal.returns
 returns c =

@@ -5,7 +5,10 @@ use Rattle.space.proofs.store.Store.hold_on.Goals as goal
 
 pub invariant_of-self : goal.invariant_of-self
 invariant_of-self c =
-    IsStored-channel (held_at c.self.inside.registers c.self.inside.banks) c.self.inside.channels c.set.new.numbers c.from.result c.args.number c.self.invariant c.requires.limit c.set.ensures.here c.set.ensures.others
+    record {
+      numbers = IsStored-channel (held_at c.self.inside.registers c.self.inside.banks) c.self.inside.channels c.set.new.numbers c.from.result c.args.number c.self.invariant.numbers c.requires.limit c.set.ensures.here c.set.ensures.others;
+      whole = c.self.invariant.whole;
+    }
 
 pub returns : goal.returns
 returns c =

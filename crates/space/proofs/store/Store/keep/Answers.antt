@@ -13,7 +13,10 @@ invariant_of-self c =
     let wide : banked new p ≡ extend c.args.word = cc in
     let here = bank_here r new p (extend c.args.word) (omega arith) wide in
     let others = bank_others r old new p c.set_in.ensures.others in
-    IsStored-word (held_at r old) (held_at r new) c.self.inside.channels p c.args.word c.self.invariant (omega arith) (omega arith) (omega arith) here others
+    record {
+      numbers = IsStored-word (held_at r old) (held_at r new) c.self.inside.channels p c.args.word c.self.invariant.numbers (omega arith) (omega arith) (omega arith) here others;
+      whole = c.set_in.ensures.whole;
+    }
 
 pub returns : goal.returns
 returns c =
