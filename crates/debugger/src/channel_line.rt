@@ -1,30 +1,31 @@
 //! Channel lines.
 
-ghost use Rattle.std.specs.Prelude.{◌≡◌, ◌≤◌, true};
-ghost use Rattle.arrayvec.specs.ArrayVec.{array_vec_len};
+ghost use Rattle.std.specs.Prelude.{◌≡◌, ◌≤◌, length, true};
 ghost use Rattle.words.specs.Devices.{Writes, failures_after};
 ghost use Rattle.debugger.specs.ChannelLines.{channel_line};
 
-use arrayvec::ArrayVec;
 use cpu::Output;
-use words::{Write, WriteFailed, push_all, push_decimal, push_octal, write_all};
+use words::{BackwardText, Write, WriteFailed, write_all};
 
 /// The most bytes of a line: 20 digits, ` CH `, 3 digits, a blank, 5 digits and a line feed.
 const CHANNEL_LINE: usize = 34;
 
 /// The line of an output.
 #[tactic(auto, using(words::proofs::Digits::short_decimal))]
-pub(crate) fn channel_line(output: &Output) -> ArrayVec<u8, CHANNEL_LINE>
-    ensures items { result.items ≡ channel_line output.now }
-    ensures short { array_vec_len result ≤ CHANNEL_LINE }
+pub(crate) fn channel_line(output: &Output) -> BackwardText
+    ensures items { result ≡ channel_line output.now }
+    ensures short { length result ≤ CHANNEL_LINE }
 {
-    let mut line = ArrayVec::new();
-    push_decimal(&mut line, output.cycles);
-    push_all(&mut line, b" CH ");
-    push_octal(&mut line, 3, output.channel.number());
-    push_all(&mut line, b" ");
-    push_octal(&mut line, 5, output.word.to_u16());
-    push_all(&mut line, b"\n");
+    let mut line = BackwardText::new();
+    line.prepend(b'\n');
+    line.prepend_octal(5, output.word.to_u16());
+    line.prepend(b' ');
+    line.prepend_octal(3, output.channel.number());
+    line.prepend(b' ');
+    line.prepend(b'H');
+    line.prepend(b'C');
+    line.prepend(b' ');
+    line.prepend_decimal(output.cycles);
     line
 }
 

@@ -5,6 +5,10 @@ use Rattle.std.specs.Prelude.{ℕ, zero, suc, ◌+◌, ◌/◌, ◌%◌, List, [
 abbrev pub digit_zero : ℕ
 digit_zero = 48
 
+-- the most bytes of a text that is put together from its end
+abbrev pub backward_room : ℕ
+backward_room = 40
+
 -- the last k octal digits of n
 unfoldable pub octal_text : ℕ → ℕ → List ℕ
 octal_text zero n = []

@@ -18,7 +18,7 @@ mod word;
 pub use counters::{Carry, CounterStep};
 pub use device::{Read, Write, WriteFailed, write_all};
 pub use memory::Buffer;
-pub use numerals::{push_all, push_decimal, push_octal};
+pub use numerals::{BackwardText, push_all, push_decimal, push_octal};
 pub use product::{Product, Quotient, div};
 pub use standard::Std;
 pub use text::{MOST_BYTES, ReadFault, read_text};

@@ -6,6 +6,10 @@ ghost use Rattle.words.specs.Numerals.{digit_zero, octal_text};
 
 use arrayvec::ArrayVec;
 
+mod backward;
+
+pub use self::backward::BackwardText;
+
 /// Appends a text.
 pub fn push_all<const N: usize>(line: &mut ArrayVec<u8, N>, text: &[u8])
     requires { array_vec_len line.old + length text.now ≤ N }
@@ -18,29 +22,15 @@ pub fn push_all<const N: usize>(line: &mut ArrayVec<u8, N>, text: &[u8])
 }
 
 /// Appends a number in decimal, with no zero before it.
+#[tactic(auto, using(crate::proofs::Digits::short_decimal))]
 pub fn push_decimal<const N: usize>(line: &mut ArrayVec<u8, N>, number: u64)
     requires { array_vec_len line.old + length (decimal number) ≤ N }
     ensures items { line.new.items ≡ line.old.items ++ decimal number }
     ensures len { array_vec_len line.new ≡ array_vec_len line.old + length (decimal number) }
 {
-    push_all(line, decimal_digits(number).as_slice());
-}
-
-/// The most decimal digits of a number of 64 bits.
-const DECIMAL_DIGITS: usize = 20;
-
-fn decimal_digits(number: u64) -> ArrayVec<u8, DECIMAL_DIGITS>
-    ensures { result.items ≡ decimal number }
-{
-    if number < 10 {
-        let mut digits = ArrayVec::new();
-        digits.push(b'0' + number as u8);
-        digits
-    } else {
-        let mut digits = decimal_digits(number / 10);
-        digits.push(b'0' + (number % 10) as u8);
-        digits
-    }
+    let mut digits = BackwardText::new();
+    digits.prepend_decimal(number);
+    push_all(line, digits.as_slice());
 }
 
 /// Appends the last octal digits of a number, as many as `digits`.

@@ -26,6 +26,6 @@ unreachable-requires c = stands c.args.ring.now.items c.loop-index.index (rw c.i
 
 pub loop-index-preserved : goal.loop-index-preserved
 loop-index-preserved c = record {
-  items = c.push_all.ensures.items ∙ rw (c.as_slice.ensures.value, c.channel_line.ensures.items, c.loop-index.invariant.items) (sym (lines-more c.args.ring.now.items c.loop-index.index c.in-Some.output.now c.in-Some.ensures));
-  len = omega (arith, c.push_all.ensures.len, c.as_slice.ensures.fits, c.loop-index.invariant.len);
+  items = c.push_all.ensures.items ∙ rw (c.as_slice.ensures, c.channel_line.ensures.items, c.loop-index.invariant.items) (sym (lines-more c.args.ring.now.items c.loop-index.index c.in-Some.output.now c.in-Some.ensures));
+  len = omega (arith, c.push_all.ensures.len, ap length c.as_slice.ensures, c.channel_line.ensures.short, c.loop-index.invariant.len);
 }
