@@ -1,7 +1,6 @@
 //! Sessions that go forward and back.
 
-use crate::machines::{everything, expect, five_plus_five, same};
-use cpu::Machine;
+use crate::machines::{everything, expect, five_plus_five};
 use replay::{Keeper, Refusal, Session, SlotKeeper, VecKeeper};
 use space::numbers::Chan;
 use std::alloc::Global;
@@ -107,47 +106,6 @@ fn goes_back_and_forth<K: Keeper>(alloc: Global) -> Result<(), Fail> {
 fn debugger_back_and_forth(rt: HostRuntime) -> Result<(), Fail> {
     goes_back_and_forth::<SlotKeeper>(rt.alloc())?;
     goes_back_and_forth::<VecKeeper>(rt.alloc())
-}
-
-/// The machine of another processor after so many steps.
-fn stepped(alloc: Global, seed: u32, steps: u64) -> Result<Machine, Fail> {
-    let mut processor = everything(alloc, seed)?;
-    let mut machine = Machine::start();
-    for _ in 0..steps {
-        processor.step(&mut machine);
-    }
-    Ok(machine)
-}
-
-/// What is shown at 100 steps of a run is what another processor comes to.
-fn shows_what_was<K: Keeper>(alloc: Global, seed: u32) -> Result<(), Fail> {
-    let mut session = Session::<K>::open(alloc, everything(alloc, seed)?)?;
-    for _ in 0..10_000 {
-        session.forward()?;
-    }
-    for k in 0..100u64 {
-        let t = k * 7_919 % 10_000;
-        let expected = stepped(alloc, seed, t)?;
-        let (shown, _, processor) = session.with_present(t)?;
-        expect(same(processor, shown, &expected), "the machine shown")?;
-    }
-    let processor = everything(alloc, seed)?;
-    expect(
-        same(
-            &processor,
-            session.present(),
-            &stepped(alloc, seed, 10_000)?,
-        ),
-        "the present",
-    )
-}
-
-#[test]
-fn programs_that_execute_everything(rt: HostRuntime) -> Result<(), Fail> {
-    for seed in [7, 1_969, 65_537] {
-        shows_what_was::<SlotKeeper>(rt.alloc(), seed)?;
-    }
-    shows_what_was::<VecKeeper>(rt.alloc(), 12)
 }
 
 /// The last steps, in a session of 7, at which the program is at its second word, sought before some steps.
