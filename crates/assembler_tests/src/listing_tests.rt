@@ -67,6 +67,21 @@ SYMBOLS 0
 }
 
 #[test]
+fn symbol_has_its_number_and_its_row_the_window(rt: HostRuntime) -> Result<(), Fault> {
+    let source = b" SETLOC 2000
+X ERASE
+";
+    let expected = b"    1                 SETLOC 2000
+    2 E4,1400        X ERASE
+SYMBOLS 1
+X        ERASABLE 2000
+";
+    let listing = listing_of(rt.alloc(), source)?;
+    assert_eq!(rt; listing.as_slice(), expected.as_slice());
+    Ok(())
+}
+
+#[test]
 fn places_stand_without_words(rt: HostRuntime) -> Result<(), Fault> {
     let source = b"NUM EQUALS 20
  SETLOC 500

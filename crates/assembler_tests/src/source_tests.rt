@@ -2,7 +2,7 @@
 
 use space::numbers::{Bank, Offset};
 use std::alloc::{AllocError, Global};
-use yayul::assemble;
+use yayul::{assemble, value_text};
 
 /// The line and the number of a source's fault, 0 and 0 where it has none.
 fn fault_of(alloc: Global, source: &[u8]) -> (u32, u8) {
@@ -39,8 +39,9 @@ fn five_plus_five_words_and_image(rt: HostRuntime) {
 #[test]
 fn layout_fault_first(rt: HostRuntime) {
     let twice = b" SETLOC 4000\nX EQUALS 100\n CA NOSUCH\n\n\n\n\n\nX OCT 0\n";
+    let once = b" SETLOC 4000\nX EQUALS 100\n CA NOSUCH\n\n\n\n\n\n OCT 0\n";
     assert_eq!(rt; fault_of(rt.alloc(), twice), (9, 14));
-    assert_eq!(rt; fault_of(rt.alloc(), &twice[..42]), (3, 17));
+    assert_eq!(rt; fault_of(rt.alloc(), once), (3, 17));
 }
 
 #[test]
@@ -143,6 +144,8 @@ fn settled_count_of_lines(rt: HostRuntime) -> Result<(), AllocError> {
         let source = after_line_feeds(rt.alloc(), count, text)?;
         assert_eq!(rt; fault_of(rt.alloc(), &source), (line, number));
     }
+    let long = after_line_feeds(rt.alloc(), 65_536, &[b'#'; 121])?;
+    assert_eq!(rt; fault_of(rt.alloc(), &long), (65_537, 11));
     Ok(())
 }
 
@@ -266,12 +269,66 @@ fn settled_kinds_and_extracodes(rt: HostRuntime) {
 }
 
 #[test]
+fn settled_names_and_places(rt: HostRuntime) {
+    let words: [(&[u8], u16, u16, u16); 7] = [
+        (b" CA A,B\nA,B OCT 5", 2, 0, 0o34001),
+        (b" CA A.1\nA.1 OCT 5", 2, 0, 0o34001),
+        (b" FCADR +1", 2, 0, 0o04001),
+        (
+            b" SETLOC 1000\n EBANK= +0\n SETLOC 4000\n 2CADR 4000",
+            2,
+            1,
+            0o04002,
+        ),
+        (b" BANK 5\nX\n BANK 5\n ADRES X", 5, 0, 0o02000),
+        (
+            b" SETLOC 100\n ERASE +7\n BANK 5\n ADRES +0",
+            5,
+            0,
+            0o02000,
+        ),
+        (
+            b" BANK 5\n SETLOC 4002\n 2CADR 4000\n BANK 2\n ADRES +0",
+            2,
+            4,
+            0o04004,
+        ),
+    ];
+    for (source, bank, offset, word) in words {
+        assert_eq!(rt; word_at(rt.alloc(), source, bank, offset), word);
+    }
+    let faults: [(&[u8], u32, u8); 6] = [
+        (b" OCT 1\n SETLOC 4000\n OCT 2", 3, 21),
+        (b" SETLOC 4001\n OCT 1\n SETLOC 4000\n 2CADR 4000", 4, 21),
+        (b" BLOCK +1", 1, 16),
+        (b" COM +1", 1, 16),
+        (b" EBANK= NOSUCH", 1, 18),
+        (b"X EBANK= X", 1, 13),
+    ];
+    for (source, line, number) in faults {
+        assert_eq!(rt; fault_of(rt.alloc(), source), (line, number));
+    }
+}
+
+#[test]
 fn symbols_and_memory(rt: HostRuntime) {
-    let program = assemble(rt.alloc(), b"X EQUALS 20\n").expect(&rt, "a program");
-    assert!(rt; program.symbol(b"X").is_some());
+    let source = b"X EQUALS 20\n SETLOC 1777\nY ERASE\n BANK 5\n OCT 0\nZ OCT 1\n";
+    let program = assemble(rt.alloc(), source).expect(&rt, "a program");
+    let values: [(&[u8], &[u8]); 3] = [
+        (b"X", b"NUM 00020"),
+        (b"Y", b"ERASABLE 1777"),
+        (b"Z", b"FIXED 05,0001"),
+    ];
+    for (name, text) in values {
+        let value = program.symbol(name).expect(&rt, "a symbol");
+        assert_eq!(rt; value_text(value).as_slice(), text);
+    }
     assert!(rt; program.symbol(b"NOSUCH").is_none());
     let (rope, symbols) = program.split();
-    assert!(rt; symbols.symbol(b"X").is_some());
+    for (name, text) in values {
+        let value = symbols.symbol(name).expect(&rt, "a symbol");
+        assert_eq!(rt; value_text(value).as_slice(), text);
+    }
     assert!(rt; symbols.symbol(b"a name that is too long").is_none());
     assert!(rt; !rope.has(Bank::try_new(2).unwrap(), Offset::try_new(0).unwrap()));
 }

@@ -55,7 +55,7 @@ fn five_plus_five_writes_one_line(rt: HostRuntime) {
 
 #[test]
 fn end_of_a_run_is_told(rt: HostRuntime) {
-    let rows: [(&[u8], u64, &[u8]); 3] = [
+    let rows: [(&[u8], u8, &[u8]); 3] = [
         (
             FIVE_PLUS_FIVE,
             4,
@@ -71,9 +71,8 @@ fn end_of_a_run_is_told(rt: HostRuntime) {
     for (source, steps, line) in rows {
         let mut out = Buffer::new(rt.alloc());
         let mut told = Buffer::new(rt.alloc());
-        if steps <= 4
-            && let Ok(summary) = run(rt.alloc(), source, b"", steps, &mut out)
-        {
+        let summary = run(rt.alloc(), source, b"", u64::from(steps), &mut out);
+        if let Ok(summary) = summary {
             assert_eq!(rt; write_end(&summary, &mut told), Ok(()));
             for place in 0..line.len() {
                 let mut broken = FaultyWriter::new(rt.alloc(), Some(place), Trouble::TakesNothing);
@@ -115,6 +114,47 @@ fn empty_source_runs(rt: HostRuntime) {
     assert_eq!(rt; out.as_slice(), b"".as_slice());
 }
 
+/// Waits for keys, and writes each on channel 10.
+const KEY_ECHO: &[u8] = b"ARUPT EQUALS 10
+ SETLOC 4000
+ RELINT
+WAIT TCF WAIT
+ SETLOC 4024
+ DXCH ARUPT
+ TCF KEY
+ SETLOC 4100
+KEY EXTEND
+ READ 15
+ EXTEND
+ WRITE 10
+ DXCH ARUPT
+ RESUME
+";
+
+// RELINT and TCF to cycle 2; the key; the entry to 5; DXCH 8, TCF 9, EXTEND 10, READ 12, EXTEND 13, WRITE 15; DXCH 18, RESUME 20,
+// then the TCF that was put off, to 21. So ten steps end at 15, and 13 at 21; TIME1 takes a cycle, and the second key is there at 22.
+#[test]
+fn inputs_of_a_feed_are_taken(rt: HostRuntime) {
+    let rows: [(&[u8], u8, &[u8], u64, u16); 4] = [
+        (b"2 CHAN 015 00021\n", 10, b"15 CH 010 00021\n", 15, 0o4104),
+        (b"2 CHAN 015 00021\n", 9, b"", 13, 0o4103),
+        (
+            b"2 CHAN 015 00021\n21 TIME1 PINC\n22 CHAN 015 00004\n",
+            22,
+            b"15 CH 010 00021\n35 CH 010 00004\n",
+            35,
+            0o4104,
+        ),
+        (b"3 CHAN 015 00021\n", 3, b"", 3, 0o4001),
+    ];
+    for (feed, steps, text, cycles, z) in rows {
+        let mut out = Buffer::new(rt.alloc());
+        let summary = run(rt.alloc(), KEY_ECHO, feed, u64::from(steps), &mut out);
+        assert_eq!(rt; summary.map(|s| (s.cycles, s.z)), Ok((cycles, z)));
+        assert_eq!(rt; out.as_slice(), text);
+    }
+}
+
 #[test]
 fn five_thousand_steps_write_a_thousand_lines(rt: HostRuntime) {
     let mut out = Buffer::new(rt.alloc());
@@ -128,7 +168,7 @@ fn five_thousand_steps_write_a_thousand_lines(rt: HostRuntime) {
 
 #[test]
 fn first_faults_are_told(rt: HostRuntime) {
-    let rows: [(&[u8], &[u8], u64, WorkshopFault); 6] = [
+    let rows: [(&[u8], &[u8], u8, WorkshopFault); 6] = [
         (b" SETLOC 4000\n CA NOSUCH\n", b"", 1, source_fault(2, 17)),
         (b" SETLOC 4000\n FROB 100\n", b"", 1, source_fault(2, 15)),
         (
@@ -148,9 +188,10 @@ fn first_faults_are_told(rt: HostRuntime) {
     ];
     for (source, feed, steps, fault) in rows {
         let mut out = Buffer::new(rt.alloc());
-        if steps <= 1 {
-            assert_eq!(rt; run(rt.alloc(), source, feed, steps, &mut out), Err(fault));
-        }
+        assert_eq!(rt;
+            run(rt.alloc(), source, feed, u64::from(steps), &mut out),
+            Err(fault)
+        );
         assert_eq!(rt; out.as_slice(), b"".as_slice());
     }
 }
