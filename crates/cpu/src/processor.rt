@@ -52,9 +52,9 @@ impl Processor {
     }
 
     /// Makes one step, and answers what it puts out: takes the next input where it is due, else enters an interrupt, else
-    /// executes an instruction. The meter counts the step, but stays at its greatest value. A machine with more than 2^62
-    /// cycles stays as it is: no run of fewer than 2^59 steps from the start leads there. Of a machine that does not fit what
-    /// runs, as one from another processor, no state is told.
+    /// executes an instruction. The meter counts the step, but stays at its greatest value. No state is told of a machine with
+    /// more than 2^62 cycles, to which no run of fewer than 2^59 steps from the start leads, nor of one that does not fit what
+    /// runs, as one from another processor.
     #[inline(always)]
     #[tactic(auto, unfolding(crate::specs::Next::next))]
     pub fn step(&mut self, machine: &mut Machine) -> Option<Output>
