@@ -281,12 +281,7 @@ fn settled_names_and_places(rt: HostRuntime) {
             0o04002,
         ),
         (b" BANK 5\nX\n BANK 5\n ADRES X", 5, 0, 0o02000),
-        (
-            b" SETLOC 100\n ERASE +7\n BANK 5\n ADRES +0",
-            5,
-            0,
-            0o02000,
-        ),
+        (b" SETLOC 100\n ERASE +7\n BANK 5\n ADRES +0", 5, 0, 0o02000),
         (
             b" BANK 5\n SETLOC 4002\n 2CADR 4000\n BANK 2\n ADRES +0",
             2,

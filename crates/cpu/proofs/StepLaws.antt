@@ -83,7 +83,7 @@ requests-next_by rope s (Some entered) k e =
     (and_parts _ _ parts).1
 requests-next_by rope s None k e = let code = code_of s.extra (instruction_word rope s) in
     let same = requests-after rope (fetched s) code.instruction code.operand in
-     ap (λ (r : set.FinSet nat_cmp). set.contains r k) (sym same) ∙ e
+    ap (λ (r : set.FinSet nat_cmp). set.contains r k) (sym same) ∙ e
 
 pub asks_nothing : (scenario : Scenario) (s : State) → AsksNothing scenario s
 unfolding next
