@@ -17,7 +17,7 @@ use words::{Word, push_all, push_octal};
 const MOST_TEXT: usize = 10;
 
 /// The instruction that a word is, under extracode or not, as text: its name, and after a blank its address in four octal
-/// digits or its channel in three. Each word lies in exactly one row of each code table.
+/// digits or its channel in three. Each word lies in exactly one range of each code table.
 #[tactic(auto, using(crate::proofs::RowLaws::one_row), unfolding(crate::specs::Texts::instruction_text))]
 pub fn disassemble(word: Word, extra: bool) -> ArrayVec<u8, 10>
     ensures text { result.items ≡ disassembly extra word }

@@ -8,7 +8,7 @@ use crate::machine::Machine;
 use crate::processor::Processor;
 use words::Word;
 
-/// Each word lies in exactly one row of each code table.
+/// Each word lies in exactly one range of each code table.
 #[tactic(auto, using(crate::proofs::RowLaws::one_row))]
 pub fn each_word_has_one_row(word: Word, extra: bool)
     ensures { rows_serving extra word ≡ 1 }
@@ -26,7 +26,7 @@ pub fn step_adds_few_cycles(processor: &Processor, machine: &Machine)
     let _machine = machine;
 }
 
-/// A step takes one input or none, and never more than there are.
+/// A step takes one input or none, and of a machine that fits what runs never more than there are.
 #[tactic(auto, using(crate::proofs::StepLaws::takes_in_turn))]
 pub fn step_takes_in_turn(processor: &Processor, machine: &Machine)
     ensures { TakesInTurn processor.now.scenario machine.now }

@@ -1,4 +1,4 @@
-//! Calls that take no memory.
+//! Calls that are never refused memory.
 
 ghost use Rattle.std.specs.Prelude.{◌≤◌, ◌<◌, IsSome};
 ghost use Rattle.replay.specs.Memory.{step_limit};

@@ -1,6 +1,6 @@
 //! Readers and writers whose contracts see bytes and failures.
 
-ghost use Rattle.std.specs.Prelude.{◌≡◌, ℕ, ◌<◌, Bool, true, List, [], ◌++◌, Ok, IfOk, OnErr, length, take, drop, if◌then◌else◌};
+ghost use Rattle.std.specs.Prelude.{◌≡◌, ℕ, ◌<◌, ◌≤◌, Bool, true, List, [], ◌++◌, Ok, IfOk, OnErr, length, take, drop, if◌then◌else◌};
 ghost use Rattle.std.specs.Io.{ReadsAtMost, WritesAtMost};
 ghost use Rattle.words.specs.Devices.{failures_after, failures_after_write, Writes};
 
@@ -35,8 +35,10 @@ pub trait Read {
         b""
     }
 
-    /// Passes over so many bytes, if so many stand ready, and answers whether it did. Else nothing changes.
+    /// Passes over so many of the bytes that are left, and answers whether it did; else nothing changes. It does where so many
+    /// stand ready, and need not elsewhere.
     fn pass(&mut self, count: usize) -> bool
+        ensures within { told ≡ true → result ≡ true → count ≤ length (left self.old) }
         ensures bytes { told ≡ true → left self.new ≡ (if result then drop count (left self.old) else left self.old) }
         ensures failures { failures self.new ≡ failures self.old }
     {
