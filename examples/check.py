@@ -31,6 +31,7 @@ sys.dont_write_bytecode = True
 EXAMPLES = os.path.dirname(os.path.abspath(__file__))
 ROOT = os.path.dirname(EXAMPLES)
 sys.path.insert(0, f"{ROOT}/gate")
+from files import read, write
 from tally import end, told
 
 PROGRAM = f"{ROOT}/crates/agcws/out/agcws"
@@ -512,16 +513,6 @@ def check_end(room):
         told("the end of a run that cannot be written", (ran.returncode, ran.stderr) == (3, b"agcws: E7\n"))
         ran = subprocess.run([PROGRAM, "run", "--end", source, empty, "4"], stdout=subprocess.PIPE, stderr=full, timeout=60)
         told("an end that cannot be told", (ran.returncode, ran.stdout) == (3, line))
-
-
-def read(path):
-    with open(path, "rb") as file:
-        return file.read()
-
-
-def write(path, text):
-    with open(path, "wb") as file:
-        file.write(text)
 
 
 def main():

@@ -3,6 +3,8 @@ import ctypes
 import os
 import subprocess
 
+from files import read, write
+
 HERE = os.path.dirname(os.path.abspath(__file__))
 ROOT = os.path.dirname(HERE)
 EXAMPLES = f"{ROOT}/examples"
@@ -73,17 +75,6 @@ quit
 def call_of(kind, number):
     """The call by which a case is tried."""
     return CALLS[kind][number % len(CALLS[kind])]
-
-
-def read(path):
-    with open(path, "rb") as file:
-        return file.read()
-
-
-def write(path, content):
-    with open(path, "wb") as file:
-        file.write(content)
-    return path
 
 
 def with_ending(ending):

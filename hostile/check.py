@@ -31,7 +31,8 @@ ROOT = os.path.dirname(HERE)
 sys.path[:0] = [HERE, f"{ROOT}/gate"]
 import cases
 import in_process
-from cases import ADDED, COMMANDS, EMPTY, FIVE, IMAGE_BYTES, PROGRAM, REFUSALS, read, write
+from cases import ADDED, COMMANDS, EMPTY, FIVE, IMAGE_BYTES, PROGRAM, REFUSALS
+from files import read, write
 from tally import end, told
 
 # The most seconds that a call may take, and the most memory in bytes: so much, and so much for each byte that is read. (The system counts what the process that starts

@@ -35,8 +35,8 @@ pub trait Read {
         b""
     }
 
-    /// Passes over so many of the bytes that are left, and answers whether it did; else nothing changes. It does where so many
-    /// stand ready, and need not elsewhere.
+    /// Passes over so many of the bytes that are left, or over none, and answers whether it did. A reader that has so many
+    /// ready should.
     fn pass(&mut self, count: usize) -> bool
         ensures within { told ≡ true → result ≡ true → count ≤ length (left self.old) }
         ensures bytes { told ≡ true → left self.new ≡ (if result then drop count (left self.old) else left self.old) }
