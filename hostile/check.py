@@ -4,13 +4,15 @@
 usage: hostile/check.py [--cases N] [--seed TEXT] [PART ..]     a PART is memory, devices, sizes or bytes; with none all are tried
 
 memory   each single request for memory is refused, by itself and with all after it (refuse.c, loaded before the program), for each command, help and refusals: the answer is
-         E2 and nothing else than a beginning of the output; a refused `add` is told and changes nothing; once a session is open its commands ask for none
+         E2 and nothing else than a beginning of the output; a refused `add` is told and changes nothing; once a session is open its commands ask for none; of the program
+         vector_session, whose images stand in a vector, a step that is refused changes nothing and is made again
 devices  full devices, closed pipes, folders, files that aren't there or may not be read, devices without an end, closed standard streams, no file or memory to be had
 sizes    one byte, line or input too many, or a byte too few
 bytes    N sources, feeds, command files and images (cases.py; 20,000 of each if not said), each in a process of its own: it ends in time and in little memory, with a refusal
          that exists. What hostile/long_run tries in one process gives the same answers; and in one process N more of each are tried with a failure besides
 
-The last line is 'N passed, M failed'. The built program is crates/agcws/out/agcws, or what AGCWS names."""
+The last line is 'N passed, M failed'. The built programs are crates/agcws/out/agcws, or what AGCWS names, and crates/vector_session/out/vector_session, or what VECTOR_SESSION names; `./check` leaves both, and `rt run`
+in a crate's folder makes its own."""
 import argparse
 import collections
 import os
@@ -39,6 +41,8 @@ from tally import end, told
 # the call has itself, some 33 MiB.)
 MOST_SECONDS = 10
 MOST_MEMORY, MEMORY_PER_BYTE = 64 << 20, 64
+# The program that goes through a session whose images stand in a vector.
+VECTOR_SESSION = os.environ.get("VECTOR_SESSION", f"{ROOT}/crates/vector_session/out/vector_session")
 # So many cases of each kind are answered alike in one process and each in its own.
 ALIKE = 600
 
@@ -61,13 +65,14 @@ class Refusing:
     def __init__(self, room):
         self.library, self.mark = cases.build(room, "refuse"), f"{room}/refused"
 
-    def run(self, words, commands=b"", **settings):
-        """What the program answers, and whether it was refused anything."""
+    def run(self, words, commands=b"", program=PROGRAM, **settings):
+        """What a program answers, and whether it was refused anything."""
         names = {name: str(it) for name, it in settings.items()}
         if os.path.exists(self.mark):
             os.remove(self.mark)
-        answer = agcws(*words, commands=commands, env={**os.environ, "LD_PRELOAD": self.library, "REFUSE_TELLS": self.mark, **names})
-        return answer, os.path.exists(self.mark)
+        env = {**os.environ, "LD_PRELOAD": self.library, "REFUSE_TELLS": self.mark, **names}
+        ran = subprocess.run([program, *words], input=commands, capture_output=True, timeout=600, env=env)
+        return (ran.returncode, ran.stdout, ran.stderr), os.path.exists(self.mark)
 
 
 def transcripts(words):
@@ -116,6 +121,7 @@ def memory(room):
         refuse_each(refusing, name, words, COMMANDS if name in sessions_of else b"", made)
     for name, words in sessions_of.items():
         none_in_a_session(room, name, words)
+    images_in_a_vector(refusing)
 
 
 def refuse_each(refusing, name, words, commands, path):
@@ -161,6 +167,23 @@ def none_in_a_session(room, name, words):
         write(opened, b"")
         out, err = ran.communicate(script.removeprefix(b"regs\n"), timeout=600)
     told(f"memory: an open session of {name} asks for none", (ran.returncode, first + out, err) == (0, right, b"") and not os.path.exists(refused), f"{ran.returncode} {err[-200:]} refused: {os.path.exists(refused)}")
+
+
+def images_in_a_vector(refusing):
+    """A session whose images stand in a vector: where one of its growths is refused, the step is refused and changes nothing, as the program itself sees, and is made again."""
+    for setting, title in (("REFUSE_AT", "each of {} requests refused once"), ("REFUSE_FROM", "all requests refused from each of {} on")):
+        at, wrong, answers, is_met = 0, [], collections.Counter(), True
+        while is_met and at < 100_000:
+            at += 1
+            (status, out, err), is_met = refusing.run((), program=VECTOR_SESSION, **{setting: at})
+            answers[status, out] += is_met
+            is_right = (status, out) in ((0, b"DONE\n"), (0, b"REFUSED\nDONE\n"), (3, b""))
+            if err or not is_right or (status == 0 and is_met and setting == "REFUSE_FROM"):
+                wrong.append((at, status, out[-80:], err[-200:]))
+        again = answers[0, b"REFUSED\nDONE\n"]
+        told(f"memory: images in a vector, {title.format(at - 1)}", not wrong and not is_met and (again > 0) == (setting == "REFUSE_AT"), f"{len(wrong)} wrong, the first: {wrong[:3]}; {again} made again")
+        print(f"memory: images in a vector: {title.format(at - 1)}; {again} steps refused and made again", flush=True)
+
 
 
 # Devices
