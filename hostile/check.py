@@ -122,6 +122,7 @@ def memory(room):
     for name, words in sessions_of.items():
         none_in_a_session(room, name, words)
     images_in_a_vector(refusing)
+    files_without_memory(refusing, source, feed, old, made)
 
 
 def refuse_each(refusing, name, words, commands, path):
@@ -184,6 +185,19 @@ def images_in_a_vector(refusing):
         told(f"memory: images in a vector, {title.format(at - 1)}", not wrong and not is_met and (again > 0) == (setting == "REFUSE_AT"), f"{len(wrong)} wrong, the first: {wrong[:3]}; {again} made again")
         print(f"memory: images in a vector: {title.format(at - 1)}; {again} steps refused and made again", flush=True)
 
+
+
+def files_without_memory(refusing, source, feed, old, made):
+    """Where the system has no memory to open a file, or to make one, that is E2."""
+    if os.path.exists(made):
+        os.remove(made)
+    upgrade, images = ("upgrade", old, made), ("--image", "--rope=1", old, feed)
+    calls = [(("asm", source, made), (source, made)), (("run", source, feed, "1"), (source, feed)), (("debug", source, feed), (source, feed)), (upgrade, (old, made))]
+    calls += [(("words", "--rope=1", old), (old,)), (("sums", "--rope=1", old), (old,)), (("run", *images, "1"), (old, feed)), (("debug", *images), (old, feed))]
+    for words, files in calls:
+        for file in files:
+            (status, out, err), _ = refusing.run(words, REFUSE_OPEN=file)
+            told(f"memory: none to open {os.path.basename(file)}: {name_of(words)}", (status, out, err) == (3, b"", b"agcws: E2\n") and not os.path.exists(made), f"{status} {out[-80:]!r} {err!r}")
 
 
 # Devices

@@ -1,17 +1,20 @@
-/* Refuses memory to the program that it is loaded into (LD_PRELOAD), and tells in a file whether it did.
+/* Refuses memory to the program that it is loaded into (LD_PRELOAD), or to the system that opens its files, and tells in a file whether it did.
 
    REFUSE_AT=K        the request K is refused, counted from 1
    REFUSE_FROM=K      all requests from K on are
    REFUSE_AFTER=FILE  no request is counted while FILE is not there
    REFUSE_TELLS=FILE  FILE is made by the first request that is refused
+   REFUSE_OPEN=FILE   the system has no memory to open or make FILE
 */
 #define _GNU_SOURCE
 #include <dlfcn.h>
 #include <errno.h>
 #include <fcntl.h>
+#include <stdarg.h>
 #include <stddef.h>
 #include <stdlib.h>
 #include <string.h>
+#include <sys/syscall.h>
 #include <unistd.h>
 
 extern void *__libc_malloc(size_t);
@@ -86,4 +89,33 @@ int posix_memalign(void **result, size_t alignment, size_t size)
     if (is_refused() || !(made = __libc_memalign(alignment, size))) return ENOMEM;
     *result = made;
     return 0;
+}
+
+/* Opens a file, or refuses it for want of memory. */
+static int open_file(int folder, const char *path, int flags, mode_t mode)
+{
+    const char *refused = getenv("REFUSE_OPEN");
+    if (refused && strcmp(path, refused) == 0) {
+        errno = ENOMEM;
+        return -1;
+    }
+    return (int)syscall(SYS_openat, folder, path, flags, mode);
+}
+
+int open(const char *path, int flags, ...)
+{
+    va_list more;
+    va_start(more, flags);
+    mode_t mode = flags & O_CREAT ? va_arg(more, mode_t) : 0;
+    va_end(more);
+    return open_file(AT_FDCWD, path, flags, mode);
+}
+
+int openat(int folder, const char *path, int flags, ...)
+{
+    va_list more;
+    va_start(more, flags);
+    mode_t mode = flags & O_CREAT ? va_arg(more, mode_t) : 0;
+    va_end(more);
+    return open_file(folder, path, flags, mode);
 }

@@ -14,6 +14,7 @@ use command_line::{
 use lazy_file::LazyFile;
 use read_ahead::ReadAhead;
 use std::alloc::AllocError;
+use std::cell::Cell;
 use std::io::BufWriter;
 use std::process::ExitCode;
 use std::{env, fs, io};
@@ -113,12 +114,13 @@ fn asm(rt: &HostRuntime, matches: &ArgMatches<'_>) -> Result<u8, WorkshopFault> 
         return refuse_arguments(rt, b"error: SRC and ROPE are the same path\n");
     }
     let mut source = Std::new(fs::open(rt, source).map_err(not_opened)?);
-    let mut image = Std::new(LazyFile::new(rt, rope));
+    let refused = Cell::new(false);
+    let mut image = Std::new(LazyFile::new(rt, rope, &refused));
     let buffered = BufWriter::new(rt.alloc(), io::writer(rt)).map_err(not_buffered)?;
     let mut listing = Std::new(buffered);
     let outcome = asm_engine(rt.alloc(), &mut source, &mut image, &mut listing, version);
     match listing.flush() {
-        Ok(()) => outcome.map(|_| DONE),
+        Ok(()) => ended(outcome, &refused),
         Err(_) => Err(WorkshopFault::WriteFailed),
     }
 }
@@ -221,8 +223,22 @@ fn upgrade(rt: &HostRuntime, matches: &ArgMatches<'_>) -> Result<u8, WorkshopFau
         return refuse_arguments(rt, b"error: OLD and NEW are the same path\n");
     }
     let mut image = ReadAhead::new(fs::open(rt, old).map_err(not_opened)?);
-    let mut out = Std::new(LazyFile::new(rt, new));
-    upgrade_engine(rt.alloc(), &mut image, &mut out).map(|_| DONE)
+    let refused = Cell::new(false);
+    let mut out = Std::new(LazyFile::new(rt, new, &refused));
+    let outcome = upgrade_engine(rt.alloc(), &mut image, &mut out);
+    ended(outcome, &refused)
+}
+
+/// How a command ends that makes a file, where there may have been no memory to make it.
+fn ended<T: Drop>(
+    outcome: Result<T, WorkshopFault>,
+    refused: &Cell<bool>,
+) -> Result<u8, WorkshopFault> {
+    match outcome {
+        Ok(_) => Ok(DONE),
+        Err(_) if refused.get() => Err(WorkshopFault::NoMemory),
+        Err(fault) => Err(fault),
+    }
 }
 
 /// `agcws words [--rope VERSION] ROPE [BANK]`.
