@@ -3,7 +3,6 @@
 
 mod command_line;
 mod lazy_file;
-mod read_ahead;
 
 use clap::ArgMatches;
 use clap::error::ErrorKind;
@@ -12,13 +11,12 @@ use command_line::{
     RUN, SOURCE, STEPS, SUMS, UPGRADE, VERSION, VERSION_ONE, VERSION_TWO, WORDS, command,
 };
 use lazy_file::LazyFile;
-use read_ahead::ReadAhead;
 use std::alloc::AllocError;
 use std::cell::Cell;
 use std::io::BufWriter;
 use std::process::ExitCode;
 use std::{env, fs, io};
-use words::{Std, Write, write_all};
+use words::{ReadAhead, Std, Write, write_all};
 use workshop::{
     Bank, Summary, Version, WorkshopFault, asm_engine, compare_engine, debug_engine,
     debug_image_engine, may_run, report, run_engine, run_image_engine, sums_engine, upgrade_engine,
@@ -161,7 +159,7 @@ fn run(rt: &HostRuntime, matches: &ArgMatches<'_>) -> Result<u8, WorkshopFault> 
     let mut out = Std::new(buffered);
     let outcome = match image_version(matches) {
         Some(version) => {
-            let mut image = ReadAhead::new(first);
+            let mut image = ReadAhead::new(Std::new(first));
             run_image_engine(rt.alloc(), &mut image, version, &mut feed, steps, &mut out)
         }
         None => run_engine(rt.alloc(), &mut Std::new(first), &mut feed, steps, &mut out),
@@ -192,7 +190,7 @@ fn debug(rt: &HostRuntime, matches: &ArgMatches<'_>) -> Result<u8, WorkshopFault
     let mut out = Std::new(buffered);
     let outcome = match image_version(matches) {
         Some(version) => {
-            let mut image = ReadAhead::new(first);
+            let mut image = ReadAhead::new(Std::new(first));
             debug_image_engine(
                 rt.alloc(),
                 &mut image,
@@ -222,7 +220,7 @@ fn upgrade(rt: &HostRuntime, matches: &ArgMatches<'_>) -> Result<u8, WorkshopFau
     if old == new {
         return refuse_arguments(rt, b"error: OLD and NEW are the same path\n");
     }
-    let mut image = ReadAhead::new(fs::open(rt, old).map_err(not_opened)?);
+    let mut image = ReadAhead::new(Std::new(fs::open(rt, old).map_err(not_opened)?));
     let refused = Cell::new(false);
     let mut out = Std::new(LazyFile::new(rt, new, &refused));
     let outcome = upgrade_engine(rt.alloc(), &mut image, &mut out);
@@ -247,7 +245,7 @@ fn show_words(rt: &HostRuntime, matches: &ArgMatches<'_>) -> Result<u8, Workshop
         return Ok(WRONG_ARGUMENTS);
     };
     let bank = matches.get_str(BANK).and_then(bank_named);
-    let mut image = ReadAhead::new(fs::open(rt, rope).map_err(not_opened)?);
+    let mut image = ReadAhead::new(Std::new(fs::open(rt, rope).map_err(not_opened)?));
     let buffered = BufWriter::new(rt.alloc(), io::writer(rt)).map_err(not_buffered)?;
     let mut out = Std::new(buffered);
     let outcome = words_engine(rt.alloc(), &mut image, version, bank, &mut out);
@@ -278,8 +276,8 @@ fn compare(rt: &HostRuntime, matches: &ArgMatches<'_>) -> Result<u8, WorkshopFau
     ) else {
         return Ok(WRONG_ARGUMENTS);
     };
-    let mut old = ReadAhead::new(fs::open(rt, old).map_err(not_opened)?);
-    let mut new = ReadAhead::new(fs::open(rt, new).map_err(not_opened)?);
+    let mut old = ReadAhead::new(Std::new(fs::open(rt, old).map_err(not_opened)?));
+    let mut new = ReadAhead::new(Std::new(fs::open(rt, new).map_err(not_opened)?));
     let buffered = BufWriter::new(rt.alloc(), io::writer(rt)).map_err(not_buffered)?;
     let mut out = Std::new(buffered);
     let outcome = compare_engine(
@@ -301,7 +299,7 @@ fn show_sums(rt: &HostRuntime, matches: &ArgMatches<'_>) -> Result<u8, WorkshopF
     let (Some(rope), Some(version)) = (matches.get_str(ROPE), version(matches, VERSION)) else {
         return Ok(WRONG_ARGUMENTS);
     };
-    let mut image = ReadAhead::new(fs::open(rt, rope).map_err(not_opened)?);
+    let mut image = ReadAhead::new(Std::new(fs::open(rt, rope).map_err(not_opened)?));
     let buffered = BufWriter::new(rt.alloc(), io::writer(rt)).map_err(not_buffered)?;
     let mut out = Std::new(buffered);
     let outcome = sums_engine(rt.alloc(), &mut image, version, &mut out);

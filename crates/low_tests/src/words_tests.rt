@@ -4,8 +4,9 @@ use arrayvec::ArrayVec;
 use std::io;
 use words::faulty::{FaultyReader, FaultyWriter, Trouble};
 use words::{
-    Buffer, Carry, CounterStep, Overflow, Product, Quotient, ReadFault, Std, Wide, Word, WordFault,
-    Write, WriteFailed, div, push_all, push_decimal, push_octal, read_text, write_all,
+    Buffer, Carry, CounterStep, Overflow, Product, Quotient, Read, ReadAhead, ReadFault, Std, Wide,
+    Word, WordFault, Write, WriteFailed, div, push_all, push_decimal, push_octal, read_text,
+    write_all,
 };
 
 fn word(number: u16) -> Word {
@@ -196,6 +197,33 @@ fn texts_at_their_limit_and_past(rt: HostRuntime) -> Result<(), ReadFault> {
         read_text(rt.alloc(), &mut slow, 5)?.as_slice(),
         b" you".as_slice()
     );
+    Ok(())
+}
+
+#[test]
+fn bytes_read_ahead_are_the_same(rt: HostRuntime) -> Result<(), ReadFault> {
+    let mut text = [0; 20_000];
+    for place in 0..20_000usize {
+        text[place] = (place % 256) as u8;
+    }
+    let mut reader = ReadAhead::new(text.as_slice());
+    assert_eq!(rt; reader.ready().len(), 0);
+    assert_eq!(rt; reader.read(&mut [0]).ok(), Some(1));
+    assert_eq!(rt; reader.ready(), &text[1..8192]);
+    assert!(rt; !reader.pass(8192));
+    assert!(rt; reader.pass(8190));
+    assert_eq!(rt;
+        read_text(rt.alloc(), &mut reader, 20_000)?.as_slice(),
+        &text[8191..]
+    );
+    let text = b"hello";
+    for place in 0..=text.len() {
+        let mut reader = ReadAhead::new(FaultyReader::new(text, Some(place)));
+        let first = read_text(rt.alloc(), &mut reader, text.len());
+        assert!(rt; matches!(first, Err(ReadFault::ReadFailed)), "at {place}");
+        let rest = read_text(rt.alloc(), &mut reader, text.len())?;
+        assert_eq!(rt; rest.as_slice(), &text[place..], "at {place}");
+    }
     Ok(())
 }
 

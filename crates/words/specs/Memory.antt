@@ -7,6 +7,11 @@ pub record Sink : Type 0 where
   pub written : List ℕ
   pub failures : ℕ
 
+-- a reader: the bytes that are left, and the count of failures
+pub record Source : Type 0 where
+  pub left : List ℕ
+  pub failures : ℕ
+
 -- a reader that fails after so many calls: the bytes that are left, and the count of failures
 pub record FaultySource : Type 0 where
   pub left : List ℕ
