@@ -7,39 +7,25 @@ use Rattle.words.specs.declared.counters.CounterStep.{CounterStep}
 use Rattle.words.specs.Numbers.{extend, correct}
 use Rattle.words.specs.Counters.{pinc, minc, dinc, pcdu, mcdu, shinc, shanc}
 use Rattle.space.specs.Cells.{get}
+use Rattle.feed.specs.declared.counter.Asks.{Asks}
+use Rattle.feed.specs.declared.counter.Asks.TheVariants.{Nothing, CarryInto, OnOverflow, AtZero, OnOneShiftedOut}
 use Rattle.feed.specs.declared.input.Counter.{Counter}
-use Rattle.feed.specs.declared.input.Counter.TheVariants.{Time1, Time2, Time3, Time4, Time5, Time6, Inlink}
 use Rattle.feed.specs.declared.input.Sequence.{Sequence}
 use Rattle.feed.specs.declared.input.Sequence.TheVariants.{Pinc, Minc, Dinc, Pcdu, Mcdu, Shinc, Shanc}
 use Rattle.feed.specs.declared.input.Input.{Input}
 use Rattle.feed.specs.declared.input.Input.TheVariants.{Count, Word, Request}
-use Rattle.feed.specs.Inputs.{counter_place}
+use Rattle.feed.specs.Counters.{row_of, counter_place}
 use Rattle.feed.specs.Fits as from
 use Rattle.cpu.specs.State.{State}
 use Rattle.cpu.specs.Effects.{change}
 use Rattle.cpu.specs.Effects.Change.{AtPlace, OnChannel}
 
--- the interrupts for which inputs ask: those of four timers, of the two keyboards, and of the uplink
-abbrev pub timer_6_interrupt : ℕ
-timer_6_interrupt = 1
-
-abbrev pub timer_5_interrupt : ℕ
-timer_5_interrupt = 2
-
-abbrev pub timer_3_interrupt : ℕ
-timer_3_interrupt = 3
-
-abbrev pub timer_4_interrupt : ℕ
-timer_4_interrupt = 4
-
+-- the interrupts for which the two keyboards ask
 abbrev pub first_keyboard_interrupt : ℕ
 first_keyboard_interrupt = 5
 
 abbrev pub second_keyboard_interrupt : ℕ
 second_keyboard_interrupt = 6
-
-abbrev pub uplink_interrupt : ℕ
-uplink_interrupt = 7
 
 -- the channels of the two keyboards
 abbrev pub first_keyboard_channel : ℕ
@@ -69,20 +55,26 @@ abbrev pub is_shifted_out : Carry → Bool
 is_shifted_out ShiftedOut = true
 is_shifted_out _ = false
 
--- the interrupt for which a counter asks after a step: TIME3, TIME4 and TIME5 on an overflow, TIME6 on a result of +0,
--- INLINK on a one that is shifted out
-abbrev pub asked_after : Counter → CounterStep → Option ℕ
-asked_after Time3 step = if is_overflow step.carry then Some timer_3_interrupt else None
-asked_after Time4 step = if is_overflow step.carry then Some timer_4_interrupt else None
-asked_after Time5 step = if is_overflow step.carry then Some timer_5_interrupt else None
-asked_after Time6 step = if step.word == 0 then Some timer_6_interrupt else None
-asked_after Inlink step = if is_shifted_out step.carry then Some uplink_interrupt else None
-asked_after _ step = None
+-- the interrupt that is asked for after a step
+abbrev pub asked_by : Asks → CounterStep → Option ℕ
+asked_by Nothing step = None
+asked_by (CarryInto counter) step = None
+asked_by (OnOverflow k) step = if is_overflow step.carry then Some k else None
+asked_by (AtZero k) step = if step.word == 0 then Some k else None
+asked_by (OnOneShiftedOut k) step = if is_shifted_out step.carry then Some k else None
 
--- the counter into which an overflow is carried: TIME2 for TIME1
+-- the interrupt for which a counter asks after a step
+abbrev pub asked_after : Counter → CounterStep → Option ℕ
+asked_after counter step = asked_by (row_of counter).asks step
+
+-- the counter into which an overflow is carried
+abbrev pub carried_by : Asks → Option Counter
+carried_by (CarryInto counter) = Some counter
+carried_by _ = None
+
+-- the counter into which a counter's overflow is carried
 abbrev pub carries_into : Counter → Option Counter
-carries_into Time1 = Some Time2
-carries_into _ = None
+carries_into counter = carried_by (row_of counter).asks
 
 -- the word that a counter holds
 abbrev pub count_of : State → Counter → ℕ

@@ -1,11 +1,12 @@
 //! Taking an input.
 
-ghost use Rattle.std.specs.Prelude.{◌≡◌, ◌<◌, ◌≤◌, ◌^◌, Some, None, true, false, if◌then◌else◌};
-ghost use Rattle.cpu.specs.Inputs.{step_of, is_overflow, is_shifted_out, asked_after, carries_into, stepped, carried, asked, counted, asked_on, received, take};
+ghost use Rattle.std.specs.Prelude.{◌≡◌, ◌≤◌, Some, None, true, false, if◌then◌else◌};
+ghost use Rattle.cpu.specs.Inputs.{step_of, is_overflow, is_shifted_out, asked_by, carried_by, stepped, carried, asked, counted, asked_on, received, take};
 ghost use Rattle.cpu.specs.Representation.{HasRoom};
 ghost use Rattle.cpu.specs.Next.{most_cycles};
 
 use crate::machine::Machine;
+use feed::Asks;
 use feed::input::{Counter, Input, Sequence};
 use feed::request::Request;
 use space::numbers::Chan;
@@ -14,20 +15,10 @@ use words::{Carry, CounterStep, Word};
 /// The cycles that a sequence of a counter takes.
 const COUNTER_CYCLES: u64 = 1;
 
-/// The interrupts for which inputs ask: those of four timers, of the two keyboards, and of the uplink.
-const TIMER_6: u8 = 1;
-
-const TIMER_5: u8 = 2;
-
-const TIMER_3: u8 = 3;
-
-const TIMER_4: u8 = 4;
-
+/// The interrupts for which the two keyboards ask.
 const FIRST_KEYBOARD: u8 = 5;
 
 const SECOND_KEYBOARD: u8 = 6;
-
-const UPLINK: u8 = 7;
 
 /// The channels of the two keyboards.
 const FIRST_KEYBOARD_CHANNEL: u16 = 0o15;
@@ -59,8 +50,8 @@ impl Machine {
     {
         let step = step_of(sequence, self.word(counter.place()));
         self.set_counter(counter, &step);
-        self.carry(carries_into(counter), step.carry);
-        self.ask_any(asked_after(counter, &step));
+        self.carry(carried_by(counter.asks()), step.carry);
+        self.ask_any(asked_by(counter.asks(), &step));
     }
 
     /// A counter holds the word of a step.
@@ -124,26 +115,24 @@ fn is_overflow(carry: Carry) -> bool
 }
 
 /// The counter into which an overflow is carried.
-fn carries_into(counter: Counter) -> Option<Counter>
-    ensures { result ≡ carries_into counter }
+fn carried_by(asks: Asks) -> Option<Counter>
+    ensures { result ≡ carried_by asks }
 {
-    match counter {
-        Counter::Time1 => Some(Counter::Time2),
+    match asks {
+        Asks::CarryInto(other) => Some(other),
         _ => None,
     }
 }
 
-/// The interrupt for which a counter asks after a step.
-fn asked_after(counter: Counter, step: &CounterStep) -> Option<Request>
-    ensures { result ≡ asked_after counter step.now }
+/// The interrupt that is asked for after a step.
+fn asked_by(asks: Asks, step: &CounterStep) -> Option<Request>
+    ensures { result ≡ asked_by asks step.now }
 {
-    match counter {
-        Counter::Time3 => request_if(is_overflow(step.carry), TIMER_3),
-        Counter::Time4 => request_if(is_overflow(step.carry), TIMER_4),
-        Counter::Time5 => request_if(is_overflow(step.carry), TIMER_5),
-        Counter::Time6 => request_if(step.word == Word::ZERO, TIMER_6),
-        Counter::Inlink => request_if(step.carry == Carry::ShiftedOut, UPLINK),
-        _ => None,
+    match asks {
+        Asks::Nothing | Asks::CarryInto(_) => None,
+        Asks::OnOverflow(request) => request_if(is_overflow(step.carry), request),
+        Asks::AtZero(request) => request_if(step.word == Word::ZERO, request),
+        Asks::OnOneShiftedOut(request) => request_if(step.carry == Carry::ShiftedOut, request),
     }
 }
 
@@ -158,15 +147,9 @@ fn asked_on(channel: Chan) -> Option<Request>
     }
 }
 
-/// The interrupt of this number, where it is asked for.
-fn request_if(is_asked: bool, number: u8) -> Option<Request>
-    requires low { 1 ≤ number }
-    requires high { number ≤ 10 }
-    ensures { result ≡ (if is_asked then Some number else None) }
+/// An interrupt, where it is asked for.
+fn request_if(is_asked: bool, request: Request) -> Option<Request>
+    ensures { result ≡ (if is_asked then Some request else None) }
 {
-    if is_asked {
-        Some(Request::new(number))
-    } else {
-        None
-    }
+    if is_asked { Some(request) } else { None }
 }

@@ -1,19 +1,27 @@
 -- Small feeds, read by the definitions alone.
-use Rattle.std.proofs.Common.{◌≡◌, ℕ, zero, suc, List, [], ◌∷◌, ◌++◌, map, Some, Ok, Err, refl}
+use Rattle.std.proofs.Common.{◌≡◌, ℕ, zero, suc, List, [], ◌∷◌, ◌++◌, map, Some, Ok, Err, refl, rules}
 use Rattle.std.specs.Prelude.{codes}
 use Rattle.agc_text.specs.Fields.{runs}
 use Rattle.agc_text.specs.Lines.{lines}
+use Rattle.agc_text.specs.Tables.{value_in}
 use Rattle.feed.specs.Added.{plain_on}
+use Rattle.feed.specs.Counters.{row_of}
 use Rattle.feed.specs.Feed.{inputs, first_fault, plain_from, series_from}
 use Rattle.feed.specs.Merged.{merged, in_order, inserted, is_before, entries_from, entries_of}
 use Rattle.feed.specs.Names.{counters, sequences}
 use Rattle.feed.specs.Statements.{statement_of}
 use Rattle.feed.specs.declared.fault.FeedFault.TheVariants.{BadLine, OutOfOrder, WrongCounter, TooManySeries}
+use Rattle.feed.specs.declared.input.Counter.{Counter}
 use Rattle.feed.specs.declared.input.Counter.TheVariants.{Time1, Time3, PipaX}
 use Rattle.feed.specs.declared.input.Input.{Input}
 use Rattle.feed.specs.declared.input.Input.TheVariants.{Count, Word, Request}
 use Rattle.feed.specs.declared.input.Sequence.TheVariants.{Pinc, Minc}
 use Rattle.feed.specs.declared.entry.Entry.{Entry}
+
+-- each counter is found by its name
+found_by_name : (counter : Counter) → value_in counters (row_of counter).name ≡ Some counter
+unfolding counters
+found_by_name counter = search rules
 
 -- some lines, each ended
 abbrev feed : List (List ℕ) → List ℕ

@@ -1,4 +1,4 @@
-pub mod Inputs
+pub mod Counters
 pub mod Faults
 pub mod Names
 pub mod Statements

@@ -6,7 +6,8 @@ use Rattle.agc_text.specs.Bytes.{line_length, is_text_byte}
 use Rattle.agc_text.specs.Digits.{number_of}
 use Rattle.agc_text.specs.Fields.{fields, texts}
 use Rattle.agc_text.specs.Tables.{same_name, value_in}
-use Rattle.feed.specs.Names.{counters, sequences, takes}
+use Rattle.feed.specs.Counters.{takes}
+use Rattle.feed.specs.Names.{counters, sequences}
 use Rattle.feed.specs.declared.entry.Rule.{Rule}
 use Rattle.feed.specs.declared.fault.LineFault.{LineFault}
 use Rattle.feed.specs.declared.fault.LineFault.TheVariants.{BadLine, WrongCounter}

@@ -1,10 +1,7 @@
 //! What reaches the computer from outside, and when.
 
-ghost use Rattle.std.specs.Prelude.{◌≡◌};
-ghost use Rattle.feed.specs.Inputs.{counter_place};
-
 use crate::request::Request;
-use space::numbers::{Chan, Eras};
+use space::numbers::Chan;
 use words::Word;
 
 /// A counter: an erasable place that pulses from outside count in.
@@ -14,13 +11,13 @@ pub enum Counter {
     Time1,
     /// The upper word of the clock.
     Time2,
-    /// The timer that asks for interrupt 3.
+    /// The timer of the tasks that wait.
     Time3,
-    /// The timer that asks for interrupt 4.
+    /// The timer of displays and switches.
     Time4,
-    /// The timer that asks for interrupt 2.
+    /// The timer of the autopilot.
     Time5,
-    /// The timer that asks for interrupt 1.
+    /// The timer of the jets, which counts down.
     Time6,
     /// The angle of the outer gimbal.
     CduX,
@@ -40,31 +37,6 @@ pub enum Counter {
     PipaZ,
     /// The uplink's word.
     Inlink,
-}
-
-impl Counter {
-    /// The erasable place that it counts in.
-    pub fn place(self) -> Eras
-        ensures { result ≡ counter_place self }
-    {
-        Eras::of_low_bits(match self {
-            Counter::Time2 => 0o24,
-            Counter::Time1 => 0o25,
-            Counter::Time3 => 0o26,
-            Counter::Time4 => 0o27,
-            Counter::Time5 => 0o30,
-            Counter::Time6 => 0o31,
-            Counter::CduX => 0o32,
-            Counter::CduY => 0o33,
-            Counter::CduZ => 0o34,
-            Counter::OptY => 0o35,
-            Counter::OptX => 0o36,
-            Counter::PipaX => 0o37,
-            Counter::PipaY => 0o40,
-            Counter::PipaZ => 0o41,
-            Counter::Inlink => 0o45,
-        })
-    }
 }
 
 /// What a pulse does to a counter.

@@ -1,6 +1,7 @@
 //! Feeds: the inputs that reach the computer, each at its cycle.
 #![tactic(auto)]
 
+mod counter;
 mod cut;
 mod entry;
 mod fault;
@@ -13,6 +14,7 @@ pub mod request;
 mod source;
 mod statement;
 
+pub use counter::Asks;
 pub use fault::{FeedFault, LineFault};
 pub use input::{Counter, Input, Sequence};
 pub use list::{AddFault, Feed};

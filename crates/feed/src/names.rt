@@ -2,27 +2,27 @@
 
 ghost use Rattle.std.specs.Prelude.{◌≡◌};
 ghost use Rattle.agc_text.specs.Tables.{value_in, named};
-ghost use Rattle.feed.specs.Names.{counters, sequences, takes};
+ghost use Rattle.feed.specs.Names.{by_name, counters, sequences};
 
 use crate::input::{Counter, Sequence};
 
-/// Each counter by its name.
-const COUNTERS: [(&str, Counter); 15] = [
-    ("TIME1", Counter::Time1),
-    ("TIME2", Counter::Time2),
-    ("TIME3", Counter::Time3),
-    ("TIME4", Counter::Time4),
-    ("TIME5", Counter::Time5),
-    ("TIME6", Counter::Time6),
-    ("CDUX", Counter::CduX),
-    ("CDUY", Counter::CduY),
-    ("CDUZ", Counter::CduZ),
-    ("OPTY", Counter::OptY),
-    ("OPTX", Counter::OptX),
-    ("PIPAX", Counter::PipaX),
-    ("PIPAY", Counter::PipaY),
-    ("PIPAZ", Counter::PipaZ),
-    ("INLINK", Counter::Inlink),
+/// All counters.
+const COUNTERS: [Counter; 15] = [
+    Counter::Time1,
+    Counter::Time2,
+    Counter::Time3,
+    Counter::Time4,
+    Counter::Time5,
+    Counter::Time6,
+    Counter::CduX,
+    Counter::CduY,
+    Counter::CduZ,
+    Counter::OptY,
+    Counter::OptX,
+    Counter::PipaX,
+    Counter::PipaY,
+    Counter::PipaZ,
+    Counter::Inlink,
 ];
 
 /// Each sequence by its name.
@@ -41,7 +41,7 @@ const SEQUENCES: [(&str, Sequence); 7] = [
 pub(crate) fn counter_of(name: &[u8]) -> Option<Counter>
     ensures { result ≡ value_in counters name.now }
 {
-    find_named(&COUNTERS, name)
+    find_counter(&COUNTERS, name)
 }
 
 /// The sequence of a name.
@@ -49,35 +49,27 @@ pub(crate) fn counter_of(name: &[u8]) -> Option<Counter>
 pub(crate) fn sequence_of(name: &[u8]) -> Option<Sequence>
     ensures { result ≡ value_in sequences name.now }
 {
-    find_named(&SEQUENCES, name)
+    find_sequence(&SEQUENCES, name)
 }
 
-fn find_named<T: Copy>(table: &[(&str, T)], name: &[u8]) -> Option<T>
-    ensures { result ≡ value_in (named table.now) name.now }
+fn find_counter(counters: &[Counter], name: &[u8]) -> Option<Counter>
+    ensures { result ≡ value_in (by_name counters.now) name.now }
 {
-    for (text, value) in table {
-        if name == text.as_bytes() {
-            return Some(*value);
+    for counter in counters {
+        if name == counter.row().name {
+            return Some(*counter);
         }
     }
     None
 }
 
-/// Whether a counter takes a sequence.
-pub(crate) fn takes(counter: Counter, sequence: Sequence) -> bool
-    ensures { result ≡ takes counter sequence }
+fn find_sequence(table: &[(&str, Sequence)], name: &[u8]) -> Option<Sequence>
+    ensures { result ≡ value_in (named table.now) name.now }
 {
-    match counter {
-        Counter::Time1 | Counter::Time2 | Counter::Time3 | Counter::Time4 | Counter::Time5 => {
-            matches!(sequence, Sequence::Pinc)
+    for (text, sequence) in table {
+        if name == text.as_bytes() {
+            return Some(*sequence);
         }
-        Counter::Time6 => matches!(sequence, Sequence::Dinc),
-        Counter::CduX | Counter::CduY | Counter::CduZ | Counter::OptY | Counter::OptX => {
-            matches!(sequence, Sequence::Pcdu | Sequence::Mcdu)
-        }
-        Counter::PipaX | Counter::PipaY | Counter::PipaZ => {
-            matches!(sequence, Sequence::Pinc | Sequence::Minc)
-        }
-        Counter::Inlink => matches!(sequence, Sequence::Shinc | Sequence::Shanc),
     }
+    None
 }

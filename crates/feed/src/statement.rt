@@ -9,7 +9,7 @@ ghost use Rattle.feed.specs.Statements.{is_allowed, is_input_channel, channel_in
 use crate::entry::Rule;
 use crate::fault::LineFault;
 use crate::input::{Counter, Input, Sequence};
-use crate::names::{counter_of, sequence_of, takes};
+use crate::names::{counter_of, sequence_of};
 use crate::request::{REQUESTS, Request};
 use agc_text::{LINE_LENGTH, before_comment, decimal, is_text, octal, split_field};
 use space::numbers::Chan;
@@ -236,7 +236,7 @@ fn pulse_of(counter: Option<Counter>, sequence: Option<Sequence>) -> Result<Inpu
     ensures { result ≡ pulse_of counter sequence }
 {
     match (counter, sequence) {
-        (Some(counter), Some(sequence)) if takes(counter, sequence) => {
+        (Some(counter), Some(sequence)) if counter.takes(sequence) => {
             Ok(Input::Count(counter, sequence))
         }
         (Some(_), Some(_)) => Err(LineFault::WrongCounter),
