@@ -2,7 +2,7 @@
 
 use space::numbers::{Bank, Offset};
 use std::alloc::{AllocError, Global};
-use yayul::{assemble, value_text};
+use yayul::{Fault, assemble, value_text};
 
 /// The line and the number of a source's fault, 0 and 0 where it has none.
 fn fault_of(alloc: Global, source: &[u8]) -> (u32, u8) {
@@ -42,6 +42,20 @@ fn layout_fault_first(rt: HostRuntime) {
     let once = b" SETLOC 4000\nX EQUALS 100\n CA NOSUCH\n\n\n\n\n\n OCT 0\n";
     assert_eq!(rt; fault_of(rt.alloc(), twice), (9, 14));
     assert_eq!(rt; fault_of(rt.alloc(), once), (3, 17));
+}
+
+#[test]
+fn faults_are_told(rt: HostRuntime) -> Result<(), AllocError> {
+    let rows: [(u32, u8, &str); 3] = [
+        (9, 14, "E14 LINE 9"),
+        (65_537, 12, "E12 LINE 65537"),
+        (0, 2, "E2"),
+    ];
+    for (line, number, text) in rows {
+        let fault = Fault { line, number };
+        assert_eq!(rt; format!(in rt.alloc(); "{fault}")?.as_str(), text);
+    }
+    Ok(())
 }
 
 #[test]

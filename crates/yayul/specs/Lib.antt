@@ -4,6 +4,7 @@ pub mod Forms
 pub mod Layout
 pub mod Words
 pub mod Program
+pub mod Told
 pub mod Listing
 pub mod Laws
 pub mod Inside

@@ -1,9 +1,11 @@
 //! What is wrong with a source.
 
-ghost use Rattle.std.specs.Prelude.{◌≡◌};
+ghost use Rattle.std.specs.Prelude.{◌≡◌, Some};
 ghost use Rattle.yayul.specs.Layout.{fault_number, fault_if, standing};
 ghost use Rattle.yayul.specs.Inside.Answers.{least_kind, lesser_if};
+ghost use Rattle.yayul.specs.Told.{fault_text};
 
+use std::fmt;
 use thiserror::Error;
 
 /// The faults of a source, each with the number that it is told by.
@@ -124,11 +126,25 @@ fn lesser_fault(least: Option<FaultKind>, other: Option<FaultKind>) -> Option<Fa
 }
 
 /// A fault of a source, and the line that it stands on.
-#[derive(Clone, Copy, PartialEq, Eq, Debug, Drop, Error)]
-#[error("E{number} LINE {line}")]
+#[derive(Clone, Copy, PartialEq, Eq, Debug, Drop)]
 pub struct Fault {
     /// The line, counted from 1; 0 where memory ran out.
     pub line: u32,
     /// What is wrong: the number of a [`FaultKind`], 2 where memory ran out.
     pub number: u8,
 }
+
+impl fmt::Display for Fault {
+    ghost output = { λ fault. Some (fault_text fault) };
+
+    fn fmt<W: fmt::Write>(&self, f: &mut fmt::Formatter<W>) -> fmt::Result {
+        let (line, number) = (self.line, self.number);
+        write!(f, "E{number}")?;
+        if line > 0 {
+            write!(f, " LINE {line}")?;
+        }
+        Ok(())
+    }
+}
+
+impl std::error::Error for Fault {}
