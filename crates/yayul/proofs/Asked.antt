@@ -47,7 +47,7 @@ IsNext line before after =
     (after ≡ before) ⊎ ((r : Request) × ((after ≡ before ++ r ∷ []) × ((r.line ≡ line) × (meets before r ≡ false))))
 
 -- where no condition stands, the first does not, nor do the others
-none_stands : (b : Bool) (kind : FaultKind) (cs : List (Option FaultKind)) → standing (fault_if b kind ∷ cs) ≡ [] → (b ≡ false) × (standing cs ≡ [])
+pub none_stands : (b : Bool) (kind : FaultKind) (cs : List (Option FaultKind)) → standing (fault_if b kind ∷ cs) ≡ [] → (b ≡ false) × (standing cs ≡ [])
 none_stands true kind cs e = absurd (let bad : kind ∷ standing cs ≡ [] = e in cc)
 none_stands false kind cs e = (refl, e)
 
@@ -146,7 +146,7 @@ statement_next line s label (Ebank operand) e = inl refl
 statement_next line s label (Gives None) e = inl refl
 statement_next line s label (Gives (Some content)) e = gives_next line s label content e
 
-no_others : (kinds others : List FaultKind) → kinds ++ others ≡ [] → others ≡ []
+pub no_others : (kinds others : List FaultKind) → kinds ++ others ≡ [] → others ≡ []
 no_others [] others e = e
 no_others (k ∷ kinds) others e = absurd (cc)
 
@@ -193,7 +193,7 @@ ordered-next line rs after p (inr (r, next)) =
       below = below-push line rs r p.below next.1.0;
     })
 
-head_faults : (line : ℕ) (kinds : List FaultKind) (later : List Fault) → on_line line kinds ++ later ≡ [] → (kinds ≡ []) × (later ≡ [])
+pub head_faults : (line : ℕ) (kinds : List FaultKind) (later : List Fault) → on_line line kinds ++ later ≡ [] → (kinds ≡ []) × (later ≡ [])
 head_faults line [] later e = (refl, e)
 head_faults line (k ∷ kinds) later e = absurd (cc)
 

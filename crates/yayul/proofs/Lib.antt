@@ -16,3 +16,4 @@ mod Decimals
 mod Fronts
 mod Nearest
 mod Apart
+mod Once

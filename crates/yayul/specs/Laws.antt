@@ -1,13 +1,14 @@
 -- What the definitions of the source language come to.
-use Rattle.std.specs.Prelude.{◌≡◌, ℕ, ◌+◌, ◌*◌, ◌^◌, ◌<◌, ◌≤◌, not, Bool, true, false, List, [], ◌∷◌, filter, slice_get, codes, Some, Ok}
+use Rattle.std.specs.Prelude.{◌≡◌, ◌≢◌, ℕ, ◌+◌, ◌*◌, ◌^◌, ◌<◌, ◌≤◌, not, Bool, true, false, List, [], ◌∷◌, AllPairs, filter, slice_get, codes, Some, Ok, IfOk}
 use Rattle.std.specs.List.{list_any}
 use Rattle.agc_text.specs.Lines.{lines}
 use Rattle.agc_text.specs.Tables.{same_name}
 use Rattle.yayul.specs.Forms.{scaled}
 use Rattle.yayul.specs.Layout.{Request, start, stands_at, layout_after, layout_faults}
 use Rattle.yayul.specs.Operators.{operators}
+use Rattle.yayul.specs.Program.{program}
 use Rattle.yayul.specs.Words.{addressed_word}
-use Rattle.yayul.specs.Language.{AddressedCode, Channel, Either, Extracode, No, Num, Operator, Takes, Yes}
+use Rattle.yayul.specs.Language.{AddressedCode, Channel, Either, Extracode, No, Num, Operator, Takes, Value, Yes}
 
 -- ## The words of instructions
 -- the operators whose words are addresses, and no instructions
@@ -69,3 +70,12 @@ ShareNoPlace requests =
 -- no two words of a source without a layout fault share a place
 abbrev pub WordsShareNoPlace : List ℕ → Type 0
 WordsShareNoPlace source = layout_faults 1 start (lines source) ≡ [] → ShareNoPlace (layout_after 1 start (lines source)).requests
+
+-- ## Names
+-- no two symbols have one name
+abbrev pub StandOnce : List (List ℕ × Value) → Type 0
+StandOnce symbols = AllPairs (λ a b. a.0 ≢ b.0) symbols
+
+-- no name is defined twice in a source that assembles
+abbrev pub NamesStandOnce : List ℕ → Type 0
+NamesStandOnce source = IfOk (program source) (λ p. StandOnce p.symbols)

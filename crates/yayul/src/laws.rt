@@ -1,6 +1,6 @@
 //! Laws of the source language. Each is the contract of a call that does nothing.
 
-ghost use Rattle.yayul.specs.Laws.{ScalesToNearest, WordsShareNoPlace};
+ghost use Rattle.yayul.specs.Laws.{ScalesToNearest, WordsShareNoPlace, NamesStandOnce};
 
 /// The word of a fraction of 1 to 9 decimals is the nearest multiple of 2^-14: less than half of one away, so that none is as near.
 #[tactic(auto, using(crate::proofs::Nearest::scales_to_nearest))]
@@ -15,6 +15,14 @@ pub fn fraction_is_nearest(decimals: u32, digits: u8)
 #[tactic(auto, using(crate::proofs::Apart::words_share_no_place))]
 pub fn words_share_no_place(source: &[u8])
     ensures { WordsShareNoPlace source.now }
+{
+    let _source = source;
+}
+
+/// Names are defined once: in a source that assembles no two symbols have one name.
+#[tactic(auto, using(crate::proofs::Once::names_stand_once))]
+pub fn names_stand_once(source: &[u8])
+    ensures { NamesStandOnce source.now }
 {
     let _source = source;
 }
