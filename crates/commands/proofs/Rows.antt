@@ -1,5 +1,5 @@
 -- Lines of commands, read by the definitions alone.
-use Rattle.std.proofs.Common.{◌≡◌, ℕ, ◌≤◌, Option, Some, None, List, [], ◌∷◌, ◌++◌, map, refl}
+use Rattle.std.proofs.Common.{◌≡◌, ℕ, Some, None, List, [], ◌∷◌, ◌++◌, map, refl}
 use Rattle.std.specs.Prelude.{codes, replicate}
 use Rattle.agc_text.specs.Fields.{runs}
 use Rattle.feed.specs.Names.{counters, sequences}

@@ -1,5 +1,5 @@
 -- What a line of commands asks for.
-use Rattle.std.specs.Prelude.{ℕ, ◌+◌, ◌-◌, ◌==◌, nat_lt, nat_le, List, [], ◌∷◌, length, drop, Option, None, Some, Result, Ok, Err, codes, if◌then◌else◌, option_and_then}
+use Rattle.std.specs.Prelude.{ℕ, ◌+◌, ◌==◌, nat_lt, nat_le, List, [], ◌∷◌, length, drop, Option, None, Some, Result, Ok, Err, codes, if◌then◌else◌, option_and_then}
 use Rattle.std.specs.List.{before_first}
 use Rattle.std.specs.Option.{option_map, option_or}
 use Rattle.agc_text.specs.Digits.{number_of}
@@ -11,8 +11,8 @@ use Rattle.feed.specs.declared.fault.LineFault.TheVariants as fault
 use Rattle.feed.specs.declared.input.Input.{Input}
 use Rattle.space.specs.declared.place.Linear.{Linear}
 use Rattle.space.specs.declared.place.Linear.TheVariants.{Erasable, Fixed}
+use Rattle.yayul.specs.Places.{place_of}
 use Rattle.yayul.specs.declared.values.Value.{Value}
-use Rattle.yayul.specs.declared.values.Value.TheVariants as value
 use Rattle.yayul.specs.declared.values.Value.TheVariants.{Num}
 use Rattle.commands.specs.Lines.{command_length}
 use Rattle.commands.specs.declared.command.Breakpoint.{Breakpoint}
@@ -34,23 +34,13 @@ count_in text = number_of 10 15 text
 abbrev pub channel_in : List ℕ → Option ℕ
 channel_in text = passing (λ n. nat_le n 0o777) (number_of 8 5 text)
 
--- the place of a value, where it has one: a number's is erasable, or in bank 2 or 3
-abbrev pub place_of_value : Value → Option Linear
-place_of_value (Num n) =
-    if nat_lt n 0o4000 then Some (Erasable n)
-    else if nat_lt n 0o6000 then Some (Fixed 2 (n - 0o4000))
-    else if nat_lt n 0o10000 then Some (Fixed 3 (n - 0o6000))
-    else None
-place_of_value (value.Erasable n) = Some (Erasable n)
-place_of_value (value.Fixed bank offset) = Some (Fixed bank offset)
-
 -- the place of a number: 1 to 5 octal digits
 abbrev pub numbered_place : List ℕ → Option Linear
-numbered_place text = option_and_then (λ n. place_of_value (Num n)) (number_of 8 5 text)
+numbered_place text = option_and_then (λ n. place_of (Num n)) (number_of 8 5 text)
 
 -- the place of a symbol
 abbrev pub symbol_place : SymbolTable → List ℕ → Option Linear
-symbol_place symbols text = option_and_then place_of_value (value_in symbols text)
+symbol_place symbols text = option_and_then place_of (value_in symbols text)
 
 -- the byte between a bank and an offset
 abbrev pub comma : ℕ

@@ -4,45 +4,23 @@ ghost use Rattle.std.specs.Prelude.{◌≡◌, ◌==◌, option_and_then};
 ghost use Rattle.std.specs.List.{position_or_len};
 ghost use Rattle.std.specs.Option.{option_map};
 ghost use Rattle.space.specs.declared.place.Linear.TheVariants as Place;
-ghost use Rattle.commands.specs.Commands.{place_of_value, numbered_place, symbol_place, fixed_place_in, place_in, erasable_number, erasable_in, bank_in, offset_in, comma};
+ghost use Rattle.commands.specs.Commands.{numbered_place, symbol_place, fixed_place_in, place_in, erasable_number, erasable_in, bank_in, offset_in, comma};
 
 use crate::fields::{OCTAL_DIGITS, bank_in, offset_in};
 use agc_text::octal;
-use space::numbers::{Bank, Eras, Offset};
+use space::numbers::Eras;
 use space::place::Linear;
 use words::Word;
-use yayul::{Symbols, Value};
-
-// The place of a value, where it has one.
-fn place_of_value(value: Value) -> Option<Linear>
-    ensures { result ≡ place_of_value value }
-{
-    match value {
-        Value::Num(number) => match number.to_u16() {
-            n @ 0..0o4000 => Some(Linear::Erasable(Eras::try_new(n)?)),
-            n @ 0o4000..0o6000 => Some(Linear::Fixed(
-                Bank::try_new(2)?,
-                Offset::try_new(n - 0o4000)?,
-            )),
-            n @ 0o6000..0o10000 => Some(Linear::Fixed(
-                Bank::try_new(3)?,
-                Offset::try_new(n - 0o6000)?,
-            )),
-            _ => None,
-        },
-        Value::Erasable(place) => Some(Linear::Erasable(place)),
-        Value::Fixed(bank, offset) => Some(Linear::Fixed(bank.bank(), offset)),
-    }
-}
+use yayul::{Symbols, Value, place_of};
 
 // The place of a number.
 fn numbered_place(field: &[u8]) -> Option<Linear>
     ensures { result ≡ numbered_place field.now }
 {
     match octal(field, OCTAL_DIGITS) {
-        Some(number) if number <= 0o77777 => place_of_value(Value::Num(Word::of_low_bits(
-            number as u16,
-        ))),
+        Some(number) if number <= 0o77777 => {
+            place_of(Value::Num(Word::of_low_bits(number as u16)))
+        }
         Some(_) => None,
         None => None,
     }
@@ -53,7 +31,7 @@ fn symbol_place(symbols: &Symbols, field: &[u8]) -> Option<Linear>
     ensures { result ≡ symbol_place symbols.now field.now }
 {
     match symbols.symbol(field) {
-        Some(value) => place_of_value(value),
+        Some(value) => place_of(value),
         None => None,
     }
 }

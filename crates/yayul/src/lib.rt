@@ -32,4 +32,4 @@ pub use bank::FixedBank;
 pub use faults::{Fault, FaultKind};
 pub use listing::value_text;
 pub use symbol_table::Symbols;
-pub use values::Value;
+pub use values::{Value, place_of};

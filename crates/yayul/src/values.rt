@@ -3,6 +3,7 @@
 ghost use Rattle.std.specs.Prelude.{◌≡◌, ◌≤◌, ◌<◌, IfOk};
 ghost use Rattle.std.specs.Result.{result_map_both};
 ghost use Rattle.yayul.specs.Layout.{value_here, location_at, erasable_place, moved, moved_value, term_value, value_of};
+ghost use Rattle.yayul.specs.Places.{place_at, place_of};
 ghost use Rattle.yayul.specs.Inside.Sound.{IsPlace};
 ghost use Rattle.yayul.specs.Inside.Representation.{value_at};
 
@@ -11,6 +12,7 @@ use crate::faults::FaultKind;
 use crate::language::{Location, Operand, Shift, Term};
 use crate::symbol_table::Symbols;
 use space::numbers::{Eras, Offset};
+use space::place::Linear;
 use words::Word;
 
 /// What a symbol or an operand stands for.
@@ -105,6 +107,33 @@ pub(crate) fn location_at(value: Value) -> Result<Location, FaultKind>
         },
         Value::Erasable(place) => Ok(Location::Erasable(place.number())),
         Value::Fixed(bank, offset) => Ok(Location::Fixed(bank, offset.number())),
+    }
+}
+
+/// The place of a value, where it has one: a number's is erasable, or in bank 2 or 3.
+pub fn place_of(value: Value) -> Option<Linear>
+    ensures { result ≡ place_of value }
+{
+    match location_at(value) {
+        Ok(here) => Some(place_at(here)),
+        Err(_) => None,
+    }
+}
+
+// The place of a location that has one.
+fn place_at(here: Location) -> Linear
+    requires { IsPlace here }
+    ensures { result ≡ place_at here }
+{
+    match here {
+        Location::Erasable(number) => match Eras::try_new(number) {
+            Some(place) => Linear::Erasable(place),
+            None => unreachable!(),
+        },
+        Location::Fixed(bank, number) => match Offset::try_new(number) {
+            Some(offset) => Linear::Fixed(bank.bank(), offset),
+            None => unreachable!(),
+        },
     }
 }
 
