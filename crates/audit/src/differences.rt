@@ -6,11 +6,11 @@ ghost use Rattle.words.specs.Devices.{Writes, failures_after};
 ghost use Rattle.audit.specs.Differences.{differing_at, differing_in, differing, difference_line, difference_lines, count_line, differences};
 ghost use Rattle.audit.specs.WordLines.{extracode_at};
 
-use crate::lines::{BANK_WORDS, BANKS, Line, bank_of, offset_of, push_instruction, push_place};
+use crate::lines::{Line, bank_of, offset_of, push_instruction, push_place};
 use arrayvec::ArrayVec;
 use cpu::extracode_after;
 use rope::Rope;
-use space::numbers::{Bank, Offset};
+use space::{BANK_WORDS, Bank, FIXED_BANKS, Offset};
 use words::{Write, WriteFailed, push_all, push_decimal, push_octal, write_all};
 
 /// Writes a line for each place where the words of two fixed memories differ, banks by their numbers and offsets rising, as
@@ -39,7 +39,7 @@ fn write_places<W: Write>(old: &Rope, new: &Rope, out: &mut W) -> Result<u32, Wr
     ensures failures { W.failures out.new ≡ failures_after (W.failures out.old) result }
 {
     let mut count = 0;
-    for bank in 0..BANKS {
+    for bank in 0..FIXED_BANKS {
         match write_bank(old, new, bank_of(bank), out) {
             Ok(more) => count += more,
             Err(failed) => return Err(failed),

@@ -10,16 +10,8 @@ ghost use Rattle.audit.specs.WordLines.{extracode_at, instruction_at, place_text
 use arrayvec::ArrayVec;
 use cpu::{disassemble, extracode_after};
 use rope::Rope;
-use space::numbers::{Bank, Offset};
-use space::place::Linear;
-use space::resolve::window;
+use space::{BANK_WORDS, Bank, FIXED_BANKS, Linear, Offset, window};
 use words::{Write, WriteFailed, push_all, push_octal, write_all};
-
-/// How many banks hold words.
-pub(crate) const BANKS: u16 = 0o44;
-
-/// The words of one bank.
-pub(crate) const BANK_WORDS: u16 = 0o2000;
 
 /// The most bytes of a line: a place of 7, one or two words of 5 digits, one or two instructions of 10, and what stands between.
 const LINE: usize = 48;
@@ -49,7 +41,7 @@ fn write_banks<W: Write>(rope: &Rope, out: &mut W) -> Result<(), WriteFailed>
     ensures written { W.told ≡ true → Writes (W.written out.old) (W.written out.new) (flat_map (bank_lines rope.now) (range_with_len 0 banks)) result }
     ensures failures { W.failures out.new ≡ failures_after (W.failures out.old) result }
 {
-    for bank in 0..BANKS {
+    for bank in 0..FIXED_BANKS {
         match write_bank(rope, bank_of(bank), out) {
             Ok(()) => {}
             Err(failed) => return Err(failed),

@@ -5,10 +5,10 @@ ghost use Rattle.words.specs.Devices.{Writes, failures_after};
 ghost use Rattle.rope.specs.Places.{bank_words};
 ghost use Rattle.audit.specs.Sums.{added, carried, sum_before, sum_line, sum_lines};
 
-use crate::lines::{BANK_WORDS, BANKS, Line, bank_of, offset_of};
+use crate::lines::{Line, bank_of, offset_of};
 use arrayvec::ArrayVec;
 use rope::Rope;
-use space::numbers::Bank;
+use space::{BANK_WORDS, Bank, FIXED_BANKS};
 use words::{Overflow, Word, Write, WriteFailed, push_all, push_octal, write_all};
 
 /// Writes a line for each bank by its number, as `02 00002`: the number, and the ones' complement sum of the bank's words as
@@ -19,7 +19,7 @@ pub fn write_sums<W: Write>(rope: &Rope, out: &mut W) -> Result<(), WriteFailed>
     ensures written { W.told ≡ true → Writes (W.written out.old) (W.written out.new) (sum_lines rope.now) result }
     ensures failures { W.failures out.new ≡ failures_after (W.failures out.old) result }
 {
-    for bank in 0..BANKS {
+    for bank in 0..FIXED_BANKS {
         match write_all(out, sum_line(rope, bank_of(bank)).as_slice()) {
             Ok(()) => {}
             Err(failed) => return Err(failed),

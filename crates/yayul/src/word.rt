@@ -16,13 +16,8 @@ use crate::request::WordRequest;
 use crate::symbol_table::Symbols;
 use crate::values::{Value, erasable_place, location_at, value_of};
 use rope::Rope;
-use space::numbers::Offset;
-use space::place::Linear;
-use space::resolve::{banks_of, window};
+use space::{BANK_WORDS, Linear, Offset, banks_of, window};
 use words::Word;
-
-/// How many words a bank of fixed memory holds.
-const BANK_WORDS: u16 = 0o2000;
 
 /// The superbank bit beside a bank as FB holds it.
 const SUPERBANK_BIT: u16 = 0o100;
