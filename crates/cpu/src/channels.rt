@@ -2,11 +2,12 @@
 
 ghost use Rattle.std.specs.Prelude.{◌≡◌, Some, None, true, false, [], ◌∷◌};
 ghost use Rattle.words.specs.BitSums.{and_sum, or_sum, xor_sum};
-ghost use Rattle.cpu.specs.Effects.{changes, read, write, rand, ror, rxor, wand, wor};
+ghost use Rattle.cpu.specs.Effects.{with_channel, changes, read, write, rand, ror, rxor, wand, wor};
 
 use crate::bits::{and, or, xor};
 use crate::machine::Machine;
 use space::numbers::{Chan, Eras};
+use words::Wide;
 
 impl Machine {
     /// READ
@@ -32,7 +33,7 @@ impl Machine {
     pub(crate) fn read_and(&mut self, channel: Chan)
         ensures { self.new ≡ changes self.old (rand self.old channel) }
     {
-        let value = and(channel == Chan::Q, self.reg(Eras::A), self.channel(channel));
+        let value = self.and_channel(channel);
         self.put(Eras::A, value);
     }
 
@@ -41,7 +42,7 @@ impl Machine {
     pub(crate) fn read_or(&mut self, channel: Chan)
         ensures { self.new ≡ changes self.old (ror self.old channel) }
     {
-        let value = or(channel == Chan::Q, self.reg(Eras::A), self.channel(channel));
+        let value = self.or_channel(channel);
         self.put(Eras::A, value);
     }
 
@@ -50,7 +51,7 @@ impl Machine {
     pub(crate) fn read_xor(&mut self, channel: Chan)
         ensures { self.new ≡ changes self.old (rxor self.old channel) }
     {
-        let value = xor(channel == Chan::Q, self.reg(Eras::A), self.channel(channel));
+        let value = self.xor_channel(channel);
         self.put(Eras::A, value);
     }
 
@@ -59,7 +60,7 @@ impl Machine {
     pub(crate) fn write_and(&mut self, channel: Chan)
         ensures { self.new ≡ changes self.old (wand self.old channel) }
     {
-        let both = and(channel == Chan::Q, self.reg(Eras::A), self.channel(channel));
+        let both = self.and_channel(channel);
         self.put(Eras::A, both);
         self.set_channel(channel, both);
     }
@@ -69,8 +70,29 @@ impl Machine {
     pub(crate) fn write_or(&mut self, channel: Chan)
         ensures { self.new ≡ changes self.old (wor self.old channel) }
     {
-        let either = or(channel == Chan::Q, self.reg(Eras::A), self.channel(channel));
+        let either = self.or_channel(channel);
         self.put(Eras::A, either);
         self.set_channel(channel, either);
+    }
+
+    /// Each bit that stands both in A and on a channel; that of Q holds 16 bits.
+    fn and_channel(&self, channel: Chan) -> Wide
+        ensures { result ≡ with_channel and_sum self.now channel }
+    {
+        and(channel == Chan::Q, self.reg(Eras::A), self.channel(channel))
+    }
+
+    /// Each bit that stands in A, or on a channel.
+    fn or_channel(&self, channel: Chan) -> Wide
+        ensures { result ≡ with_channel or_sum self.now channel }
+    {
+        or(channel == Chan::Q, self.reg(Eras::A), self.channel(channel))
+    }
+
+    /// Each bit that stands in exactly one of A and a channel.
+    fn xor_channel(&self, channel: Chan) -> Wide
+        ensures { result ≡ with_channel xor_sum self.now channel }
+    {
+        xor(channel == Chan::Q, self.reg(Eras::A), self.channel(channel))
     }
 }

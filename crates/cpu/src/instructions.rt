@@ -17,6 +17,26 @@ const MINUS_ZERO: u16 = 0o177777;
 /// Bit 16 of a wide.
 const SIGN: u16 = 0o100000;
 
+// Does something with what is read at an address, and stores that there again where the place edits.
+macro_rules! reading {
+    ($machine:expr, $rope:expr, $address:expr, |$read:ident| $effect:block) => {{
+        let $read = $machine.reading($rope, $address);
+        $effect
+        $machine.edit(&$read);
+    }};
+}
+
+// The same with what is read at two addresses that follow one another, the second of which is given.
+macro_rules! reading_two {
+    ($machine:expr, $rope:expr, $address:expr, |$high:ident, $low:ident| $effect:block) => {{
+        let $high = $machine.reading($rope, before($address));
+        let $low = $machine.reading($rope, $address);
+        $effect
+        $machine.edit(&$high);
+        $machine.edit(&$low);
+    }};
+}
+
 impl Machine {
     /// TC
     #[inline(always)]
@@ -37,11 +57,11 @@ impl Machine {
     pub(crate) fn count_compare_and_skip(&mut self, rope: &Rope, address: Addr10)
         ensures { self.new ≡ changes self.old (ccs rope.now self.old address) }
     {
-        let count = self.reading(rope, address.widen());
-        let next = self.next_address().number() + ccs_skip(count.value);
-        self.put(Eras::A, count.value.dabs());
-        self.put(Eras::Z, Wide::of_u16(next));
-        self.edit(&count);
+        reading!(self, rope, address.widen(), |count| {
+            let next = self.next_address().number() + ccs_skip(count.value);
+            self.put(Eras::A, count.value.dabs());
+            self.put(Eras::Z, Wide::of_u16(next));
+        });
     }
 
     /// TCF
@@ -59,9 +79,9 @@ impl Machine {
     pub(crate) fn clear_and_add(&mut self, rope: &Rope, address: Addr12)
         ensures { self.new ≡ changes self.old (ca rope.now self.old address) }
     {
-        let read = self.reading(rope, address);
-        self.put(Eras::A, read.value);
-        self.edit(&read);
+        reading!(self, rope, address, |read| {
+            self.put(Eras::A, read.value);
+        });
     }
 
     /// CS
@@ -70,9 +90,9 @@ impl Machine {
     pub(crate) fn clear_and_subtract(&mut self, rope: &Rope, address: Addr12)
         ensures { self.new ≡ changes self.old (cs rope.now self.old address) }
     {
-        let operand = self.reading(rope, address);
-        self.put(Eras::A, operand.value.neg());
-        self.edit(&operand);
+        reading!(self, rope, address, |operand| {
+            self.put(Eras::A, operand.value.neg());
+        });
     }
 
     /// AD
@@ -81,10 +101,10 @@ impl Machine {
     pub(crate) fn add(&mut self, rope: &Rope, address: Addr12)
         ensures { self.new ≡ changes self.old (ad rope.now self.old address) }
     {
-        let addend = self.reading(rope, address);
-        let sum = self.reg(Eras::A).add(addend.value);
-        self.put(Eras::A, sum);
-        self.edit(&addend);
+        reading!(self, rope, address, |addend| {
+            let sum = self.reg(Eras::A).add(addend.value);
+            self.put(Eras::A, sum);
+        });
     }
 
     /// SU
@@ -92,10 +112,10 @@ impl Machine {
     pub(crate) fn subtract(&mut self, rope: &Rope, address: Addr10)
         ensures { self.new ≡ changes self.old (su rope.now self.old address) }
     {
-        let subtrahend = self.reading(rope, address.widen());
-        let difference = self.reg(Eras::A).add(subtrahend.value.neg());
-        self.put(Eras::A, difference);
-        self.edit(&subtrahend);
+        reading!(self, rope, address.widen(), |subtrahend| {
+            let difference = self.reg(Eras::A).add(subtrahend.value.neg());
+            self.put(Eras::A, difference);
+        });
     }
 
     /// MASK
@@ -104,10 +124,10 @@ impl Machine {
     pub(crate) fn mask(&mut self, rope: &Rope, address: Addr12)
         ensures { self.new ≡ changes self.old (mask rope.now self.old address) }
     {
-        let mask = self.reading(rope, address);
-        let masked = and(is_whole(&mask.place), self.reg(Eras::A), mask.value);
-        self.put(Eras::A, masked);
-        self.edit(&mask);
+        reading!(self, rope, address, |mask| {
+            let masked = and(is_whole(&mask.place), self.reg(Eras::A), mask.value);
+            self.put(Eras::A, masked);
+        });
     }
 
     /// TS
@@ -255,12 +275,10 @@ impl Machine {
     pub(crate) fn double_clear_and_add(&mut self, rope: &Rope, address: Addr12)
         ensures { self.new ≡ changes self.old (dca rope.now self.old address) }
     {
-        let high = self.reading(rope, before(address));
-        let low = self.reading(rope, address);
-        self.put(Eras::A, high.value);
-        self.put(Eras::L, low.value);
-        self.edit(&high);
-        self.edit(&low);
+        reading_two!(self, rope, address, |high, low| {
+            self.put(Eras::A, high.value);
+            self.put(Eras::L, low.value);
+        });
     }
 
     /// DCS
@@ -268,12 +286,10 @@ impl Machine {
     pub(crate) fn double_clear_and_subtract(&mut self, rope: &Rope, address: Addr12)
         ensures { self.new ≡ changes self.old (dcs rope.now self.old address) }
     {
-        let high = self.reading(rope, before(address));
-        let low = self.reading(rope, address);
-        self.put(Eras::A, high.value.neg());
-        self.put(Eras::L, low.value.neg());
-        self.edit(&high);
-        self.edit(&low);
+        reading_two!(self, rope, address, |high, low| {
+            self.put(Eras::A, high.value.neg());
+            self.put(Eras::L, low.value.neg());
+        });
     }
 
     /// INDEX
@@ -282,9 +298,9 @@ impl Machine {
     pub(crate) fn index(&mut self, rope: &Rope, address: Addr12)
         ensures { self.new ≡ changes self.old (index rope.now self.old address) }
     {
-        let increment = self.reading(rope, address);
-        self.wait_with_sum(increment.value);
-        self.edit(&increment);
+        reading!(self, rope, address, |increment| {
+            self.wait_with_sum(increment.value);
+        });
     }
 
     /// MP
@@ -292,11 +308,11 @@ impl Machine {
     pub(crate) fn multiply(&mut self, rope: &Rope, address: Addr12)
         ensures { self.new ≡ changes self.old (mp rope.now self.old address) }
     {
-        let multiplier = self.reading(rope, address);
-        let product = self.word(Eras::A).mul(multiplier.value.correct());
-        self.put(Eras::A, product.high.extend());
-        self.put(Eras::L, product.low.extend());
-        self.edit(&multiplier);
+        reading!(self, rope, address, |multiplier| {
+            let product = self.word(Eras::A).mul(multiplier.value.correct());
+            self.put(Eras::A, product.high.extend());
+            self.put(Eras::L, product.low.extend());
+        });
     }
 
     /// DV
@@ -304,15 +320,15 @@ impl Machine {
     pub(crate) fn divide(&mut self, rope: &Rope, address: Addr10)
         ensures { self.new ≡ changes self.old (dv rope.now self.old address) }
     {
-        let divisor = self.reading(rope, address.widen());
-        let quotient = div(
-            self.word(Eras::A),
-            self.word(Eras::L),
-            divisor.value.correct(),
-        );
-        self.put(Eras::A, quotient.quotient.extend());
-        self.put(Eras::L, quotient.remainder.extend());
-        self.edit(&divisor);
+        reading!(self, rope, address.widen(), |divisor| {
+            let quotient = div(
+                self.word(Eras::A),
+                self.word(Eras::L),
+                divisor.value.correct(),
+            );
+            self.put(Eras::A, quotient.quotient.extend());
+            self.put(Eras::L, quotient.remainder.extend());
+        });
     }
 
     /// MSU
@@ -320,10 +336,10 @@ impl Machine {
     pub(crate) fn modular_subtract(&mut self, rope: &Rope, address: Addr10)
         ensures { self.new ≡ changes self.old (msu rope.now self.old address) }
     {
-        let other = self.reading(rope, address.widen());
-        let difference = self.word(Eras::A).modular_sub(other.value.correct());
-        self.put(Eras::A, difference.extend());
-        self.edit(&other);
+        reading!(self, rope, address.widen(), |other| {
+            let difference = self.word(Eras::A).modular_sub(other.value.correct());
+            self.put(Eras::A, difference.extend());
+        });
     }
 
     /// BZF
