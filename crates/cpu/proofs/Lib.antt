@@ -3,7 +3,6 @@ pub mod TakenLaws
 pub mod LateInputs
 mod Rows
 mod ChangeLaws
-mod BitLaws
 pub mod RowLaws
 pub mod RowTexts
 mod EntryLaws

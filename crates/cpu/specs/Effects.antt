@@ -1,11 +1,11 @@
 -- What each instruction does, as changes to the state after the fetch.
-use Rattle.std.specs.Prelude.{ℕ, ◌+◌, ◌-◌, ◌^◌, Bool, true, false, not, List, [], ◌∷◌, ◌++◌, Some, if◌then◌else◌, ◌==◌, nat_le, ◌&&◌, ◌||◌}
+use Rattle.std.specs.Prelude.{ℕ, ◌+◌, ◌-◌, Bool, true, false, not, List, [], ◌∷◌, ◌++◌, Some, if◌then◌else◌, ◌==◌, nat_le, ◌&&◌, ◌||◌}
 use Rattle.words.specs.declared.wide.Overflow.{Overflow}
 use Rattle.words.specs.declared.wide.Overflow.TheVariants.{No, Plus, Minus}
 use Rattle.words.specs.Numbers.{extend, correct, sum, neg_wide, dabs, modular_difference}
 use Rattle.words.specs.Products.{product, quotient}
 use Rattle.words.specs.BitSums.{and_sum, or_sum, xor_sum}
-use Rattle.words.specs.Signs.{over}
+use Rattle.words.specs.Signs.{over, minus_zero, is_zero, is_minus_wide}
 use Rattle.space.specs.Cells.{get, put, get_channel, put_channel, at, accumulator, lower_accumulator, return_address, erasable_bank, fixed_bank, program_counter, cycle_right, edit_opcode, return_address_channel, superbank}
 use Rattle.space.specs.Places.{place}
 use Rattle.space.specs.declared.place.Linear.{Linear}
@@ -105,18 +105,6 @@ abbrev pub carry : Overflow → ℕ
 carry No = 0
 carry Plus = 1
 carry Minus = neg_wide 1
-
--- -0
-abbrev pub minus_zero : ℕ
-minus_zero = neg_wide 0
-
--- +0 or -0
-abbrev pub is_zero : ℕ → Bool
-is_zero x = x == 0 || x == minus_zero
-
--- bit 16 of a wide is set
-abbrev pub is_minus_wide : ℕ → Bool
-is_minus_wide x = nat_le (2 ^ 15) x
 
 -- f of two wides on all their 16 bits, or on the 15 bits of their words, extended
 abbrev pub bitwise : (ℕ → ℕ → ℕ → ℕ) → Bool → ℕ → ℕ → ℕ

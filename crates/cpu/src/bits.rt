@@ -1,4 +1,4 @@
-//! Bits of words and of wides.
+//! Bits of A and of an operand: of whole wides, or of their words.
 
 ghost use Rattle.std.specs.Prelude.{◌≡◌, true, false};
 ghost use Rattle.words.specs.BitSums.{and_sum, or_sum, xor_sum};
@@ -6,7 +6,7 @@ ghost use Rattle.cpu.specs.Effects.{bitwise, is_whole};
 
 use space::numbers::Eras;
 use space::place::Linear;
-use words::{Wide, Word};
+use words::Wide;
 
 /// Whether a place holds all 16 bits of a wide.
 pub(crate) fn is_whole(place: &Linear) -> bool
@@ -25,15 +25,8 @@ pub(crate) fn and(whole: bool, left: Wide, right: Wide) -> Wide
     if whole {
         left.and(right)
     } else {
-        and_words(left.correct(), right.correct()).extend()
+        left.correct().and(right.correct()).extend()
     }
-}
-
-#[tactic(auto, using(crate::proofs::BitLaws::and_low))]
-fn and_words(left: Word, right: Word) -> Word
-    ensures { result ≡ and_sum 15 left right }
-{
-    Word::of_low_bits(left.to_u16() & right.to_u16())
 }
 
 /// Each bit that stands in one at least, of whole wides or of their words.
@@ -43,15 +36,8 @@ pub(crate) fn or(whole: bool, left: Wide, right: Wide) -> Wide
     if whole {
         left.or(right)
     } else {
-        or_words(left.correct(), right.correct()).extend()
+        left.correct().or(right.correct()).extend()
     }
-}
-
-#[tactic(auto, using(crate::proofs::BitLaws::or_low))]
-fn or_words(left: Word, right: Word) -> Word
-    ensures { result ≡ or_sum 15 left right }
-{
-    Word::of_low_bits(left.to_u16() | right.to_u16())
 }
 
 /// Each bit that stands in exactly one, of whole wides or of their words.
@@ -61,13 +47,6 @@ pub(crate) fn xor(whole: bool, left: Wide, right: Wide) -> Wide
     if whole {
         left.xor(right)
     } else {
-        xor_words(left.correct(), right.correct()).extend()
+        left.correct().xor(right.correct()).extend()
     }
-}
-
-#[tactic(auto, using(crate::proofs::BitLaws::xor_low))]
-fn xor_words(left: Word, right: Word) -> Word
-    ensures { result ≡ xor_sum 15 left right }
-{
-    Word::of_low_bits(left.to_u16() ^ right.to_u16())
 }

@@ -2,7 +2,7 @@
 
 ghost use Rattle.std.specs.Prelude.{◌≡◌, ◌+◌, ◌≤◌, Some, None, true, false, [], ◌∷◌, if◌then◌else◌};
 ghost use Rattle.words.specs.Numbers.{neg_wide};
-ghost use Rattle.cpu.specs.Effects.{changes, carry, ccs_skip, exchange, is_zero, is_minus_wide, is_at_zero, is_at_zero_or_minus, tc, ccs, tcf, ca, cs, ad, su, mask, ts, xch, lxch, qxch, dxch, ads, incr, aug, dim, das, dca, dcs, index, mp, dv, msu, bzf, bzmf, relint, inhint, resume};
+ghost use Rattle.cpu.specs.Effects.{changes, carry, ccs_skip, exchange, is_at_zero, is_at_zero_or_minus, tc, ccs, tcf, ca, cs, ad, su, mask, ts, xch, lxch, qxch, dxch, ads, incr, aug, dim, das, dca, dcs, index, mp, dv, msu, bzf, bzmf, relint, inhint, resume};
 
 use crate::address::{Addr10, before};
 use crate::bits::{and, is_whole};
@@ -10,12 +10,6 @@ use crate::machine::Machine;
 use rope::Rope;
 use space::numbers::{Addr12, Eras};
 use words::{Overflow, Wide, div};
-
-/// -0
-const MINUS_ZERO: u16 = 0o177777;
-
-/// Bit 16 of a wide.
-const SIGN: u16 = 0o100000;
 
 // Does something with what is read at an address, and stores that there again where the place edits.
 macro_rules! reading {
@@ -234,7 +228,7 @@ impl Machine {
     {
         let place = self.erasable(address);
         let value = self.reg(place);
-        self.put(place, value.add(unit(is_minus(value))));
+        self.put(place, value.add(unit(value.is_minus())));
     }
 
     /// DIM
@@ -244,8 +238,8 @@ impl Machine {
     {
         let place = self.erasable(address);
         let value = self.reg(place);
-        if !is_zero(value) {
-            self.put(place, value.add(unit(!is_minus(value))));
+        if !value.is_zero() {
+            self.put(place, value.add(unit(!value.is_minus())));
         }
     }
 
@@ -366,14 +360,14 @@ impl Machine {
     pub(crate) fn is_at_zero(&self) -> bool
         ensures { result ≡ is_at_zero self.now }
     {
-        is_zero(self.reg(Eras::A))
+        self.reg(Eras::A).is_zero()
     }
 
     /// Whether A is +0 or -0 or bit 16 of it is set.
     pub(crate) fn is_at_zero_or_minus(&self) -> bool
         ensures { result ≡ is_at_zero_or_minus self.now }
     {
-        self.is_at_zero() || is_minus(self.reg(Eras::A))
+        self.is_at_zero() || self.reg(Eras::A).is_minus()
     }
 
     /// RELINT
@@ -428,24 +422,13 @@ fn ccs_skip(value: Wide) -> u16
     ensures skip { result ≡ ccs_skip value }
     ensures few { result ≤ 3 }
 {
-    match value.to_u16() {
-        0 => 1,
-        MINUS_ZERO => 3,
-        bits => { if bits >= SIGN { 2 } else { 0 } }
+    if value == Wide::ZERO {
+        1
+    } else if value == Wide::MINUS_ZERO {
+        3
+    } else if value.is_minus() {
+        2
+    } else {
+        0
     }
-}
-
-/// Whether a wide is +0 or -0.
-fn is_zero(value: Wide) -> bool
-    ensures { result ≡ is_zero value }
-{
-    let bits = value.to_u16();
-    bits == 0 || bits == MINUS_ZERO
-}
-
-/// Whether bit 16 of a wide is set.
-fn is_minus(value: Wide) -> bool
-    ensures { result ≡ is_minus_wide value }
-{
-    value.to_u16() >= SIGN
 }

@@ -82,6 +82,10 @@ fn bits_and_edits(rt: HostRuntime) {
     assert_eq!(rt; one.or(other), wide(0o127476));
     assert_eq!(rt; one.xor(other), wide(0o124426));
     assert_eq!(rt; one.neg(), wide(0o054321));
+    let (one, other) = (word(0o53456), word(0o47070));
+    assert_eq!(rt; one.and(other), word(0o43050));
+    assert_eq!(rt; one.or(other), word(0o57476));
+    assert_eq!(rt; one.xor(other), word(0o14426));
     for (number, right, left) in [
         (0o40003, 0o60001, 0o00007),
         (0o00003, 0o00001, 0o00006),
@@ -93,6 +97,22 @@ fn bits_and_edits(rt: HostRuntime) {
     for (number, diminished) in [(5, 4), (1, 0), (0, 0), (0o177772, 4), (0o177777, 0)] {
         assert_eq!(rt; wide(number).dabs(), wide(diminished), "at {number:o}");
     }
+}
+
+#[test]
+fn zeros_and_signs(rt: HostRuntime) {
+    for (number, zero, minus) in [
+        (0, true, false),
+        (1, false, false),
+        (0o77777, false, false),
+        (0o100000, false, true),
+        (0o177776, false, true),
+        (0o177777, true, true),
+    ] {
+        assert_eq!(rt; wide(number).is_zero(), zero, "at {number:o}");
+        assert_eq!(rt; wide(number).is_minus(), minus, "at {number:o}");
+    }
+    assert_eq!(rt; Wide::MINUS_ZERO, Wide::ZERO.neg());
 }
 
 #[test]

@@ -37,3 +37,10 @@ unfolding xor_sum
 xor_is_sum k x y p q =
     let small : bit_xor x y % 2 ^ k ≡ bit_xor x y = mod-eq_of_lt (xor_lt k x y p q) in
     sym (bit_sum_same k _ _ (λ i. sym (bit_at_xor x y i)) ∙ bit_sum_of k (bit_xor x y) ∙ small)
+
+-- the bits of two words make a word
+pub or_in_word : (x y : ℕ) → x < 2 ^ 15 → y < 2 ^ 15 → bit_or x y < 2 ^ 15
+or_in_word x y p q = or_lt 15 x y p q
+
+pub xor_in_word : (x y : ℕ) → x < 2 ^ 15 → y < 2 ^ 15 → bit_xor x y < 2 ^ 15
+xor_in_word x y p q = xor_lt 15 x y p q

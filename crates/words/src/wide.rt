@@ -3,7 +3,7 @@
 ghost use Rattle.std.specs.Prelude.{◌≡◌, ◌+◌, ◌-◌, ◌%◌, ◌^◌};
 ghost use Rattle.words.specs.Numbers.{neg_wide, sum, correct, dabs};
 ghost use Rattle.words.specs.BitSums.{and_sum, or_sum, xor_sum};
-ghost use Rattle.words.specs.Signs.{over};
+ghost use Rattle.words.specs.Signs.{over, is_zero, is_minus_wide};
 
 use super::word::Word;
 use std::marker::Model;
@@ -44,6 +44,9 @@ const WIDE_BITS: u32 = 16;
 impl Wide {
     /// The wide +0.
     pub const ZERO: Wide = Wide { bits: 0 };
+
+    /// The wide -0.
+    pub const MINUS_ZERO: Wide = Wide { bits: 0o177777 };
 
     /// The wide +1.
     pub const ONE: Wide = Wide { bits: 1 };
@@ -110,6 +113,20 @@ impl Wide {
         Wide {
             bits: self.bits ^ other.bits,
         }
+    }
+
+    /// Whether it is +0 or -0.
+    pub fn is_zero(self) -> bool
+        ensures { result ≡ is_zero self }
+    {
+        self == Wide::ZERO || self == Wide::MINUS_ZERO
+    }
+
+    /// Whether bit 16 is set.
+    pub fn is_minus(self) -> bool
+        ensures { result ≡ is_minus_wide self }
+    {
+        self.bits >= SIGN
     }
 
     /// The overflow that bits 16 and 15 show.

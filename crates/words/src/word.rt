@@ -2,6 +2,7 @@
 
 ghost use Rattle.std.specs.Prelude.{◌≡◌, ◌%◌, ◌<◌, ◌^◌, OkIff};
 ghost use Rattle.words.specs.Numbers.{value, neg, extend, modular_difference};
+ghost use Rattle.words.specs.BitSums.{and_sum, or_sum, xor_sum};
 ghost use Rattle.words.specs.Products.{is_minus, magnitude, signed};
 
 use super::wide::Wide;
@@ -85,6 +86,36 @@ impl Word {
     {
         Word {
             bits: self.bits ^ GREATEST_WORD,
+        }
+    }
+
+    /// Each bit that stands in both.
+    #[tactic(auto, using(crate::proofs::Sums::and_is_sum))]
+    pub fn and(self, other: Word) -> Word
+        ensures { result ≡ and_sum 15 self other }
+    {
+        Word {
+            bits: self.bits & other.bits,
+        }
+    }
+
+    /// Each bit that stands in one of them at least.
+    #[tactic(auto, using(crate::proofs::Sums::or_is_sum, crate::proofs::Sums::or_in_word))]
+    pub fn or(self, other: Word) -> Word
+        ensures { result ≡ or_sum 15 self other }
+    {
+        Word {
+            bits: self.bits | other.bits,
+        }
+    }
+
+    /// Each bit that stands in exactly one of them.
+    #[tactic(auto, using(crate::proofs::Sums::xor_is_sum, crate::proofs::Sums::xor_in_word))]
+    pub fn xor(self, other: Word) -> Word
+        ensures { result ≡ xor_sum 15 self other }
+    {
+        Word {
+            bits: self.bits ^ other.bits,
         }
     }
 
