@@ -2,6 +2,8 @@
 #![tactic(auto)]
 
 #[cfg(test)]
+mod forward_tests;
+#[cfg(test)]
 mod listing_tests;
 #[cfg(test)]
 mod rope_tests;
