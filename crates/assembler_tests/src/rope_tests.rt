@@ -54,6 +54,29 @@ fn words_stand_where_they_are_put(rt: HostRuntime) -> Result<(), RopeFault> {
     Ok(())
 }
 
+#[test]
+fn word_is_set_where_one_stands(rt: HostRuntime) -> Result<(), RopeFault> {
+    let place = (
+        Bank::try_new(0o43),
+        Offset::try_new(0o1776),
+        Offset::try_new(0o1777),
+    );
+    let (Some(bank), Some(before), Some(last)) = place else {
+        panic!(rt; "the last two places")
+    };
+    let mut rope = Rope::empty(rt.alloc())?;
+    rope.put(bank, last, Word::ZERO);
+    for number in [0o34005, 0o77777, 0, 0o00001] {
+        if let (true, Ok(word)) = (rope.has(bank, last), Word::try_from_u16(number)) {
+            rope.set(bank, last, word);
+        }
+        assert!(rt; rope.has(bank, last));
+        assert_eq!(rt; rope.word(bank, last).to_u16(), number);
+        assert!(rt; !rope.has(bank, before));
+    }
+    Ok(())
+}
+
 // So many bytes, each low one this: words of 0 in version 1 where it is 0, in version 2 where it is 1.
 fn image_of_zeros(alloc: Global, low: u8, length: usize) -> Result<Vec<u8>, AllocError>
     ensures { IfOk result (λ bytes. vec_len bytes ≡ length) }

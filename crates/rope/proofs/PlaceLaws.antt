@@ -4,7 +4,7 @@ use Rattle.std.specs.Ordering.{nat_cmp, eq_by_cmp}
 use Rattle.std.specs.Cmp.{nat_cmp_total}
 use Rattle.std.specs.FinMap as map
 use Rattle.std.proofs.lemmas.Bool.{cases_lt, lt-ltb, le-ltb, cases_eq, eq-eqb, ne_eqb}
-use Rattle.rope.specs.Places.{banks, bank_words, fixed_places, Words, place_number, no_words, with_word, slot_at, Placed, with_words}
+use Rattle.rope.specs.Places.{banks, bank_words, fixed_places, Words, place_number, no_words, with_word, slot_at, stands, Placed, with_words}
 use Rattle.rope.proofs.SlotWords.{same_order, other_order, get-words_of}
 use Rattle.rope.specs.Slots.{words_of}
 use Rattle.std.proofs.lemmas.List.{get_or_past}
@@ -34,6 +34,14 @@ slot_at-outside words bank offset outside = rw outside refl
 -- none stands in banks from 044 on
 pub slot_at-beyond : (words : Words) (bank offset : ℕ) → banks ≤ bank → slot_at words bank offset ≡ None
 slot_at-beyond words bank offset beyond = slot_at-outside words bank offset (rw (le-ltb bank banks beyond) refl)
+
+-- a word stands in banks below 044 alone
+pub stands-within : (words : Words) (bank offset : ℕ) → stands words bank offset ≡ true → bank < banks
+stands-within words bank offset here =
+    elim (cases_lt bank banks) [
+      | inl in_banks ↦ in_banks
+      | inr beyond ↦ absurd (let none = slot_at-beyond words bank offset beyond in cc)
+    ]
 
 -- no word stands in an empty rope
 pub slot_at-no_words : (bank offset : ℕ) → slot_at no_words bank offset ≡ None

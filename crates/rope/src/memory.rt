@@ -1,6 +1,6 @@
 //! Fixed memory.
 
-ghost use Rattle.std.specs.Prelude.{◌≡◌, ◌<◌, ℕ, false, None, IfOk, IfErr, replicate, length, slice_index_or};
+ghost use Rattle.std.specs.Prelude.{◌≡◌, ◌<◌, ℕ, true, false, None, IfOk, IfErr, replicate, length, slice_index_or};
 ghost use Rattle.rope.specs.Places.{place_number, fixed_places, banks, no_words, with_word, slot_at, stands, word_at};
 ghost use Rattle.rope.specs.declared.fault.RopeFault.TheVariants.{NoMemory};
 
@@ -78,11 +78,19 @@ impl Rope {
         requires free { stands self.old bank offset ≡ false }
         ensures { self.new ≡ with_word self.old bank offset word }
     {
-        self.set(bank, offset, word);
+        self.set_slot(bank, offset, word);
+    }
+
+    /// Puts a later word at a place where one stands, and changes no other. No memory is taken.
+    pub fn set(&mut self, bank: Bank, offset: Offset, later: Word)
+        requires { stands self.old bank offset ≡ true }
+        ensures { self.new ≡ with_word self.old bank offset later }
+    {
+        self.set_slot(bank, offset, later);
     }
 
     // The word at this place from now on.
-    pub(crate) fn set(&mut self, bank: Bank, offset: Offset, word: Word)
+    pub(crate) fn set_slot(&mut self, bank: Bank, offset: Offset, word: Word)
         requires { bank < banks }
         ensures { self.new ≡ with_word self.old bank offset word }
     {

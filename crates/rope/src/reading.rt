@@ -65,7 +65,7 @@ impl Rope {
         }
         match read_word(reader, position, version) {
             Ok(word) => {
-                self.set(bank_at(position), offset_at(position), word);
+                self.set_slot(bank_at(position), offset_at(position), word);
                 Ok(position + 1)
             }
             Err(fault) => Err(fault),
@@ -104,7 +104,7 @@ impl Rope {
         let first = position % BANK_WORDS;
         for number in 0..count {
             let word = half(bytes[2 * number], bytes[2 * number + 1]);
-            self.set(bank, offset_at(first + number), word);
+            self.set_slot(bank, offset_at(first + number), word);
         }
     }
 }

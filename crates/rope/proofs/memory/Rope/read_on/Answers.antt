@@ -1,12 +1,12 @@
 use Rattle.std.proofs.Common.{◌≡◌, ◌∙◌, ◌+◌, refl, arith}
 use Rattle.rope.proofs.ReadSteps.{with_position, goes_word, all_stand-more, fault_goes}
 use Rattle.rope.proofs.memory.Rope.read_on.Goals as goal
-use Rattle.rope.proofs.memory.Rope.read_on.Goals.{After-set, In-Err}
+use Rattle.rope.proofs.memory.Rope.read_on.Goals.{After-set_slot, In-Err}
 use Rattle.rope.proofs.memory.Rope.read_on.Given.{Over}
 
 -- the word stands at the place of its position
-set_there : (g : Over) (c : After-set g) → c.set.new.self ≡ with_position c.take_ready-count.new.self c.args.position c.in-Ok.word
-set_there g c = c.set.ensures ∙ rw (c.bank_at.ensures, c.offset_at.ensures) refl
+set_there : (g : Over) (c : After-set_slot g) → c.set_slot.new.self ≡ with_position c.take_ready-count.new.self c.args.position c.in-Ok.word
+set_there g c = c.set_slot.ensures ∙ rw (c.bank_at.ensures, c.offset_at.ensures) refl
 
 pub returns-in-Ok-clause-goes : goal.returns-in-Ok-clause-goes
 returns-in-Ok-clause-goes g c = λ told old before.

@@ -1,12 +1,5 @@
-use Rattle.std.proofs.Common.{◌∙◌, ap, arith}
-use Rattle.std.specs.FinMap as map
-use Rattle.rope.specs.Places.{with_word}
-use Rattle.rope.proofs.SlotWords.{words_of-set}
+use Rattle.rope.proofs.PlaceLaws.{stands-within}
 use Rattle.rope.proofs.memory.Rope.set.Goals as goal
 
-pub returns : goal.returns
-unfolding with_word
-returns c =
-    words_of-set c.self.inside.slots.items c.slot_number.result c.args.word (omega arith)
-    ∙ ap (λ words. map.insert words c.slot_number.result c.args.word) c.self.view_is
-    ∙ ap (λ at. map.insert c.args.self.now at c.args.word) c.slot_number.ensures
+pub set_slot-requires : goal.set_slot-requires
+set_slot-requires c = stands-within c.args.self.now c.args.bank c.args.offset c.requires

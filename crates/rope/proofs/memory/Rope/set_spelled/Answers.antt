@@ -2,7 +2,7 @@ use Rattle.std.proofs.Common.{◌≡◌, ◌<◌, ◌∙◌, ◌+◌, ◌/◌, �
 use Rattle.rope.specs.Places.{bank_words, fixed_places}
 use Rattle.rope.proofs.ReadSteps.{with_position, goes_word, goes_kept, two_next, none_next, all_stand-more}
 use Rattle.rope.proofs.memory.Rope.set_spelled.Goals as goal
-use Rattle.rope.proofs.memory.Rope.set_spelled.Goals.{After-set}
+use Rattle.rope.proofs.memory.Rope.set_spelled.Goals.{After-set_slot}
 
 pub loop-number-init : goal.loop-number-init
 loop-number-init c =
@@ -14,11 +14,11 @@ loop-number-init c =
     }
 
 -- the word stands at the place of its position
-set_there : (c : After-set) → c.set.new.self ≡ with_position c.loop-number.self (c.args.position + c.loop-number.number) c.half-word.result
+set_there : (c : After-set_slot) → c.set_slot.new.self ≡ with_position c.loop-number.self (c.args.position + c.loop-number.number) c.half-word.result
 set_there c =
     let entry : (c.args.position + c.loop-number.number) / bank_words ≡ c.args.position / bank_words = omega (arith, c.requires.room, c.loop-number-test.true) in
     let offset : (c.args.position + c.loop-number.number) % bank_words ≡ (c.args.position % bank_words + c.loop-number.number) % bank_words = omega arith in
-    c.set.ensures ∙ rw (c.bank_at-bank.ensures, c.offset_at.ensures, entry, offset) refl
+    c.set_slot.ensures ∙ rw (c.bank_at-bank.ensures, c.offset_at.ensures, entry, offset) refl
 
 pub loop-number-preserved : goal.loop-number-preserved
 loop-number-preserved c =
