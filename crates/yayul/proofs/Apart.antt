@@ -34,7 +34,7 @@ meets_before before (x ∷ xs) (suc j) r apart e =
     let rest : meets ((before ++ x ∷ []) ++ take j xs) r ≡ false = meets_before (before ++ x ∷ []) xs j r apart.1 e in
     rw append_assoc at rest
 
-few_words : (content : Content) → width content ≤ 2
+pub few_words : (content : Content) → width content ≤ 2
 few_words (Constant number) = omega arith
 few_words (Plain i) = omega arith
 few_words (Addressed i operand) = omega arith

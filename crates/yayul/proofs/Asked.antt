@@ -3,18 +3,17 @@ use Rattle.std.proofs.Common.{◌≡◌, ℕ, ◌+◌, ◌≤◌, Bool, true, fa
 use Rattle.std.proofs.lemmas.Bool.{cases_lt, lt-ltb, le-ltb}
 use Rattle.std.proofs.lemmas.Bool.Decides.{nat_tests}
 use Rattle.std.proofs.lemmas.Option.{same_Some}
-use Rattle.std.specs.Prelude.{◌⊎◌, OnOk, IfErr}
+use Rattle.std.specs.Prelude.{◌⊎◌}
 use Rattle.std.specs.List.{list_any}
 use Rattle.std.specs.Option.{option_map_or}
 use Rattle.std.specs.Result.{result_unwrap_or}
 use Rattle.rope.specs.Places.{bank_words}
 use Rattle.yayul.specs.Forms.{statement_of}
 use Rattle.yayul.specs.Layout.{Request, and_then, value_here, early_value, defined, asked, asked_here, fault_if, standing, on_line, Layout, width, lacks_room, after_words, stands_at, is_taken, is_malformed, is_twice, is_erasable, word_place, gives, statement_effect, text_faults, line_effect, line_faults, layout_after, layout_faults}
-use Rattle.yayul.specs.Inside.Answers.{least_kind, LeadsTo}
-use Rattle.yayul.specs.Inside.Sound.{AreFrom, AreRising, AreApart, meets}
+use Rattle.yayul.specs.Inside.Sound.{AreFrom, AreRising, AreApart, AreBelow, AreOrdered, meets}
 use Rattle.yayul.specs.declared.faults.Fault.{Fault}
 use Rattle.yayul.specs.declared.faults.FaultKind.{FaultKind}
-use Rattle.yayul.specs.declared.faults.FaultKind.TheVariants.{NoMemory, BadLabel, TwiceDefined, BankFull, PlaceTaken, CodeInErasable}
+use Rattle.yayul.specs.declared.faults.FaultKind.TheVariants.{BadLabel, TwiceDefined, BankFull, PlaceTaken, CodeInErasable}
 use Rattle.yayul.specs.declared.language.Location.{Location}
 use Rattle.yayul.specs.declared.language.Location.TheVariants as location
 use Rattle.yayul.specs.declared.language.Label.{Label}
@@ -24,22 +23,16 @@ use Rattle.yayul.specs.declared.language.Operation.TheVariants.{Nothing, Unknown
 use Rattle.yayul.specs.declared.language.Content.{Content}
 use Rattle.yayul.specs.declared.values.Value.{Value}
 use Rattle.yayul.specs.declared.values.Value.TheVariants.{Fixed}
-use Rattle.yayul.proofs.Least.{none_least}
 use Rattle.yayul.proofs.Taken.{or-parts}
 
 -- a request asks for a word at a place
-abbrev pub is_asked_at : List Request → Option (ℕ × ℕ) → Bool
+abbrev is_asked_at : List Request → Option (ℕ × ℕ) → Bool
 is_asked_at requests place = option_map_or (λ p. list_any (stands_at p.0 p.1) requests) place false
 
 -- the request for words of a content at a place
-abbrev request_for : ℕ → Layout → Content → ℕ × ℕ → Request
+abbrev pub request_for : ℕ → Layout → Content → ℕ × ℕ → Request
 request_for line s content place =
     record { line = line; bank = place.0; offset = place.1; content = content; extracode = s.extracode; eb = s.eb }
-
--- requests of lines below a number
-abbrev AreBelow : ℕ → List Request → Type 0
-AreBelow line [] = Unit {0}
-AreBelow line (r ∷ rs) = (r.line + 1 ≤ line) × AreBelow line rs
 
 -- what stands after one line: what stood before it, or the words of one request more, at places that no earlier line asks for
 abbrev IsNext : ℕ → List Request → List Request → Type 0
@@ -52,7 +45,7 @@ none_stands true kind cs e = absurd (let bad : kind ∷ standing cs ≡ [] = e i
 none_stands false kind cs e = (refl, e)
 
 -- a faultless line that gives words has room for them, where none stands
-free_place : (line : ℕ) (s : Layout) (label : Label) (content : Content) → (gives line s label content).faults ≡ []
+pub free_place : (line : ℕ) (s : Layout) (label : Label) (content : Content) → (gives line s label content).faults ≡ []
     → (lacks_room (width content) s.location ≡ false) × (is_taken s (width content) ≡ false)
 free_place line s label content e =
     let last : List (Option FaultKind) = fault_if (is_erasable s.location) CodeInErasable ∷ [] in
@@ -114,7 +107,7 @@ asked_next line s content (Some place) here room free =
     inr (request_for line s content place, (refl, (refl, meets_none s (request_for line s content place) here room free)))
 
 -- a name more leaves the location and the requests as they are
-defined_keeps : (s : Layout) (label : Label) (value : Value) → ((defined s label value).location ≡ s.location) × ((defined s label value).requests ≡ s.requests)
+pub defined_keeps : (s : Layout) (label : Label) (value : Value) → ((defined s label value).location ≡ s.location) × ((defined s label value).requests ≡ s.requests)
 defined_keeps s Missing value = (refl, refl)
 defined_keeps s Malformed value = (refl, refl)
 defined_keeps s (Named name) value = (refl, refl)
@@ -177,13 +170,7 @@ below-more : (n : ℕ) (rs : List Request) → AreBelow n rs → AreBelow (n + 1
 below-more n [] p = tt
 below-more n (q ∷ rs) p = (omega (arith, p.0), below-more n rs p.1)
 
--- what requests before a line keep
-pub record AreOrdered (line : ℕ) (rs : List Request) : Type 0 where
-  pub rising : AreRising rs
-  pub apart : AreApart [] rs
-  pub below : AreBelow line rs
-
-ordered-next : (line : ℕ) (rs after : List Request) → AreOrdered line rs → IsNext line rs after → AreOrdered (line + 1) after
+pub ordered-next : (line : ℕ) (rs after : List Request) → AreOrdered line rs → IsNext line rs after → AreOrdered (line + 1) after
 ordered-next line rs after p (inl same) =
     rw same (record { rising = p.rising; apart = p.apart; below = below-more line rs p.below })
 ordered-next line rs after p (inr (r, next)) =
@@ -212,7 +199,7 @@ ordered texts s t e after none =
     rw after both
 
 -- the value of a location where a word may stand
-here_value : (l : Location) (bank offset : ℕ) → word_place l ≡ Some (bank, offset) → value_here l ≡ Fixed bank offset
+pub here_value : (l : Location) (bank offset : ℕ) → word_place l ≡ Some (bank, offset) → value_here l ≡ Fixed bank offset
 here_value (location.Erasable n) bank offset here = absurd (let bad : None ≡ Some (bank, offset) = here in cc)
 here_value (location.Fixed b n) bank offset here =
     elim (cases_lt n 0o2000) [
@@ -221,17 +208,3 @@ here_value (location.Fixed b n) bank offset here =
           let is : ◌≡◌ {A = Option (ℕ × ℕ)} (Some (b, n)) (Some (bank, offset)) = rw (lt-ltb n 0o2000 in_bank) at here in
           ap (λ (p : ℕ × ℕ). Fixed p.0 p.1) (same_Some (b, n) (bank, offset) is)
     ]
-
--- a faultless line that gives words, where its label is defined and its words are asked for
-pub gives_answers : (line : ℕ) (s d t : Layout) (label : Label) (content : Content) (bank offset : ℕ) (result : Result (Unit {0}) FaultKind)
-    → None ≡ least_kind (gives line s label content).faults → word_place s.location ≡ Some (bank, offset) → d ≡ defined s label (Fixed bank offset)
-    → OnOk result (t ≡ asked d (request_for line d content (bank, offset))) → IfErr result (λ kind. kind ≡ NoMemory) → LeadsTo (gives line s label content) t result
-gives_answers line s d t label content bank offset (Ok x) none here names asks failed =
-    let all : Layout = defined s label (value_here s.location) in
-    let same : d ≡ all = names ∙ ap (defined s label) (sym (here_value s.location bank offset here)) in
-    let place : word_place all.location ≡ Some (bank, offset) = ap word_place (defined_keeps s label (value_here s.location)).0 ∙ here in (
-      none_least (gives line s label content).faults (sym none),
-      asks ∙ ap (λ u. asked u (request_for line u content (bank, offset))) same
-          ∙ sym (ap (λ p. option_map_or (λ q. asked all (request_for line all content q)) p all) place),
-    )
-gives_answers line s d t label content bank offset (Err kind) none here names asks failed = λ known. absurd (known failed)

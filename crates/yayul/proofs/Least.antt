@@ -19,7 +19,7 @@ standing-one_more (None ∷ cs) c = standing-one_more cs c
 standing-one_more (Some k ∷ cs) c = ap (λ ks. k ∷ ks) (standing-one_more cs c)
 
 -- of two faults, the one before the other
-abbrev lesser : Fault → Fault → Fault
+abbrev pub lesser : Fault → Fault → Fault
 lesser a b = if is_before b a then b else a
 
 -- one condition more
@@ -56,7 +56,7 @@ fold-later : (f : Fault) (gs : List Fault) → StandFrom (f.line + 1) gs → fol
 fold-later f [] p = refl
 fold-later f (g ∷ gs) p = ap (λ h. fold lesser h gs) (kept f g p.0) ∙ fold-later f gs p.1
 
-fold-append : {A B : Type 0} (f : B → A → B) (x : B) (xs ys : List A) → fold f x (xs ++ ys) ≡ fold f (fold f x xs) ys
+pub fold-append : {A B : Type 0} (f : B → A → B) (x : B) (xs ys : List A) → fold f x (xs ++ ys) ≡ fold f (fold f x xs) ys
 fold-append f x [] ys = refl
 fold-append f x (z ∷ xs) ys = fold-append f (f x z) xs ys
 
@@ -64,7 +64,7 @@ fold-append f x (z ∷ xs) ys = fold-append f (f x z) xs ys
 same_line : (line : ℕ) (a b : FaultKind) → lesser (told line a) (told line b) ≡ told line (lesser_kind a b)
 same_line line a b = grind (arith, nat_tests)
 
-fold-on_line : (line : ℕ) (k : FaultKind) (ks : List FaultKind) → fold lesser (told line k) (on_line line ks) ≡ told line (fold lesser_kind k ks)
+pub fold-on_line : (line : ℕ) (k : FaultKind) (ks : List FaultKind) → fold lesser (told line k) (on_line line ks) ≡ told line (fold lesser_kind k ks)
 fold-on_line line k [] = refl
 fold-on_line line k (j ∷ ks) = ap (λ f. fold lesser f (on_line line ks)) (same_line line k j) ∙ fold-on_line line (lesser_kind k j) ks
 
@@ -93,7 +93,3 @@ StandFrom-on_line a line (k ∷ ks) le = (le, StandFrom-on_line a line ks le)
 pub none_least : (ks : List FaultKind) → least_kind ks ≡ None → ks ≡ []
 none_least [] e = refl
 none_least (k ∷ ks) e = absurd (cc)
-
--- no fault stands, where none is the least
-pub no_fault : (cs : List (Option FaultKind)) → least_kind (standing cs) ≡ None → standing cs ≡ []
-no_fault cs e = none_least (standing cs) e

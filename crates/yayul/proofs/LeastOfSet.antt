@@ -4,6 +4,7 @@ use Rattle.std.specs.Prelude.{if◌then◌else◌}
 use Rattle.std.proofs.lemmas.Bool.Decides.{nat_tests}
 use Rattle.yayul.specs.Program.{least, is_before}
 use Rattle.yayul.specs.Language.{Fault}
+use Rattle.yayul.proofs.Least.{lesser}
 
 -- a fault stands among some
 abbrev pub StandsIn : List Fault → Fault → Type 0
@@ -18,10 +19,6 @@ AreAmong others fs = (f : Fault) → StandsIn fs f → StandsIn others f
 abbrev IsLeast : List Fault → Fault → Type 0
 IsLeast fs m = StandsIn fs m × ((f : Fault) → StandsIn fs f → is_before f m ≡ false)
 
--- of two faults, the one before the other
-abbrev lesser : Fault → Fault → Fault
-lesser a b = if is_before b a then b else a
-
 not_before_itself : (f : Fault) → is_before f f ≡ false
 not_before_itself f = grind (arith, nat_tests)
 
@@ -35,7 +32,7 @@ second_too a b m e = grind (arith, nat_tests)
 lesser_is : (a b : Fault) → (lesser a b ≡ a) ⊎ (lesser a b ≡ b)
 lesser_is a b = elim (is_before b a) as (λ x. ((if x then b else a) ≡ a) ⊎ ((if x then b else a) ≡ b)) [ true ↦ inr refl | false ↦ inl refl ]
 
-fold_is_least : (f : Fault) (fs : List Fault) → IsLeast (f ∷ fs) (fold lesser f fs)
+pub fold_is_least : (f : Fault) (fs : List Fault) → IsLeast (f ∷ fs) (fold lesser f fs)
 fold_is_least f [] = (inl refl, one)
   where
     one : (g : Fault) → StandsIn (f ∷ []) g → is_before g f ≡ false

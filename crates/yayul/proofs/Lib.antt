@@ -17,3 +17,12 @@ mod Fronts
 mod Nearest
 mod Apart
 mod Once
+mod Standing
+mod Grown
+mod Held
+mod Alike
+mod Kept
+mod Patched
+mod Ended
+mod Lifted
+mod Agreed

@@ -8,12 +8,14 @@ use Rattle.yayul.specs.Layout.{on_line, standing, fault_if, Layout, text_faults,
 use Rattle.yayul.specs.Program.{least}
 use Rattle.yayul.specs.Listing.{Shown, shown}
 use Rattle.yayul.specs.Inside.Representation.{shown_by_mark, lines_show}
-use Rattle.yayul.specs.Inside.Answers.{Tells, TellsOn, least_kind, LeadsTo, LineLeadsTo}
+use Rattle.yayul.specs.Inside.Answers.{Tells, TellsOn, least_kind, LeadsOn, LineLeadsOn}
 use Rattle.yayul.specs.declared.faults.FaultKind.TheVariants.{NoMemory, NotAscii, LongLine, TooManyLines}
 use Rattle.yayul.specs.declared.faults.Fault.{Fault}
 use Rattle.yayul.specs.declared.language.Statement.{Statement}
 use Rattle.agc_text.specs.Bytes.{line_length, is_text_byte}
 use Rattle.yayul.specs.declared.faults.FaultKind.{FaultKind}
+use Rattle.yayul.specs.declared.layout.Layout.{Layout as Held}
+use Rattle.yayul.specs.declared.layout.Placing.{Placing}
 use Rattle.yayul.specs.declared.mark.Mark.{Mark}
 use Rattle.yayul.proofs.Least.{told, StandFrom, StandFrom-append, StandFrom-later, StandFrom-on_line, least_here, none_least}
 use Rattle.yayul.proofs.Late.{least-before_late, statement_late, text_early}
@@ -48,19 +50,19 @@ line_told line s text k e =
     (statement_late line s (statement_of text).label (statement_of text).operation)
 
 -- a line without such a fault does what it says, and shows it
-pub line_taken : (line : ℕ) (s : Layout) (text : List ℕ) (said : Statement) (t : Layout) (mark : Mark) → least_kind (text_faults line text) ≡ None → said ≡ statement_of text
-    → shown_by_mark mark ≡ shown s.location said → LeadsTo (statement_effect line s said.label said.operation) t (Ok tt) → LineLeadsTo line s text t (Ok mark)
+pub line_taken : (line : ℕ) (s : Layout) (text : List ℕ) (said : Statement) (l : Held) (p : Placing) (mark : Mark) → least_kind (text_faults line text) ≡ None → said ≡ statement_of text
+    → shown_by_mark mark ≡ shown s.location said → LeadsOn line (statement_effect line s said.label said.operation) l p (Ok tt) → LineLeadsOn line s text l p (Ok mark)
 unfolding line_effect
-line_taken line s text said t mark none e m p =
-    let q : LeadsTo (line_effect line s text) t (Ok tt) = rw e at p in
+line_taken line s text said l p mark none e m leads =
+    let q : LeadsOn line (line_effect line s text) l p (Ok tt) = rw e at leads in
     (ap (λ ks. ks ++ (line_effect line s text).faults) (none_least (text_faults line text) none) ∙ q.0, (q.1, m ∙ ap (shown s.location) e))
 
 -- what such a line says is told, where it has a fault
-pub line_refused : (line : ℕ) (s : Layout) (text : List ℕ) (said : Statement) (t : Layout) (kind : FaultKind) → least_kind (text_faults line text) ≡ None → said ≡ statement_of text
-    → LeadsTo (statement_effect line s said.label said.operation) t (Err kind) → LineLeadsTo line s text t (Err kind)
+pub line_refused : (line : ℕ) (s : Layout) (text : List ℕ) (said : Statement) (l : Held) (p : Placing) (kind : FaultKind) → least_kind (text_faults line text) ≡ None → said ≡ statement_of text
+    → LeadsOn line (statement_effect line s said.label said.operation) l p (Err kind) → LineLeadsOn line s text l p (Err kind)
 unfolding line_effect
-line_refused line s text said t kind none e p =
-    let q : LeadsTo (line_effect line s text) t (Err kind) = rw e at p in
+line_refused line s text said l p kind none e leads =
+    let q : LeadsOn line (line_effect line s text) l p (Err kind) = rw e at leads in
     λ known. ap (λ ks. least_kind (ks ++ (line_effect line s text).faults)) (none_least (text_faults line text) none) ∙ q known
 
 -- where the third of three faults stands, there are some

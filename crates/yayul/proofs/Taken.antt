@@ -1,15 +1,15 @@
--- Which places the requests of a layout take.
+-- Where words stand, once requests have put theirs.
 use Rattle.std.proofs.Common.{◌≡◌, ℕ, zero, suc, ◌+◌, ◌<◌, ◌≤◌, Bool, true, false, ◌&&◌, ◌||◌, ◌==◌, nat_lt, nat_le, List, [], ◌∷◌, ◌++◌, length, replicate, Option, Some, is_some, cond, refl, ap, sym, ◌∙◌, arith}
 use Rattle.std.specs.List.{list_any, flat_map}
 use Rattle.std.proofs.lemmas.List.{flat_map_more}
 use Rattle.std.proofs.lemmas.Bool.{lt-ltb}
 use Rattle.std.proofs.lemmas.Bool.Decides.{nat_tests}
 use Rattle.std.proofs.lemmas.List.Elements.{All-head, All-tail}
-use Rattle.rope.specs.Places.{Words, banks, bank_words, Placed, no_words, with_word, with_words, slot_at, stands}
-use Rattle.rope.proofs.PlaceLaws.{slot_at-with_word, slot_at-no_words, with_words-append}
+use Rattle.rope.specs.Places.{Words, banks, bank_words, Placed, with_word, with_words, slot_at, stands}
+use Rattle.rope.proofs.PlaceLaws.{slot_at-with_word, with_words-append}
 use Rattle.yayul.specs.Layout.{Request, width, stands_at}
 use Rattle.yayul.specs.Program.{placed_from}
-use Rattle.yayul.specs.Inside.Sound.{meets, zeros_at, taken_by, AreWithin}
+use Rattle.yayul.specs.Inside.Sound.{meets, AreWithin}
 
 is_some-or : (b : Bool) (word : ℕ) (slot : Option ℕ) → is_some (cond b (Some word) slot) ≡ (b || is_some slot)
 is_some-or true word slot = refl
@@ -51,7 +51,7 @@ meets_not others r e =
     (parts.0, λ two. rw (lt-ltb 1 (width r.content) two) at parts.1)
 
 -- words stand where some were put from a place on, or where they stood before
-pub stands-placed_from : (ws : List ℕ) (words : Words) (b o bank offset : ℕ) → b < banks → o + length ws ≤ bank_words
+stands-placed_from : (ws : List ℕ) (words : Words) (b o bank offset : ℕ) → b < banks → o + length ws ≤ bank_words
     → stands (with_words words (placed_from b o ws)) bank offset ≡ ((bank == b && (nat_le o offset && nat_lt offset (o + length ws))) || stands words bank offset)
 stands-placed_from [] words b o bank offset in_banks room =
     ap (λ (x : Bool). x || stands words bank offset) (sym (among-none (bank == b) o offset))
@@ -75,51 +75,12 @@ stands-with_words f wide (r ∷ rs) words bank offset within =
     ∙ ap (λ n. list_any (stands_at bank offset) rs || ((bank == r.bank && (nat_le r.offset offset && nat_lt offset (r.offset + n))) || stands words bank offset)) (wide r)
     ∙ or-swap (list_any (stands_at bank offset) rs) (stands_at bank offset r) (stands words bank offset)
 
--- an offset among fewer is among more
-among-fewer : (same : Bool) (first offset few many : ℕ) → few ≤ many
-    → (same && (nat_le first offset && nat_lt offset (first + many))) ≡ false → (same && (nat_le first offset && nat_lt offset (first + few))) ≡ false
-among-fewer same first offset few many le e = grind (arith, nat_tests)
-
--- no word stands where requests ask for none and none stood before, where they put no more than they ask for
-pub stands-nowhere : (f : Request → List ℕ) → ((r : Request) → length (f r) ≤ width r.content) → (rs : List Request) (words : Words) (bank offset : ℕ) → AreWithin rs
-    → list_any (stands_at bank offset) rs ≡ false → stands words bank offset ≡ false
-    → stands (with_words words (flat_map (λ r. placed_from r.bank r.offset (f r)) rs)) bank offset ≡ false
-stands-nowhere f few [] words bank offset within none free = free
-stands-nowhere f few (r ∷ rs) words bank offset within none free =
-    let here : (r.bank < banks) × (r.offset + width r.content ≤ bank_words) = All-head (λ q. (q.bank < banks) × (q.offset + width q.content ≤ bank_words)) r rs within in
-    let rest : AreWithin rs = All-tail (λ q. (q.bank < banks) × (q.offset + width q.content ≤ bank_words)) r rs within in
-    let parts = or-parts (stands_at bank offset r) (list_any (stands_at bank offset) rs) none in
-    let fits : length (f r) ≤ width r.content = few r in
-    let not_here : (bank == r.bank && (nat_le r.offset offset && nat_lt offset (r.offset + length (f r)))) ≡ false =
-    among-fewer (bank == r.bank) r.offset offset (length (f r)) (width r.content) fits parts.0 in
-    let placed : stands (with_words words (placed_from r.bank r.offset (f r))) bank offset ≡ false =
-    stands-placed_from (f r) words r.bank r.offset bank offset here.0 (omega (arith, here.1, fits)) ∙ ap (λ x. x || stands words bank offset) not_here ∙ free in
-    ap (λ ws. stands ws bank offset) (with_words-append words (placed_from r.bank r.offset (f r)) (flat_map (λ r. placed_from r.bank r.offset (f r)) rs))
-    ∙ stands-nowhere f few rs (with_words words (placed_from r.bank r.offset (f r))) bank offset rest parts.1 placed
-
 pub length-zeros : (n : ℕ) → length {A = ℕ} (replicate n 0) ≡ n
 length-zeros zero = refl
 length-zeros (suc n) = ap suc (length-zeros n)
-
--- a place is taken where a request asks for its word
-pub stands-taken_by : (rs : List Request) (bank offset : ℕ) → AreWithin rs → stands (taken_by rs) bank offset ≡ list_any (stands_at bank offset) rs
-unfolding taken_by
-stands-taken_by rs bank offset within =
-    stands-with_words (λ r. replicate (width r.content) 0) (λ r. length-zeros (width r.content)) rs no_words bank offset within
-    ∙ ap (λ slot. list_any (stands_at bank offset) rs || is_some slot) (slot_at-no_words bank offset)
-    ∙ or-false (list_any (stands_at bank offset) rs)
 
 -- one more is mapped to a list
 pub with_words-more : (words : Words) (f : Request → List Placed) (rs : List Request) (r : Request)
     → with_words words (flat_map f (rs ++ r ∷ [])) ≡ with_words (with_words words (flat_map f rs)) (f r)
 with_words-more words f rs r =
     ap (with_words words) (sym (flat_map_more f [] rs r)) ∙ with_words-append words (flat_map f rs) (f r)
-
--- one request more takes its places more
-pub taken_by-push : (rs : List Request) (r : Request) → taken_by (rs ++ r ∷ []) ≡ with_words (taken_by rs) (zeros_at r)
-unfolding taken_by
-taken_by-push rs r = with_words-more no_words zeros_at rs r
-
-pub taken_by-none : taken_by [] ≡ no_words
-unfolding taken_by
-taken_by-none = refl

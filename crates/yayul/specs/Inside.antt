@@ -3,3 +3,4 @@ pub mod Codes
 pub mod Representation
 pub mod Sound
 pub mod Answers
+pub mod Waiting

@@ -2,8 +2,10 @@
 
 ghost use Rattle.std.specs.Prelude.{◌≡◌, Some};
 ghost use Rattle.yayul.specs.Layout.{fault_number, fault_if, standing};
+ghost use Rattle.yayul.specs.Program.{is_before};
 ghost use Rattle.yayul.specs.Inside.Answers.{least_kind, lesser_if};
 ghost use Rattle.yayul.specs.Told.{fault_text};
+ghost use Rattle.yayul.specs.Inside.Waiting.{held};
 
 use std::fmt;
 use thiserror::Error;
@@ -148,3 +150,29 @@ impl fmt::Display for Fault {
 }
 
 impl std::error::Error for Fault {}
+
+impl Fault {
+    // Whether it stands on a lesser line than another, or on the same line with a lesser number.
+    fn is_before(self, other: Fault) -> bool
+        ensures { result ≡ is_before self other }
+    {
+        self.line < other.line || (self.line == other.line && self.number < other.number)
+    }
+}
+
+/// The lesser of a fault, where one is held, and one more on a line.
+pub(crate) fn lesser_on(first: Option<Fault>, line: u32, kind: Option<FaultKind>) -> Option<Fault>
+    ensures { result ≡ held first line kind }
+{
+    let Some(kind) = kind else {
+        return first;
+    };
+    let told = Fault {
+        line,
+        number: kind.number(),
+    };
+    match first {
+        Some(first) if !told.is_before(first) => Some(first),
+        _ => Some(told),
+    }
+}

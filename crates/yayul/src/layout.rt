@@ -1,10 +1,11 @@
 //! What stands after some lines of a source.
 
-ghost use Rattle.std.specs.Prelude.{◌≡◌, ◌≤◌, map};
-ghost use Rattle.yayul.specs.Inside.Sound.{number_at, end_at, taken_by, AreEnds, AreWithin};
-ghost use Rattle.yayul.specs.Inside.Representation.{request_of};
+ghost use Rattle.std.specs.Prelude.{◌≤◌, ◌<◌, ℕ, get_or};
+ghost use Rattle.rope.specs.Places.{banks, bank_words};
+ghost use Rattle.yayul.specs.Inside.Sound.{number_at, end_at};
 
 use crate::bank::ErasableBank;
+use crate::faults::Fault;
 use crate::language::Location;
 use crate::request::WordRequest;
 use crate::symbol_table::Symbols;
@@ -13,18 +14,26 @@ use rope::Rope;
 /// How many banks fixed memory has.
 pub(crate) const BANKS: usize = 0o44;
 
-/// What stands after some lines: where the next word stands, and what the lines gave.
+/// What stands after some lines, besides their words.
 #[derive(Drop)]
 pub(crate) struct Layout {
     pub(crate) location: Location,
     pub(crate) symbols: Symbols,
-    pub(crate) taken: Rope,
-    pub(crate) requests: Vec<WordRequest>,
     pub(crate) extracode: bool,
     pub(crate) eb: ErasableBank,
-    pub(crate) ends: [u16; BANKS],
     ghost located: { number_at location ≤ end_at location },
-    ghost within: { AreWithin (map request_of requests.items) },
-    ghost ended: { AreEnds ends (map request_of requests.items) },
-    ghost marked: { taken ≡ taken_by (map request_of requests.items) },
+}
+
+/// The words of some lines, in their places.
+#[derive(Drop)]
+pub(crate) struct Placing {
+    /// The words, and zeros in the places of those that wait.
+    pub(crate) rope: Rope,
+    /// One past the highest word of each bank, 0 where there is none.
+    pub(crate) ends: [u16; BANKS],
+    /// The requests with a symbol that neither an earlier line nor their own defines, in order of lines.
+    pub(crate) waiting: Vec<WordRequest>,
+    /// The least fault of those that do not wait.
+    pub(crate) fault: Option<Fault>,
+    ghost ended: { (bank : ℕ) → bank < banks → get_or ends bank 0 ≤ bank_words },
 }

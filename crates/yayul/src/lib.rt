@@ -20,6 +20,7 @@ mod name;
 mod number;
 mod operand;
 mod operator;
+mod placing;
 mod request;
 mod statement;
 mod symbol_table;

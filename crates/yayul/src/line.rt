@@ -1,56 +1,51 @@
 //! What each line does to the layout: the symbols of a source, and the words that its lines ask for.
 
-ghost use Rattle.std.specs.Prelude.{◌≡◌, ◌<◌, ◌≤◌, ◌+◌, ◌∷◌, [], false, ◌++◌, ◌&&◌, not, IfOk, IfErr, OnOk, Some};
-ghost use Rattle.std.specs.List.{list_all};
+ghost use Rattle.std.specs.Prelude.{◌≡◌, ◌<◌, ◌∷◌, [], false, ◌++◌, ◌&&◌, not, IfOk, IfErr, OnOk, Some};
 ghost use Rattle.std.specs.Result.{result_err};
-ghost use Rattle.yayul.specs.Layout.{fault_number, fault_if, standing, start, word_place, width, lacks_room, is_missing, is_twice, is_taken_at, is_taken, defined, asked, label_faults, label_alone, refused, bare_faults, bank_end, bank_target, relocated, and_then, location_at, erasable_place, early_value, valued, ebank, erase, gives, statement_effect, text_faults};
+ghost use Rattle.yayul.specs.Layout.{Layout as LaidOut, fault_number, fault_if, standing, start, word_place, width, lacks_room, is_missing, is_twice, defined, label_faults, label_alone, refused, bare_faults, relocated, and_then, location_at, erasable_place, early_value, valued, ebank, erase, gives, statement_effect, text_faults};
 ghost use Rattle.yayul.specs.declared.faults.FaultKind.TheVariants.{BankFull};
-ghost use Rattle.yayul.specs.Inside.Answers.{layout_of, least_kind, LeadsTo, LineLeadsTo};
-ghost use Rattle.yayul.specs.Inside.Representation.{request_of};
+ghost use Rattle.yayul.specs.Inside.Answers.{layout_of, least_kind, LeadsTo, Agrees, LeadsOn, LineLeadsOn, TakesWords, passed, tested_faults};
+ghost use Rattle.yayul.specs.Inside.Representation.{request_of, holds_word};
 ghost use Rattle.yayul.specs.Inside.Sound.{IsLocation};
 
 use crate::bank::{ErasableBank, FixedBank};
 use crate::faults::{FaultKind, least_fault};
 use crate::language::{
-    BankRange, Content, Label, Location, Numeral, Operand, Operation, Statement,
+    Content, Label, Location, Numeral, Operand, Operation, Statement,
 };
-use crate::layout::{BANKS, Layout};
+use crate::layout::{Layout, Placing};
 use crate::mark::Mark;
 use crate::request::WordRequest;
 use crate::statement::statement_of;
 use crate::symbol_table::Symbols;
 use crate::values::{Value, erasable_place, location_at, value_of};
-use crate::word::put_words;
 use agc_text::{LINE_LENGTH, is_text};
-use rope::Rope;
 use std::alloc::Global;
 
 /// The most lines of a source.
 const LINE_COUNT: u32 = 65_536;
 
 impl Layout {
-    /// What stands before the first line.
-    pub(crate) fn start(alloc: Global) -> Result<Layout, FaultKind>
-        ensures start { IfOk result (λ l. layout_of l ≡ start) }
-        ensures err { IfErr result (λ kind. kind ≡ FaultKind.NoMemory) }
+    /// What stands before the first line. Nothing is allocated.
+    pub(crate) fn start(alloc: Global) -> Layout
+        ensures { layout_of result ≡ start }
     {
-        match Rope::empty(alloc) {
-            Ok(taken) => Ok(Layout {
-                location: Location::Fixed(FixedBank::two(), 0),
-                symbols: Symbols::new(alloc),
-                taken,
-                requests: Vec::new(alloc),
-                extracode: false,
-                eb: ErasableBank::of_place(0),
-                ends: [0; BANKS],
-            }),
-            Err(_) => Err(FaultKind::NoMemory),
+        Layout {
+            location: Location::Fixed(FixedBank::two(), 0),
+            symbols: Symbols::new(alloc),
+            extracode: false,
+            eb: ErasableBank::of_place(0),
         }
     }
 
     /// Lays out a line, which has this number, and answers what it shows in the listing.
-    pub(crate) fn line(&mut self, line: u32, text: &[u8]) -> Result<Mark, FaultKind>
-        ensures { LineLeadsTo line (layout_of self.old) text.now (layout_of self.new) result }
+    pub(crate) fn line(
+        &mut self,
+        placing: &mut Placing,
+        line: u32,
+        text: &[u8],
+    ) -> Result<Mark, FaultKind>
+        ensures { (s : LaidOut) → Agrees line s self.old placing.old → LineLeadsOn line s text.now self.new placing.new result }
     {
         if let Some(kind) = text_fault(line, text) {
             return Err(kind);
@@ -58,25 +53,33 @@ impl Layout {
         let statement = statement_of(text);
         let mark = Mark::of(self.location, &statement);
         let Statement { label, operation } = statement;
-        match self.operation(line, &label, operation) {
+        match self.operation(placing, line, &label, operation) {
             Ok(()) => Ok(mark),
             Err(kind) => Err(kind),
         }
     }
 
     // Does what a line's fields say.
-    fn operation(&mut self, line: u32, label: &Label, operation: Operation) -> Result<(), FaultKind>
-        ensures { LeadsTo (statement_effect line (layout_of self.old) label.now operation) (layout_of self.new) result }
+    fn operation(
+        &mut self,
+        placing: &mut Placing,
+        line: u32,
+        label: &Label,
+        operation: Operation,
+    ) -> Result<(), FaultKind>
+        ensures { (s : LaidOut) → Agrees line s self.old placing.old → LeadsOn line (statement_effect line s label.now operation) self.new placing.new result }
     {
         match operation {
             Operation::Nothing => self.label_alone(label),
             Operation::Unknown => Err(self.refused(label, FaultKind::UnknownOperator)),
             Operation::Setloc(operand) => self.setloc(label, operand),
-            Operation::Bank(range, number) => self.bank(label, range, number),
+            Operation::Bank(range, number) => {
+                self.relocate(label, placing.bank_target(range, number))
+            }
             Operation::Erase(count) => self.erase(label, count),
             Operation::Equals(operand) => self.equals(label, operand),
             Operation::Ebank(operand) => self.ebank(label, operand),
-            Operation::Gives(Some(content)) => self.give(line, label, content),
+            Operation::Gives(Some(content)) => self.give(placing, line, label, content),
             Operation::Gives(None) => Err(self.refused(label, FaultKind::BadOperand)),
         }
     }
@@ -132,14 +135,6 @@ impl Layout {
         self.relocate(label, target)
     }
 
-    // BANK and BLOCK: the location stands past the words of a bank.
-    fn bank(&mut self, label: &Label, range: BankRange, number: Numeral) -> Result<(), FaultKind>
-        ensures { LeadsTo (relocated (layout_of self.old) label.now (bank_target (layout_of self.old) range number)) (layout_of self.new) result }
-    {
-        let target = self.bank_target(range, number);
-        self.relocate(label, target)
-    }
-
     // Moves the location to a target.
     fn relocate(
         &mut self,
@@ -157,29 +152,6 @@ impl Layout {
             }
             (None, Err(_)) => unreachable!(),
         }
-    }
-
-    // The location past the words of a bank that the operator takes.
-    fn bank_target(&self, range: BankRange, number: Numeral) -> Result<Location, FaultKind>
-        ensures value { result ≡ bank_target (layout_of self.now) range number }
-        ensures located { IfOk result IsLocation }
-    {
-        match number {
-            Numeral::Is(number) => match range.bank(number.to_u16()) {
-                Some(bank) => Ok(self.past_bank(bank)),
-                None => Err(FaultKind::BadBank),
-            },
-            Numeral::TooLarge => Err(FaultKind::BadBank),
-            Numeral::NoForm => Err(FaultKind::BadOperand),
-        }
-    }
-
-    // The location past the words of a bank.
-    fn past_bank(&self, bank: FixedBank) -> Location
-        ensures value { result ≡ Location.Fixed bank (bank_end (layout_of self.now).requests bank) }
-        ensures located { IsLocation result }
-    {
-        Location::Fixed(bank, self.ends[usize::from(bank.bank().number())])
     }
 
     // The location that an operand names.
@@ -288,20 +260,30 @@ impl Layout {
     }
 
     // A line that gives words.
-    fn give(&mut self, line: u32, label: &Label, content: Content) -> Result<(), FaultKind>
-        ensures { LeadsTo (gives line (layout_of self.old) label.now content) (layout_of self.new) result }
+    fn give(
+        &mut self,
+        placing: &mut Placing,
+        line: u32,
+        label: &Label,
+        content: Content,
+    ) -> Result<(), FaultKind>
+        ensures { (s : LaidOut) → Agrees line s self.old placing.old → LeadsOn line (gives line s label.now content) self.new placing.new result }
     {
-        match (self.give_fault(label, &content), self.location.word_place()) {
+        let fault = self.give_fault(placing, label, &content);
+        match (fault, self.location.word_place()) {
             (Some(kind), _) => Err(kind),
             (None, Some(place)) => match self.define(label, Value::Fixed(place.0, place.1)) {
-                Ok(()) => self.ask(WordRequest {
-                    line,
-                    bank: place.0,
-                    offset: place.1,
-                    content,
-                    extracode: self.extracode,
-                    eb: self.eb,
-                }),
+                Ok(()) => self.ask(
+                    placing,
+                    WordRequest {
+                        line,
+                        bank: place.0,
+                        offset: place.1,
+                        content,
+                        extracode: self.extracode,
+                        eb: self.eb,
+                    },
+                ),
                 Err(kind) => Err(kind),
             },
             (None, None) => unreachable!(),
@@ -309,37 +291,41 @@ impl Layout {
     }
 
     // The least fault of a line that gives words.
-    fn give_fault(&self, label: &Label, content: &Content) -> Option<FaultKind>
-        ensures { result ≡ least_kind (gives 0 (layout_of self.now) label.now content.now).faults }
+    fn give_fault(&self, placing: &Placing, label: &Label, content: &Content) -> Option<FaultKind>
+        ensures { result ≡ least_kind (tested_faults (layout_of self.now) placing.now.rope label.now (width content.now)) }
     {
         let width = content.width();
         least_fault(&[
             FaultKind::BadLabel.when(label.is_malformed()),
             FaultKind::TwiceDefined.when(self.is_twice(label)),
             FaultKind::BankFull.when(self.location.lacks_room(width)),
-            FaultKind::PlaceTaken.when(self.is_taken(width)),
+            FaultKind::PlaceTaken.when(self.is_taken(placing, width)),
             FaultKind::CodeInErasable.when(self.location.is_erasable()),
         ])
     }
 
+    // Whether a word stands already where the first of so many would, or the second where there are two.
+    fn is_taken(&self, placing: &Placing, count: usize) -> bool
+        ensures { result ≡ holds_word placing.now.rope self.now.location count }
+    {
+        placing.is_taken_at(self.location)
+            || (count > 1 && placing.is_taken_at(self.location.after_word()))
+    }
+
     // Asks for words from the location on, and moves past them.
-    fn ask(&mut self, request: WordRequest) -> Result<(), FaultKind>
+    fn ask(&mut self, placing: &mut Placing, request: WordRequest) -> Result<(), FaultKind>
         requires here { word_place self.old.location ≡ Some (request.bank, request.offset) }
         requires room { lacks_room (width request.content) self.old.location ≡ false }
-        requires free { is_taken (layout_of self.old) (width request.content) ≡ false }
-        ensures ok { OnOk result (layout_of self.new ≡ asked (layout_of self.old) (request_of request)) }
+        requires free { holds_word placing.old.rope self.old.location (width request.content) ≡ false }
+        ensures layout { OnOk result (layout_of self.new ≡ passed (layout_of self.old) request.content) }
+        ensures words { OnOk result (TakesWords self.old.symbols (request_of request) placing.old placing.new) }
         ensures err { IfErr result (λ kind. kind ≡ FaultKind.NoMemory) }
     {
         let bank = request.bank;
-        let offset = request.offset;
+        let end = request.offset.number() + request.content.width() as u16;
         let extracode = request.content.extends(self.extracode);
-        let zeros = request.content.zeros();
-        let end = offset.number() + request.content.width() as u16;
-        match self.requests.push(request) {
+        match placing.take(&self.symbols, request) {
             Ok(()) => {
-                put_words(&mut self.taken, bank, offset, zeros);
-                let i = usize::from(bank.bank().number());
-                self.ends[i] = self.ends[i].max(end);
                 self.location = Location::Fixed(bank, end);
                 self.extracode = extracode;
                 Ok(())
@@ -372,24 +358,6 @@ impl Layout {
             Label::Named(name) => self.symbols.symbol(name.as_slice()).is_some(),
             Label::Missing => false,
             Label::Malformed => false,
-        }
-    }
-
-    // Whether a word stands already where the first of so many would, or the second where there are two.
-    fn is_taken(&self, count: usize) -> bool
-        ensures { result ≡ is_taken (layout_of self.now) count }
-    {
-        self.is_taken_at(self.location)
-            || (count > 1 && self.is_taken_at(self.location.after_word()))
-    }
-
-    // Whether a word stands at a location already.
-    fn is_taken_at(&self, here: Location) -> bool
-        ensures { result ≡ is_taken_at (layout_of self.now) here }
-    {
-        match here.word_place() {
-            Some(place) => self.taken.has(place.0.bank(), place.1),
-            None => false,
         }
     }
 }

@@ -1,16 +1,17 @@
 //! The words that a line gives.
 
-ghost use Rattle.std.specs.Prelude.{◌≡◌, ◌+◌, ◌<◌, ◌≤◌, false, length, replicate, nat_le, IfOk, Ok};
-ghost use Rattle.std.specs.Result.{result_map_both};
+ghost use Rattle.std.specs.Prelude.{◌≡◌, ◌+◌, ◌<◌, ◌≤◌, ◌∷◌, [], true, false, length, replicate, nat_le, IfOk, Ok};
+ghost use Rattle.std.specs.Result.{result_err, result_map_both};
 ghost use Rattle.rope.specs.Places.{bank_words, stands, with_words};
-ghost use Rattle.yayul.specs.Layout.{width, value_of, and_then};
-ghost use Rattle.yayul.specs.Words.{accepted, addressed_word, address_of, address_below, channel_in, complete_address, fixed_place, bank_word, far_address, field_of, request_words};
-ghost use Rattle.yayul.specs.Program.{placed_from};
+ghost use Rattle.yayul.specs.Layout.{standing, width, value_of, and_then};
+ghost use Rattle.yayul.specs.Words.{accepted, addressed_word, address_of, address_below, channel_in, complete_address, fixed_place, bank_word, far_address, field_of, request_words, request_faults, extracode_of, extracode_fault};
+ghost use Rattle.yayul.specs.Program.{placed, placed_from};
+ghost use Rattle.yayul.specs.Inside.Answers.{least_kind};
 ghost use Rattle.yayul.specs.Inside.Codes.{greatest_code, greatest_field, greatest_with_field};
 ghost use Rattle.yayul.specs.Inside.Representation.{request_of, words_in};
 
 use crate::bank::{ErasableBank, FixedBank};
-use crate::faults::FaultKind;
+use crate::faults::{FaultKind, least_fault};
 use crate::language::{AddressedCode, Content, Location, Operand, Takes};
 use crate::request::WordRequest;
 use crate::symbol_table::Symbols;
@@ -60,6 +61,45 @@ pub(crate) fn put_words(rope: &mut Rope, bank: FixedBank, offset: Offset, words:
             rope.put(bank.bank(), next, second);
         }
     }
+}
+
+// Sets the words at a place and the one after it.
+fn set_words(rope: &mut Rope, bank: FixedBank, offset: Offset, words: LineWords)
+    requires room { offset + length (words_in words) ≤ bank_words }
+    requires here { stands rope.old bank offset ≡ true }
+    requires next { 1 < length (words_in words) → stands rope.old bank (offset + 1) ≡ true }
+    ensures { rope.new ≡ with_words rope.old (placed_from bank offset (words_in words)) }
+{
+    match words {
+        LineWords::One(word) => rope.set(bank.bank(), offset, word),
+        LineWords::Two(first, second) => {
+            let Some(next) = Offset::try_new(offset.number() + 1) else {
+                unreachable!()
+            };
+            rope.set(bank.bank(), offset, first);
+            rope.set(bank.bank(), next, second);
+        }
+    }
+}
+
+// Makes the words of a request, in whose places words stand, and tells its least fault.
+pub(crate) fn patch(
+    rope: &mut Rope,
+    symbols: &Symbols,
+    request: &WordRequest,
+) -> Option<FaultKind>
+    requires room { request.now.offset + width request.now.content ≤ bank_words }
+    requires here { stands rope.old request.now.bank request.now.offset ≡ true }
+    requires next { 1 < width request.now.content → stands rope.old request.now.bank (request.now.offset + 1) ≡ true }
+    ensures words { rope.new ≡ with_words rope.old (placed symbols.now (request_of request.now)) }
+    ensures fault { result ≡ least_kind (request_faults symbols.now (request_of request.now)) }
+{
+    let words = content_words(symbols, request);
+    let fault = request_fault(request, &words);
+    if let Ok(words) = words {
+        set_words(rope, request.bank, request.offset, words);
+    }
+    fault
 }
 
 // The words of a request.
@@ -231,5 +271,24 @@ fn channel_in(size: u16, value: Value) -> Result<u16, FaultKind>
     match value {
         Value::Num(number) if number.to_u16() < size => Ok(number.to_u16()),
         _ => Err(FaultKind::WrongKindOfAddress),
+    }
+}
+
+// The least fault of a request that comes to words or a fault.
+pub(crate) fn request_fault(request: &WordRequest, words: &Result<LineWords, FaultKind>) -> Option<FaultKind>
+    ensures { result ≡ least_kind (standing (result_err (result_map_both words_in (λ kind. kind) words.now) ∷ extracode_fault (extracode_of request.now.content) request.now.extracode ∷ [])) }
+{
+    least_fault(&[
+        fault_in(words),
+        request.content.extracode().fault(request.extracode),
+    ])
+}
+
+fn fault_in(words: &Result<LineWords, FaultKind>) -> Option<FaultKind>
+    ensures { result ≡ result_err (result_map_both words_in (λ kind. kind) words.now) }
+{
+    match words {
+        Ok(_) => None,
+        Err(kind) => Some(*kind),
     }
 }

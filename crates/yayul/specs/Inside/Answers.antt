@@ -1,20 +1,20 @@
 -- What the functions of the assembler answer.
-use Rattle.std.specs.Prelude.{◌≡◌, ◌≢◌, ℕ, ◌⊎◌, nat_lt, List, [], ◌∷◌, map, fold, Option, None, Some, Result, Ok, Err, if◌then◌else◌}
+use Rattle.std.specs.Prelude.{◌≡◌, ◌≢◌, ℕ, ◌+◌, ◌<◌, ◌⊎◌, nat_lt, List, [], ◌∷◌, ◌++◌, map, replicate, fold, Option, None, Some, Result, Ok, Err, if◌then◌else◌}
 use Rattle.std.specs.List.{flat_map}
-use Rattle.rope.specs.Places.{Words, no_words, with_words}
+use Rattle.std.specs.Result.{result_err, result_unwrap_or}
+use Rattle.rope.specs.Places.{Words, banks, no_words, with_words}
 use Rattle.yayul.specs.Forms.{statement_of}
-use Rattle.yayul.specs.Layout.{Request, Layout, LineEffect, start, fault_number, line_faults, line_effect, layout_after, layout_faults}
+use Rattle.yayul.specs.Layout.{Request, Layout, LineEffect, start, standing, fault_if, label_faults, lacks_room, is_erasable, after_words, extends, width, fault_number, line_faults, line_effect, layout_after, layout_faults}
 use Rattle.yayul.specs.Listing.{shown}
-use Rattle.yayul.specs.Program.{placed, least, no_memory}
-use Rattle.yayul.specs.Words.{request_words, request_faults, word_faults}
-use Rattle.yayul.specs.declared.faults.Fault.{Fault}
-use Rattle.yayul.specs.declared.faults.FaultKind.{FaultKind}
-use Rattle.yayul.specs.declared.faults.FaultKind.TheVariants.{NoMemory}
+use Rattle.yayul.specs.Program.{placed, placed_from, least, no_memory}
+use Rattle.yayul.specs.Words.{extracode_of, extracode_fault, request_words, word_faults}
+use Rattle.yayul.specs.Language.{BankFull, CodeInErasable, Content, Fault, FaultKind, Label, NoMemory, PlaceTaken, Value}
 use Rattle.yayul.specs.declared.layout.Layout.{Layout as Held}
+use Rattle.yayul.specs.declared.layout.Placing.{Placing}
 use Rattle.yayul.specs.declared.mark.Mark.{Mark}
-use Rattle.yayul.specs.declared.values.Value.{Value}
-use Rattle.yayul.specs.declared.word.LineWords.{LineWords}
-use Rattle.yayul.specs.Inside.Representation.{request_of, words_in, shown_by_mark}
+use Rattle.yayul.specs.Inside.Representation.{request_of, is_undefined, holds_word, shown_by_mark}
+use Rattle.yayul.specs.Inside.Sound.{AreEnds}
+use Rattle.yayul.specs.Inside.Waiting.{Holds, AreKnown, held}
 
 -- of two kinds of fault, the one with the lesser number
 abbrev pub lesser_kind : FaultKind → FaultKind → FaultKind
@@ -31,20 +31,61 @@ lesser_if None other = other
 lesser_if (Some a) None = Some a
 lesser_if (Some a) (Some b) = Some (lesser_kind a b)
 
--- the layout that stands after some lines
+-- a layout with other requests
+abbrev pub with_requests : List Request → Layout → Layout
+with_requests rs s = record s { requests = rs }
+
+-- the layout that stands after some lines, without what they ask for
 abbrev pub layout_of : Held → Layout
-layout_of l = record { location = l.location; symbols = l.symbols; requests = map request_of l.requests.items; extracode = l.extracode; eb = l.eb }
+layout_of l = record { location = l.location; symbols = l.symbols; requests = []; extracode = l.extracode; eb = l.eb }
+
+-- the words are held that a layout asks for, which stands before a line
+pub record Keeps (line : ℕ) (s : Layout) (p : Placing) : Type 0 where
+  pub holds : Holds line s.symbols s.requests (map request_of p.waiting.items) p.rope p.fault
+  pub known : AreKnown s.symbols (map request_of p.waiting.items) s.requests
+  pub ends : AreEnds p.ends s.requests
+
+-- what stands before a line agrees with a layout
+pub record Agrees (line : ℕ) (s : Layout) (l : Held) (p : Placing) : Type 0 where
+  pub same : layout_of l ≡ with_requests [] s
+  pub keeps : Keeps line s p
 
 -- a statement without a fault leads to the layout after it; of one with faults the least is told, unless memory ran out
 abbrev pub LeadsTo : LineEffect → Layout → Result (Unit {0}) FaultKind → Type 0
 LeadsTo e after (Ok x) = (e.faults ≡ []) × (after ≡ e.after)
 LeadsTo e after (Err kind) = kind ≢ NoMemory → least_kind e.faults ≡ Some kind
 
+-- a statement of a line without a fault leads to what agrees with the layout after it; of one with faults the least is told, unless memory ran out
+abbrev pub LeadsOn : ℕ → LineEffect → Held → Placing → Result (Unit {0}) FaultKind → Type 0
+LeadsOn line e l p (Ok x) = (e.faults ≡ []) × Agrees (line + 1) e.after l p
+LeadsOn line e l p (Err kind) = kind ≢ NoMemory → least_kind e.faults ≡ Some kind
+
 -- the same of a line of the source, its text and number included, and what it shows
-abbrev pub LineLeadsTo : ℕ → Layout → List ℕ → Layout → Result Mark FaultKind → Type 0
-LineLeadsTo line s text after (Ok mark) =
-    (line_faults line s text ≡ []) × ((after ≡ (line_effect line s text).after) × (shown_by_mark mark ≡ shown s.location (statement_of text)))
-LineLeadsTo line s text after (Err kind) = kind ≢ NoMemory → least_kind (line_faults line s text) ≡ Some kind
+abbrev pub LineLeadsOn : ℕ → Layout → List ℕ → Held → Placing → Result Mark FaultKind → Type 0
+LineLeadsOn line s text l p (Ok mark) =
+    (line_faults line s text ≡ []) × (Agrees (line + 1) (line_effect line s text).after l p × (shown_by_mark mark ≡ shown s.location (statement_of text)))
+LineLeadsOn line s text l p (Err kind) = kind ≢ NoMemory → least_kind (line_faults line s text) ≡ Some kind
+
+-- the faults of a line that gives so many words, where these stand before it
+abbrev pub tested_faults : Layout → Words → Label → ℕ → List FaultKind
+tested_faults s words label count =
+    standing (label_faults s label ++ fault_if (lacks_room count s.location) BankFull ∷ fault_if (holds_word words s.location count) PlaceTaken ∷ fault_if (is_erasable s.location) CodeInErasable ∷ [])
+
+-- what stands after the words of a content, besides these
+abbrev pub passed : Layout → Content → Layout
+passed s content = record s { location = after_words (width content) s.location; extracode = extends content s.extracode }
+
+-- a request is put aside where a symbol of it is not defined; else its fault is held
+pub record Settles (r : Request) (words : Result (List ℕ) FaultKind) (p q : Placing) : Type 0 where
+  pub waits : map request_of q.waiting.items ≡ (if is_undefined words then map request_of p.waiting.items ++ r ∷ [] else map request_of p.waiting.items)
+  pub holds : q.fault ≡ (if is_undefined words then p.fault else held p.fault r.line (least_kind (standing (result_err words ∷ extracode_fault (extracode_of r.content) r.extracode ∷ []))))
+
+-- the words of a request are placed, or zeros where it waits or has none
+pub record TakesWords (table : List (List ℕ × Value)) (r : Request) (p q : Placing) : Type 0 where
+  pub in_banks : r.bank < banks
+  pub rope : q.rope ≡ with_words p.rope (placed_from r.bank r.offset (result_unwrap_or (request_words table r) (replicate (width r.content) 0)))
+  pub settles : Settles r (request_words table r) p q
+  pub ends : (rs : List Request) → AreEnds p.ends rs → AreEnds q.ends (rs ++ r ∷ [])
 
 -- the fault that is expected is told, or that memory ran out
 abbrev pub Tells : Option Fault → Fault → Type 0
@@ -55,16 +96,11 @@ abbrev pub TellsOn : ℕ → FaultKind → Fault → Type 0
 TellsOn line kind fault = (fault ≡ no_memory) ⊎ ((kind ≢ NoMemory) × (fault ≡ record { line = line; number = fault_number kind }))
 
 -- lines without a fault are laid out; of others the least fault is told
-abbrev pub LaysOut : List (List ℕ) → Result Held Fault → Type 0
-LaysOut texts (Ok l) = (layout_faults 1 start texts ≡ []) × (layout_of l ≡ layout_after 1 start texts)
-LaysOut texts (Err fault) = Tells (least (layout_faults 1 start texts)) fault
+abbrev pub LaysOut : List (List ℕ) → Placing → Result Held Fault → Type 0
+LaysOut texts p (Ok l) = (layout_faults 1 start texts ≡ []) × ((line : ℕ) × Agrees line (layout_after 1 start texts) l p)
+LaysOut texts p (Err fault) = Tells (least (layout_faults 1 start texts)) fault
 
--- a request without a fault gives its words; of another the least fault is told
-abbrev pub GivesWords : List (List ℕ × Value) → Request → Result LineWords FaultKind → Type 0
-GivesWords table r (Ok words) = (request_faults table r ≡ []) × (request_words table r ≡ Ok (words_in words))
-GivesWords table r (Err kind) = least_kind (request_faults table r) ≡ Some kind
-
--- words stand in their places, where no request has a fault
+-- words stand in their places, where no request has a fault; of others the least is told
 abbrev pub PlacesWords : List (List ℕ × Value) → List Request → Result Words Fault → Type 0
 PlacesWords table requests (Ok rope) = (word_faults table requests ≡ []) × (rope ≡ with_words no_words (flat_map (placed table) requests))
-PlacesWords table requests (Err fault) = Tells (least (word_faults table requests)) fault
+PlacesWords table requests (Err fault) = least (word_faults table requests) ≡ Some fault

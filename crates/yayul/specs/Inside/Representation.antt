@@ -1,18 +1,19 @@
 -- How the definitions see what the code holds.
-use Rattle.std.specs.Prelude.{ℕ, ◌+◌, List, [], ◌∷◌, ◌++◌, Option, None, Some, if◌then◌else◌, refl}
+use Rattle.std.specs.Prelude.{ℕ, ◌+◌, ◌&&◌, ◌||◌, Bool, true, false, nat_lt, List, [], ◌∷◌, ◌++◌, get_or, Option, None, Some, Result, Ok, Err, if◌then◌else◌, refl}
 use Rattle.std.specs.Coded.{Coded, code_by, coded×, coded_ℕ, coded_list}
 use Rattle.std.specs.FinMap as map
 use Rattle.std.specs.Option.{option_map, option_map_or}
 use Rattle.agc_text.specs.Tables.{value_in}
 use Rattle.agc_text.specs.declared.fields.Field.{Field}
 use Rattle.agc_text.specs.declared.fields.Line.{Line}
-use Rattle.rope.specs.Places.{Words}
+use Rattle.rope.specs.Places.{Words, stands}
 use Rattle.space.specs.declared.place.Linear.TheVariants as linear
 use Rattle.yayul.specs.Forms.{operation_of}
-use Rattle.yayul.specs.Layout.{Request, Layout, line_effect}
+use Rattle.yayul.specs.Language.{BadBank, BadOperand, BankRange, FaultKind, Is, Location, NoForm, Numeral, TooLarge, Undefined}
+use Rattle.yayul.specs.Layout.{Request, Layout, word_place, after_words, line_effect}
 use Rattle.yayul.specs.Listing.{Shown, nothing, line_rows, shown}
 use Rattle.yayul.specs.Forms.{statement_of}
-use Rattle.yayul.specs.Operators.{operators}
+use Rattle.yayul.specs.Operators.{operators, is_bank}
 use Rattle.yayul.specs.Program.{Program}
 use Rattle.yayul.specs.contracts.values.Value as value
 use Rattle.yayul.specs.declared.language.Operation.{Operation}
@@ -58,6 +59,25 @@ request_of r = record { line = r.line; bank = r.bank; offset = r.offset; content
 abbrev pub words_in : LineWords → List ℕ
 words_in (One word) = word ∷ []
 words_in (Two first second) = first ∷ second ∷ []
+
+-- a word of a line names a symbol that is not defined
+abbrev pub is_undefined : Result (List ℕ) FaultKind → Bool
+is_undefined (Err Undefined) = true
+is_undefined _ = false
+
+-- a word stands at a location
+abbrev pub holds_word_at : Words → Location → Bool
+holds_word_at words here = option_map_or (λ place. stands words place.0 place.1) (word_place here) false
+
+-- a word stands where the first of so many would, or the second where there are two
+abbrev pub holds_word : Words → Location → ℕ → Bool
+holds_word words here count = holds_word_at words here || (nat_lt 1 count && holds_word_at words (after_words 1 here))
+
+-- the location past the words of a bank that the operator takes, by the ends of all banks
+abbrev pub bank_target_by : List ℕ → BankRange → Numeral → Result Location FaultKind
+bank_target_by ends taken NoForm = Err BadOperand
+bank_target_by ends taken TooLarge = Err BadBank
+bank_target_by ends taken (Is n) = if is_bank taken n then Ok (Location.Fixed n (get_or ends n 0)) else Err BadBank
 
 -- what a mark shows
 abbrev pub shown_by_mark : Mark → Shown

@@ -1,9 +1,8 @@
--- What the layout keeps from line to line.
-use Rattle.std.specs.Prelude.{◌≡◌, ℕ, ◌+◌, ◌≤◌, ◌<◌, Bool, false, ◌&&◌, ◌||◌, nat_lt, List, [], ◌∷◌, ◌++◌, replicate, get_or}
-use Rattle.std.specs.List.{All, list_any, flat_map}
-use Rattle.rope.specs.Places.{Words, Placed, banks, bank_words, no_words, with_words}
+-- What is kept from line to line.
+use Rattle.std.specs.Prelude.{◌≡◌, ℕ, ◌+◌, ◌≤◌, ◌<◌, Bool, false, ◌&&◌, ◌||◌, nat_lt, List, [], ◌∷◌, ◌++◌, get_or}
+use Rattle.std.specs.List.{All, list_any}
+use Rattle.rope.specs.Places.{banks, bank_words}
 use Rattle.yayul.specs.Layout.{Request, width, stands_at, bank_end}
-use Rattle.yayul.specs.Program.{placed_from}
 use Rattle.yayul.specs.declared.language.Location.{Location}
 use Rattle.yayul.specs.declared.language.Location.TheVariants.{Erasable, Fixed}
 
@@ -29,14 +28,6 @@ IsPlace here = number_at here < end_at here
 abbrev pub AreEnds : List ℕ → List Request → Type 0
 AreEnds ends requests = (bank : ℕ) → bank < banks → (get_or ends bank 0 ≡ bank_end requests bank) × (bank_end requests bank ≤ bank_words)
 
--- the places of a request, with words of zero
-abbrev pub zeros_at : Request → List Placed
-zeros_at r = placed_from r.bank r.offset (replicate (width r.content) 0)
-
--- the places that requests take
-unfoldable pub taken_by : List Request → Words
-taken_by requests = with_words no_words (flat_map zeros_at requests)
-
 -- requests of places that fixed memory has
 abbrev pub AreWithin : List Request → Type 0
 AreWithin requests = All (λ r. (r.bank < banks) × (r.offset + width r.content ≤ bank_words)) requests
@@ -60,3 +51,14 @@ meets others r =
 abbrev pub AreApart : List Request → List Request → Type 0
 AreApart before [] = Unit {0}
 AreApart before (r ∷ rs) = (meets before r ≡ false) × AreApart (before ++ r ∷ []) rs
+
+-- requests of lines below a number
+abbrev pub AreBelow : ℕ → List Request → Type 0
+AreBelow line [] = Unit {0}
+AreBelow line (r ∷ rs) = (r.line + 1 ≤ line) × AreBelow line rs
+
+-- what the requests of lines below a number keep
+pub record AreOrdered (line : ℕ) (rs : List Request) : Type 0 where
+  pub rising : AreRising rs
+  pub apart : AreApart [] rs
+  pub below : AreBelow line rs

@@ -1,30 +1,32 @@
-use Rattle.std.proofs.Common.{◌≡◌, [], ◌++◌, ◌∙◌, map, arith}
+use Rattle.std.proofs.Common.{◌≡◌, [], ◌++◌, ◌∙◌, map, refl, arith}
 use Rattle.agc_text.specs.Lines.{lines}
 use Rattle.yayul.specs.Layout.{Layout, start, layout_faults, line_faults, line_effect}
-use Rattle.yayul.specs.Inside.Answers.{layout_of}
 use Rattle.yayul.specs.Inside.Representation.{shown_by_mark, lines_show}
 use Rattle.yayul.proofs.Lines.{few_lines, faults_passed, layout_passed, shown_passed, told_on}
 use Rattle.yayul.proofs.assembly.lay_out.Goals as goal
 
 pub loop-text-preserved : goal.loop-text-preserved
 loop-text-preserved c =
-    let s : Layout = layout_of c.loop-text.layout in
-    let none : line_faults c.loop-text.line s c.in-Some.text.now ≡ [] = c.in-Ok-line.ensures.0 in
-    let next : layout_of c.line.new.self ≡ (line_effect c.loop-text.line s c.in-Some.text.now).after = c.in-Ok-line.ensures.1.0 in
+    let s : Layout = c.loop-text.invariant.state in
+    let t : Layout = (line_effect c.loop-text.line s c.in-Some.text.now).after in
+    let leads = c.in-Ok.ensures s c.loop-text.invariant.agrees in
+    let none : line_faults c.loop-text.line s c.in-Some.text.now ≡ [] = leads.0 in
     let few = few_lines c.loop-text.line s c.in-Some.text.now none in
     record {
+      state = t;
+      agrees = leads.1.0;
       same_faults = c.loop-text.invariant.same_faults
-          ∙ faults_passed c.loop-text.line s (layout_of c.line.new.self) c.in-Some.text.now (lines c.loop-text.rest.now) (lines c.in-Some.after.now) c.in-Some.ensures.lines none next;
+          ∙ faults_passed c.loop-text.line s t c.in-Some.text.now (lines c.loop-text.rest.now) (lines c.in-Some.after.now) c.in-Some.ensures.lines none refl;
       same_layout = c.loop-text.invariant.same_layout
-          ∙ layout_passed c.loop-text.line s (layout_of c.line.new.self) c.in-Some.text.now (lines c.loop-text.rest.now) (lines c.in-Some.after.now) c.in-Some.ensures.lines next;
-      same_shown = shown_passed c.loop-text.line s (layout_of c.line.new.self) c.in-Some.text.now (lines c.loop-text.rest.now) (lines c.in-Some.after.now) c.in-Ok-line.mark
+          ∙ layout_passed c.loop-text.line s t c.in-Some.text.now (lines c.loop-text.rest.now) (lines c.in-Some.after.now) c.in-Some.ensures.lines refl;
+      same_shown = shown_passed c.loop-text.line s t c.in-Some.text.now (lines c.loop-text.rest.now) (lines c.in-Some.after.now) c.in-Ok.mark
           (map shown_by_mark c.args.marks.now ++ lines_show 1 start (lines c.args.source.now)) c.loop-text.marks c.push.new.self
-          c.in-Some.ensures.lines next c.in-Ok-line.ensures.1.1 c.in-Ok-push.ensures c.loop-text.invariant.same_shown;
+          c.in-Some.ensures.lines refl leads.1.1 c.in-Ok-push.ensures c.loop-text.invariant.same_shown;
       few = omega (arith, few);
     }
 
-pub returns-in-Err-line-clause-lays_out : goal.returns-in-Err-line-clause-lays_out
-returns-in-Err-line-clause-lays_out c =
-    told_on (layout_faults 1 start (lines c.args.source.now)) c.loop-text.line (layout_of c.loop-text.layout) c.in-Some.text.now
-    (lines c.loop-text.rest.now) (lines c.in-Some.after.now) c.in-Err-line.kind c.fault_on.result
-    c.loop-text.invariant.same_faults c.in-Some.ensures.lines c.in-Err-line.ensures c.fault_on.ensures
+pub returns-in-Err-clause-lays_out : goal.returns-in-Err-clause-lays_out
+returns-in-Err-clause-lays_out c =
+    told_on (layout_faults 1 start (lines c.args.source.now)) c.loop-text.line c.loop-text.invariant.state c.in-Some.text.now
+    (lines c.loop-text.rest.now) (lines c.in-Some.after.now) c.in-Err.kind c.fault_on.result
+    c.loop-text.invariant.same_faults c.in-Some.ensures.lines (c.in-Err.ensures c.loop-text.invariant.state c.loop-text.invariant.agrees) c.fault_on.ensures

@@ -1,15 +1,17 @@
 use Rattle.std.proofs.Common.{◌≡◌, ◌≤◌, ◌++◌, length, map}
 use Rattle.agc_text.specs.Lines.{lines}
-use Rattle.yayul.specs.Layout.{start, layout_after, layout_faults}
+use Rattle.yayul.specs.Layout.{Layout, start, layout_after, layout_faults}
 use Rattle.yayul.specs.Inside.Representation.{shown_by_mark, lines_show}
-use Rattle.yayul.specs.Inside.Answers.{layout_of}
+use Rattle.yayul.specs.Inside.Answers.{Agrees}
 use Rattle.yayul.proofs.assembly.lay_out.Given as goal
 
 abbrev pub invariant-loop-text : goal.invariant-loop-text
 invariant-loop-text l = record {
-  same_faults : layout_faults 1 start (lines l.source) ≡ layout_faults l.line (layout_of l.layout) (lines l.rest);
-  same_layout : layout_after 1 start (lines l.source) ≡ layout_after l.line (layout_of l.layout) (lines l.rest);
-  same_shown : map shown_by_mark l.initial.marks ++ lines_show 1 start (lines l.source) ≡ map shown_by_mark l.marks ++ lines_show l.line (layout_of l.layout) (lines l.rest);
+  state : Layout;
+  agrees : Agrees l.line state l.layout l.placing;
+  same_faults : layout_faults 1 start (lines l.source) ≡ layout_faults l.line state (lines l.rest);
+  same_layout : layout_after 1 start (lines l.source) ≡ layout_after l.line state (lines l.rest);
+  same_shown : map shown_by_mark l.initial.marks ++ lines_show 1 start (lines l.source) ≡ map shown_by_mark l.marks ++ lines_show l.line state (lines l.rest);
   few : l.line ≤ 65537;
 }
 
