@@ -112,15 +112,15 @@ impl Machine {
     #[inline(always)]
     #[tactic(auto, using(crate::proofs::RowLaws::written_operand), unfolding(crate::specs::Next::execute, crate::specs::Next::executed, crate::specs::Next::fetched))]
     pub(crate) fn execute(&mut self, rope: &Rope) -> Option<Output>
-        requires { self.old.cycles ≤ most_cycles }
-        ensures state { self.new ≡ (execute rope.now self.old).0 }
-        ensures output { result ≡ (execute rope.now self.old).1 }
+        ensures state { self.old.cycles ≤ most_cycles → self.new ≡ (execute rope.now self.old).0 }
+        ensures output { self.old.cycles ≤ most_cycles → result ≡ (execute rope.now self.old).1 }
     {
         let word = self.fetch(rope).to_u16();
         let extra = self.extra();
         let instruction = decode(word, extra);
         let row = instruction.row();
-        let cycles = self.cycles() + u64::from(self.cycles_by(row.role, row.cycles));
+        let taken = self.cycles_by(row.role, row.cycles);
+        let cycles = self.cycles().wrapping_add(u64::from(taken));
         self.perform(rope, instruction, word);
         self.end_instruction(extra_by(row.role, extra), cycles);
         self.output(written_by(row.role, word))

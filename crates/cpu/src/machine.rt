@@ -371,22 +371,6 @@ impl Machine {
         }
     }
 
-    /// What is read at an address.
-    #[inline(always)]
-    #[tactic(auto, unfolding(crate::specs::Effects::place_in, crate::specs::Effects::value_at))]
-    pub(crate) fn operand(&self, rope: &Rope, address: Addr12) -> Wide
-        ensures { result ≡ operand rope.now self.now address }
-    {
-        if address.number() >= FIRST_FIXED {
-            let (bank, offset) = resolve_fixed(address);
-            rope.word(bank, offset).extend()
-        } else if address.number() < FIRST_IN_WINDOW {
-            self.reg(resolve_unbanked(address))
-        } else {
-            self.value_at(rope, &self.place(address))
-        }
-    }
-
     /// What is read at a place.
     #[tactic(auto, unfolding(crate::specs::Effects::value_at))]
     pub(crate) fn value_at(&self, rope: &Rope, place: &Linear) -> Wide
@@ -409,15 +393,40 @@ impl Machine {
         }
     }
 
-    /// What is read at an address, and where.
+    /// What is read at an address, and where. Only an address in a window needs the bank registers.
     #[inline(always)]
+    #[tactic(auto, unfolding(crate::specs::Effects::place_in, crate::specs::Effects::value_at))]
     pub(crate) fn reading(&self, rope: &Rope, address: Addr12) -> Reading
         ensures place { result.place ≡ place_in self.now address }
         ensures value { result.value ≡ operand rope.now self.now address }
     {
+        if address.number() >= FIRST_FIXED {
+            let (bank, offset) = resolve_fixed(address);
+            Reading {
+                place: Linear::Fixed(bank, offset),
+                value: rope.word(bank, offset).extend(),
+            }
+        } else if address.number() < FIRST_IN_WINDOW {
+            let place = resolve_unbanked(address);
+            Reading {
+                place: Linear::Erasable(place),
+                value: self.reg(place),
+            }
+        } else {
+            self.reading_in_window(rope, address)
+        }
+    }
+
+    /// The same, where the bank registers count.
+    #[inline(always)]
+    fn reading_in_window(&self, rope: &Rope, address: Addr12) -> Reading
+        ensures place { result.place ≡ place_in self.now address }
+        ensures value { result.value ≡ operand rope.now self.now address }
+    {
+        let place = self.place(address);
         Reading {
-            place: self.place(address),
-            value: self.operand(rope, address),
+            place,
+            value: self.value_at(rope, &place),
         }
     }
 

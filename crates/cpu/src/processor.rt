@@ -16,7 +16,7 @@ use rope::Rope;
 use std::marker::Model;
 use words::Word;
 
-/// A machine with more cycles than this makes no step.
+/// A machine with more cycles than this takes no input and enters no interrupt.
 const MOST_CYCLES: u64 = 1 << 62;
 
 /// Fixed memory, the inputs, and a meter of the steps that were made.
@@ -65,13 +65,13 @@ impl Processor {
         ensures fits { machine.old.cycles ≤ most_cycles → FitsRun self.old.scenario machine.old → FitsRun self.old.scenario machine.new }
     {
         self.meter = self.meter.saturating_add(1);
-        if machine.cycles() > MOST_CYCLES {
-            return None;
-        }
         if self.take_input(machine) {
             return None;
         }
         if let Some(request) = machine.entry() {
+            if machine.cycles() > MOST_CYCLES {
+                return None;
+            }
             machine.enter(&self.rope, request);
             return None;
         }
@@ -80,11 +80,10 @@ impl Processor {
 
     /// Takes the next input where it is due, and tells whether it was.
     fn take_input(&mut self, machine: &mut Machine) -> bool
-        requires { machine.old.cycles ≤ most_cycles }
         ensures same { self.new ≡ self.old }
         ensures none { result ≡ false → machine.new ≡ machine.old }
         ensures known { FitsRun self.old.scenario machine.old → result ≡ false → due self.old.scenario.inputs machine.old.taken machine.old.cycles ≡ None }
-        ensures next { FitsRun self.old.scenario machine.old → result ≡ true → (machine.new, None) ≡ next self.old.scenario machine.old }
+        ensures next { machine.old.cycles ≤ most_cycles → FitsRun self.old.scenario machine.old → result ≡ true → (machine.new, None) ≡ next self.old.scenario machine.old }
     {
         if self.feed.is_none_due(machine.taken(), machine.cycles()) {
             return false;
@@ -97,17 +96,18 @@ impl Processor {
     #[inline(never)]
     #[tactic(auto, unfolding(crate::specs::Next::next))]
     fn take_due(&mut self, machine: &mut Machine) -> bool
-        requires { machine.old.cycles ≤ most_cycles }
         ensures same { self.new ≡ self.old }
         ensures none { result ≡ false → machine.new ≡ machine.old }
         ensures known { FitsRun self.old.scenario machine.old → result ≡ false → due self.old.scenario.inputs machine.old.taken machine.old.cycles ≡ None }
-        ensures next { FitsRun self.old.scenario machine.old → result ≡ true → (machine.new, None) ≡ next self.old.scenario machine.old }
+        ensures next { machine.old.cycles ≤ most_cycles → FitsRun self.old.scenario machine.old → result ≡ true → (machine.new, None) ≡ next self.old.scenario machine.old }
     {
         let due = self
             .feed
             .due(machine.taken(), machine.counts(), machine.cycles());
         if let Some((input, series)) = due {
-            machine.take(input, series);
+            if machine.cycles() <= MOST_CYCLES {
+                machine.take(input, series);
+            }
             return true;
         }
         false

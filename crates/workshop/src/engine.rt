@@ -4,7 +4,7 @@ ghost use Rattle.std.specs.Prelude.{◌≡◌, ◌+◌, ◌-◌, ◌≤◌, ◌<
 ghost use Rattle.std.specs.Bool.{OnTrue, OnFalse};
 ghost use Rattle.words.specs.Devices.{Writes, failures_after};
 ghost use Rattle.words.specs.Readings.{TakesAtMost};
-ghost use Rattle.debugger.specs.ChannelLines.{channel_lines};
+ghost use Rattle.debugger.specs.ChannelLines.{channel_line, channel_lines};
 ghost use Rattle.feed.specs.Feed.{most_bytes};
 ghost use Rattle.workshop.specs.Inputs.{assembled};
 ghost use Rattle.workshop.specs.Failures.{has_read_failed, has_write_failed, failures_if, OneFails, most_read};
@@ -15,11 +15,11 @@ ghost use Rattle.cpu.specs.State.{FitsRun};
 
 use crate::fault::WorkshopFault;
 use crate::inputs::read_inputs;
-use cpu::{Machine, Processor};
+use cpu::{Machine, Output, Processor};
 use debugger::write_channel_line;
-use space::numbers::Eras;
+use space::numbers::{Chan, Eras};
 use std::alloc::Global;
-use words::{Read, Write, WriteFailed};
+use words::{Read, Word, Write, WriteFailed};
 
 /// What a run has come to.
 #[derive(Clone, Copy, PartialEq, Eq, Debug, Drop)]
@@ -127,10 +127,30 @@ fn step_and_write<W: Write>(
     ensures failures { W.failures out.new ≡ failures_after (W.failures out.old) result }
 {
     match processor.step(machine) {
-        Some(output) => match write_channel_line(&output, out) {
+        Some(output) => match write_output(output.cycles, output.channel, output.word, out) {
             Ok(()) => Ok(1),
             Err(failed) => Err(failed),
         },
         None => Ok(0),
     }
+}
+
+/// Writes the line of an output. It stands apart, so that a step without one has none of its locals.
+#[inline(never)]
+fn write_output<W: Write>(
+    cycles: u64,
+    channel: Chan,
+    word: Word,
+    out: &mut W,
+) -> Result<(), WriteFailed>
+    ensures written { W.told ≡ true → Writes (W.written out.old) (W.written out.new)
+        (channel_line (record { cycles = cycles; channel = channel; word = word })) result }
+    ensures failures { W.failures out.new ≡ failures_after (W.failures out.old) result }
+{
+    let output = Output {
+        cycles,
+        channel,
+        word,
+    };
+    write_channel_line(&output, out)
 }
