@@ -10,7 +10,7 @@ use space::numbers::{Chan, Eras};
 use words::Wide;
 
 impl Machine {
-    /// READ
+    /// READ: A takes what the channel has: all 16 bits of Q, else the word, extended.
     #[tactic(auto, unfolding(crate::specs::Effects::read))]
     pub(crate) fn read_channel(&mut self, channel: Chan)
         ensures { self.new ≡ changes self.old (read self.old channel) }
@@ -19,7 +19,7 @@ impl Machine {
         self.put(Eras::A, value);
     }
 
-    /// WRITE
+    /// WRITE: the channel takes A's word, and Q all 16 bits. The superbank's channel keeps three bits of it.
     #[tactic(auto, unfolding(crate::specs::Effects::write))]
     pub(crate) fn write_channel(&mut self, channel: Chan)
         ensures { self.new ≡ changes self.old (write self.old channel) }
@@ -28,7 +28,7 @@ impl Machine {
         self.set_channel(channel, word);
     }
 
-    /// RAND
+    /// RAND: A keeps the bits that stand on the channel too.
     #[tactic(auto, unfolding(crate::specs::Effects::rand))]
     pub(crate) fn read_and(&mut self, channel: Chan)
         ensures { self.new ≡ changes self.old (rand self.old channel) }
@@ -37,7 +37,7 @@ impl Machine {
         self.put(Eras::A, value);
     }
 
-    /// ROR
+    /// ROR: A takes the bits that stand in it or on the channel.
     #[tactic(auto, unfolding(crate::specs::Effects::ror))]
     pub(crate) fn read_or(&mut self, channel: Chan)
         ensures { self.new ≡ changes self.old (ror self.old channel) }
@@ -46,7 +46,7 @@ impl Machine {
         self.put(Eras::A, value);
     }
 
-    /// RXOR
+    /// RXOR: A takes the bits that stand in exactly one of it and the channel.
     #[tactic(auto, unfolding(crate::specs::Effects::rxor))]
     pub(crate) fn read_xor(&mut self, channel: Chan)
         ensures { self.new ≡ changes self.old (rxor self.old channel) }
@@ -55,7 +55,7 @@ impl Machine {
         self.put(Eras::A, value);
     }
 
-    /// WAND
+    /// WAND: A keeps the bits that stand on the channel too, and the channel takes the same.
     #[tactic(auto, unfolding(crate::specs::Effects::wand))]
     pub(crate) fn write_and(&mut self, channel: Chan)
         ensures { self.new ≡ changes self.old (wand self.old channel) }
@@ -65,7 +65,8 @@ impl Machine {
         self.set_channel(channel, both);
     }
 
-    /// WOR
+    /// WOR: A takes the bits that stand in it or on the channel, and the channel takes the same. The superbank's channel keeps three
+    /// of them, and A all.
     #[tactic(auto, unfolding(crate::specs::Effects::wor))]
     pub(crate) fn write_or(&mut self, channel: Chan)
         ensures { self.new ≡ changes self.old (wor self.old channel) }

@@ -2,7 +2,7 @@
 
 ghost use Rattle.std.specs.Prelude.{◌≡◌, ◌+◌, ◌≤◌, ◌%◌, ◌^◌, ◌++◌};
 ghost use Rattle.arrayvec.specs.ArrayVec.{array_vec_len};
-ghost use Rattle.cpu.specs.Codes.{rows_serving, bits};
+ghost use Rattle.cpu.specs.Codes.{bits};
 ghost use Rattle.cpu.specs.Next.{extracode_after};
 ghost use Rattle.cpu.specs.Texts.{address_text, channel_text, operand_text, operand_width, disassembly};
 
@@ -17,11 +17,10 @@ use words::{Word, push_all, push_octal};
 const MOST_TEXT: usize = 10;
 
 /// The instruction that a word is, under extracode or not, as text: its name, and after a blank its address in four octal
-/// digits or its channel in three. Each word lies in exactly one range of each code table.
-#[tactic(auto, using(crate::proofs::RowLaws::one_row), unfolding(crate::specs::Texts::instruction_text))]
+/// digits or its channel in three.
+#[tactic(auto, unfolding(crate::specs::Texts::instruction_text))]
 pub fn disassemble(word: Word, extra: bool) -> ArrayVec<u8, 10>
-    ensures text { result.items ≡ disassembly extra word }
-    ensures row { rows_serving extra word ≡ 1 }
+    ensures { result.items ≡ disassembly extra word }
 {
     let number = word.to_u16();
     let row = decode(number, extra).row();

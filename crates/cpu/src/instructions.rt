@@ -32,7 +32,8 @@ macro_rules! reading_two {
 }
 
 impl Machine {
-    /// TC
+    /// TC: Q takes the address after this instruction, and the next one is at the address. The address 2, which is Q's own, leaves Q
+    /// as it is: so a program returns.
     #[inline(always)]
     #[tactic(auto, unfolding(crate::specs::Effects::tc, crate::specs::Effects::tcf))]
     pub(crate) fn transfer_control(&mut self, address: Addr12)
@@ -45,7 +46,8 @@ impl Machine {
         self.jump(address);
     }
 
-    /// CCS
+    /// CCS: A takes the magnitude less one of what is read, not below +0. Above +0 nothing is skipped, at +0 one instruction, below -0
+    /// two, at -0 three.
     #[inline(always)]
     #[tactic(auto, unfolding(crate::specs::Effects::ccs))]
     pub(crate) fn count_compare_and_skip(&mut self, rope: &Rope, address: Addr10)
@@ -58,7 +60,7 @@ impl Machine {
         });
     }
 
-    /// TCF
+    /// TCF: the next instruction is at the address, and Q stays.
     #[inline(always)]
     #[tactic(auto, unfolding(crate::specs::Effects::tcf))]
     pub(crate) fn jump(&mut self, address: Addr12)
@@ -67,7 +69,7 @@ impl Machine {
         self.put(Eras::Z, Wide::of_u16(address.number()));
     }
 
-    /// CA
+    /// CA: A takes what is read. Of A and Q that is all 16 bits, of other places the word, extended.
     #[inline(always)]
     #[tactic(auto, unfolding(crate::specs::Effects::ca))]
     pub(crate) fn clear_and_add(&mut self, rope: &Rope, address: Addr12)
@@ -78,7 +80,7 @@ impl Machine {
         });
     }
 
-    /// CS
+    /// CS: A takes the complement of what is read.
     #[inline(always)]
     #[tactic(auto, unfolding(crate::specs::Effects::cs))]
     pub(crate) fn clear_and_subtract(&mut self, rope: &Rope, address: Addr12)
@@ -89,7 +91,7 @@ impl Machine {
         });
     }
 
-    /// AD
+    /// AD: what is read is added to A, which keeps all 16 bits of the sum, and so its overflow.
     #[inline(always)]
     #[tactic(auto, unfolding(crate::specs::Effects::ad))]
     pub(crate) fn add(&mut self, rope: &Rope, address: Addr12)
@@ -101,7 +103,7 @@ impl Machine {
         });
     }
 
-    /// SU
+    /// SU: the complement of what is read is added to A, which keeps all 16 bits of the sum.
     #[tactic(auto, unfolding(crate::specs::Effects::su))]
     pub(crate) fn subtract(&mut self, rope: &Rope, address: Addr10)
         ensures { self.new ≡ changes self.old (su rope.now self.old address) }
@@ -112,7 +114,8 @@ impl Machine {
         });
     }
 
-    /// MASK
+    /// MASK: A keeps the bits that stand in it and in what is read too: all 16 of A and Q, of other places those of the two words,
+    /// extended.
     #[inline(always)]
     #[tactic(auto, unfolding(crate::specs::Effects::mask))]
     pub(crate) fn mask(&mut self, rope: &Rope, address: Addr12)
@@ -124,7 +127,8 @@ impl Machine {
         });
     }
 
-    /// TS
+    /// TS: the place takes A. Where A overflows it takes the corrected word, A takes +1 or -1 by the overflow's direction, and the
+    /// next instruction is skipped. TS A then skips alone, and A keeps its 16 bits; TS Z stores and sets A, and does not skip.
     #[inline(always)]
     #[tactic(auto, unfolding(crate::specs::Effects::ts))]
     pub(crate) fn transfer_to_storage(&mut self, address: Addr10)
@@ -160,7 +164,7 @@ impl Machine {
         self.put(place, from_register);
     }
 
-    /// XCH
+    /// XCH: A and a place are exchanged.
     #[inline(always)]
     #[tactic(auto, unfolding(crate::specs::Effects::xch))]
     pub(crate) fn exchange_a(&mut self, address: Addr10)
@@ -170,7 +174,7 @@ impl Machine {
         self.exchange(Eras::A, place);
     }
 
-    /// LXCH
+    /// LXCH: L and a place are exchanged.
     #[tactic(auto, unfolding(crate::specs::Effects::lxch))]
     pub(crate) fn exchange_l(&mut self, address: Addr10)
         ensures { self.new ≡ changes self.old (lxch self.old address) }
@@ -179,7 +183,7 @@ impl Machine {
         self.exchange(Eras::L, place);
     }
 
-    /// QXCH
+    /// QXCH: Q and a place are exchanged.
     #[tactic(auto, unfolding(crate::specs::Effects::qxch))]
     pub(crate) fn exchange_q(&mut self, address: Addr10)
         ensures { self.new ≡ changes self.old (qxch self.old address) }
@@ -188,7 +192,7 @@ impl Machine {
         self.exchange(Eras::Q, place);
     }
 
-    /// DXCH
+    /// DXCH: L and the second of two places are exchanged, and then A and the first.
     #[tactic(auto, unfolding(crate::specs::Effects::dxch))]
     pub(crate) fn double_exchange(&mut self, address: Addr10)
         ensures { self.new ≡ dxch self.old address }
@@ -199,7 +203,7 @@ impl Machine {
         self.exchange(Eras::A, high);
     }
 
-    /// ADS
+    /// ADS: the sum of A and a place goes to the place, corrected, and then to A, with its overflow.
     #[tactic(auto, unfolding(crate::specs::Effects::ads))]
     pub(crate) fn add_to_storage(&mut self, address: Addr10)
         ensures { self.new ≡ changes self.old (ads self.old address) }
@@ -210,7 +214,7 @@ impl Machine {
         self.put(Eras::A, sum);
     }
 
-    /// INCR
+    /// INCR: one is added to a place. A counter that overflows so asks for nothing.
     #[inline(always)]
     #[tactic(auto, unfolding(crate::specs::Effects::incr))]
     pub(crate) fn increment(&mut self, address: Addr10)
@@ -221,7 +225,7 @@ impl Machine {
         self.put(place, sum);
     }
 
-    /// AUG
+    /// AUG: a place's magnitude grows by one: -1 is added where bit 16 is set, at -0 too, else +1.
     #[tactic(auto, unfolding(crate::specs::Effects::aug))]
     pub(crate) fn augment(&mut self, address: Addr10)
         ensures { self.new ≡ changes self.old (aug self.old address) }
@@ -231,7 +235,7 @@ impl Machine {
         self.put(place, value.add(unit(value.is_minus())));
     }
 
-    /// DIM
+    /// DIM: a place's magnitude falls by one, and +1 and -1 become -0. Both zeros stay as they are.
     #[tactic(auto, unfolding(crate::specs::Effects::dim))]
     pub(crate) fn diminish(&mut self, address: Addr10)
         ensures { self.new ≡ changes self.old (dim self.old address) }
@@ -243,7 +247,8 @@ impl Machine {
         }
     }
 
-    /// DAS
+    /// DAS: A and L are added to two places, and the carry of the lower sum to the higher. The places take the corrected sums, L +0,
+    /// and A the higher sum's carry. DAS A leaves both sums in A and L.
     #[tactic(auto, unfolding(crate::specs::Effects::das))]
     pub(crate) fn double_add_to_storage(&mut self, address: Addr10)
         ensures { self.new ≡ changes self.old (das self.old address) }
@@ -264,7 +269,7 @@ impl Machine {
         }
     }
 
-    /// DCA
+    /// DCA: A takes what is read at the first of two addresses, and then L what was read at the second. Both reads come before.
     #[tactic(auto, using(crate::proofs::ChangeLaws::changes_append), unfolding(crate::specs::Effects::dca))]
     pub(crate) fn double_clear_and_add(&mut self, rope: &Rope, address: Addr12)
         ensures { self.new ≡ changes self.old (dca rope.now self.old address) }
@@ -275,7 +280,7 @@ impl Machine {
         });
     }
 
-    /// DCS
+    /// DCS: A and L take the complements of what is read at two addresses.
     #[tactic(auto, using(crate::proofs::ChangeLaws::changes_append), unfolding(crate::specs::Effects::dcs))]
     pub(crate) fn double_clear_and_subtract(&mut self, rope: &Rope, address: Addr12)
         ensures { self.new ≡ changes self.old (dcs rope.now self.old address) }
@@ -286,7 +291,7 @@ impl Machine {
         });
     }
 
-    /// INDEX
+    /// INDEX: what is read is added to the next word before that is executed. Extracode that is in force stays in force.
     #[inline(always)]
     #[tactic(auto, unfolding(crate::specs::Effects::index))]
     pub(crate) fn index(&mut self, rope: &Rope, address: Addr12)
@@ -297,7 +302,7 @@ impl Machine {
         });
     }
 
-    /// MP
+    /// MP: A and L take the halves of the product of A's word and what is read, each with the product's sign.
     #[tactic(auto, unfolding(crate::specs::Effects::mp))]
     pub(crate) fn multiply(&mut self, rope: &Rope, address: Addr12)
         ensures { self.new ≡ changes self.old (mp rope.now self.old address) }
@@ -309,7 +314,8 @@ impl Machine {
         });
     }
 
-    /// DV
+    /// DV: A takes the quotient of A's and L's words by what is read, and L the remainder. A quotient that does not fit is told as the
+    /// greatest magnitude, and L stays.
     #[tactic(auto, unfolding(crate::specs::Effects::dv))]
     pub(crate) fn divide(&mut self, rope: &Rope, address: Addr10)
         ensures { self.new ≡ changes self.old (dv rope.now self.old address) }
@@ -325,7 +331,7 @@ impl Machine {
         });
     }
 
-    /// MSU
+    /// MSU: A takes the difference of A's word and what is read as angles, unsigned modulo 2^15, as a word in ones' complement.
     #[tactic(auto, unfolding(crate::specs::Effects::msu))]
     pub(crate) fn modular_subtract(&mut self, rope: &Rope, address: Addr10)
         ensures { self.new ≡ changes self.old (msu rope.now self.old address) }
@@ -336,7 +342,7 @@ impl Machine {
         });
     }
 
-    /// BZF
+    /// BZF: the next instruction is at the address, where A is +0 or -0 in all its 16 bits.
     #[tactic(auto, unfolding(crate::specs::Effects::bzf, crate::specs::Effects::tcf))]
     pub(crate) fn branch_on_zero(&mut self, address: Addr12)
         ensures { self.new ≡ changes self.old (bzf self.old address) }
@@ -346,7 +352,7 @@ impl Machine {
         }
     }
 
-    /// BZMF
+    /// BZMF: the next instruction is at the address, where A is +0 or -0, or bit 16 of it is set.
     #[tactic(auto, unfolding(crate::specs::Effects::bzmf, crate::specs::Effects::tcf))]
     pub(crate) fn branch_on_zero_or_minus(&mut self, address: Addr12)
         ensures { self.new ≡ changes self.old (bzmf self.old address) }
@@ -370,7 +376,7 @@ impl Machine {
         self.is_at_zero() || self.reg(Eras::A).is_minus()
     }
 
-    /// RELINT
+    /// RELINT: interrupts may be entered from now on.
     #[tactic(auto, unfolding(crate::specs::Effects::relint))]
     pub(crate) fn allow_interrupts(&mut self)
         ensures { self.new ≡ changes self.old relint }
@@ -378,7 +384,7 @@ impl Machine {
         self.set_inhibit(false);
     }
 
-    /// INHINT
+    /// INHINT: no interrupt is entered from now on.
     #[tactic(auto, unfolding(crate::specs::Effects::inhint))]
     pub(crate) fn inhibit_interrupts(&mut self)
         ensures { self.new ≡ changes self.old inhint }
@@ -386,7 +392,8 @@ impl Machine {
         self.set_inhibit(true);
     }
 
-    /// RESUME
+    /// RESUME: ends an interrupt. Z takes what ZRUPT holds, and the word that BRUPT holds is executed next, in place of one that is
+    /// fetched.
     #[tactic(auto, unfolding(crate::specs::Effects::resume))]
     pub(crate) fn resume(&mut self)
         ensures { self.new ≡ changes self.old (resume self.old) }
