@@ -208,7 +208,8 @@ impl Store {
         } else if channel == Chan::Q {
             self.write(Eras::Q, value);
         } else if channel == Chan::SUPERBANK {
-            self.hold_on(channel, word & SUPERBANK_MASK);
+            let kept = value.correct().and(Word::of_low_bits(SUPERBANK_MASK));
+            self.hold_on(channel, kept.to_u16());
         } else {
             self.hold_on(channel, word);
         }
