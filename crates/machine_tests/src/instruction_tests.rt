@@ -1,5 +1,7 @@
 //! Worked examples: programs in fixed memory, and the machine after some steps.
 
+ghost use Rattle.std.specs.Prelude.{◌<◌};
+
 use crate::programs::{machine_after, rope_of};
 use cpu::{Machine, Output, Processor, disassemble};
 use feed::Feed;
@@ -17,12 +19,16 @@ fn after(alloc: Global, words: &[u16], steps: u8) -> Result<Machine, RopeFault> 
     Ok(machine_after(processor, steps))
 }
 
-fn place(number: u16) -> Eras {
-    Eras::try_new(number).unwrap_or(Eras::A)
+fn place(number: u16) -> Eras
+    requires { number < 0o4000 }
+{
+    Eras::try_new(number).unwrap()
 }
 
 /// What is read at a place.
-fn at(machine: &Machine, number: u16) -> u16 {
+fn at(machine: &Machine, number: u16) -> u16
+    requires { number < 0o4000 }
+{
     machine.reg(place(number)).to_u16()
 }
 
@@ -279,7 +285,7 @@ fn channels_that_put_out(rt: HostRuntime) -> Result<(), RopeFault> {
         }
         let output = Output {
             cycles: 7,
-            channel: Chan::try_new(channel).unwrap_or(Chan::L),
+            channel: Chan::try_new(channel).expect(&rt, "a channel"),
             word: Word::of_low_bits(0o37776),
         };
         let expected = if puts_out { Some(output) } else { None };
