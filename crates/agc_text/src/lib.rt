@@ -12,4 +12,5 @@ mod text;
 pub use digits::{Number, decimal, decimal_value, octal, octal_value};
 pub use fields::{Field, Line, before_comment, next_field, split_field};
 pub use lines::next_line;
+pub use stretch::length_before_byte;
 pub use text::{LINE_LENGTH, is_text};

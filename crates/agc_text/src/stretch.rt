@@ -1,6 +1,6 @@
 //! How far a stretch of bytes goes.
 
-ghost use Rattle.std.specs.Prelude.{◌≡◌, ◌≤◌, length};
+ghost use Rattle.std.specs.Prelude.{◌≡◌, ◌==◌, ◌≤◌, length};
 ghost use Rattle.std.specs.List.{position_or_len};
 ghost use Rattle.agc_text.specs.Fields.{is_blank};
 ghost use Rattle.agc_text.specs.Stretches.{ends};
@@ -41,6 +41,14 @@ pub(crate) fn length_before(text: &[u8], end: End) -> usize
         }
     }
     text.len()
+}
+
+/// How many bytes stand before the first that is this one: all, where it does not stand.
+pub fn length_before_byte(text: &[u8], end: u8) -> usize
+    ensures value { result ≡ position_or_len (λ byte. byte == end) text.now }
+    ensures within { result ≤ length text.now }
+{
+    length_before(text, End::Byte(end))
 }
 
 // A space or a tab.

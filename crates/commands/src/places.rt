@@ -1,13 +1,12 @@
 //! The places of commands.
 
-ghost use Rattle.std.specs.Prelude.{◌≡◌, ◌==◌, option_and_then};
-ghost use Rattle.std.specs.List.{position_or_len};
+ghost use Rattle.std.specs.Prelude.{◌≡◌, option_and_then};
 ghost use Rattle.std.specs.Option.{option_map};
 ghost use Rattle.space.specs.declared.place.Linear.TheVariants as Place;
-ghost use Rattle.commands.specs.Commands.{numbered_place, symbol_place, fixed_place_in, place_in, erasable_number, erasable_in, bank_in, offset_in, comma};
+ghost use Rattle.commands.specs.Commands.{numbered_place, symbol_place, fixed_place_in, place_in, erasable_number, erasable_in, bank_in, offset_in};
 
 use crate::fields::{OCTAL_DIGITS, bank_in, offset_in};
-use agc_text::octal;
+use agc_text::{length_before_byte, octal};
 use space::numbers::Eras;
 use space::place::Linear;
 use words::Word;
@@ -36,18 +35,6 @@ fn symbol_place(symbols: &Symbols, field: &[u8]) -> Option<Linear>
     }
 }
 
-// How many bytes stand before the first comma.
-fn comma_place(field: &[u8]) -> usize
-    ensures { result ≡ position_or_len (λ byte. byte == comma) field.now }
-{
-    for (i, byte) in field.iter().enumerate() {
-        if *byte == b',' {
-            return i;
-        }
-    }
-    field.len()
-}
-
 // A place.
 pub(crate) fn place_in(symbols: &Symbols, field: &[u8]) -> Option<Linear>
     ensures { result ≡ place_in symbols.now field.now }
@@ -66,7 +53,7 @@ pub(crate) fn place_in(symbols: &Symbols, field: &[u8]) -> Option<Linear>
 fn fixed_place_in(field: &[u8]) -> Option<Linear>
     ensures { result ≡ fixed_place_in field.now }
 {
-    let length = comma_place(field);
+    let length = length_before_byte(field, b',');
     if length < field.len() {
         fixed_place_of(&field[..length], &field[length + 1..])
     } else {

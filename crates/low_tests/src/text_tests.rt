@@ -1,7 +1,8 @@
 //! Lines, fields and numbers of texts.
 
 use agc_text::{
-    Field, Line, Number, decimal, decimal_value, is_text, next_field, next_line, octal, octal_value,
+    Field, Line, Number, decimal, decimal_value, is_text, length_before_byte, next_field,
+    next_line, octal, octal_value,
 };
 
 fn text_of<'a>(field: Option<Field<'a>>) -> &'a [u8] {
@@ -33,6 +34,13 @@ fn further_fields_are_told(rt: HostRuntime) {
     let parts = Line::of(b" TS Y +1 +2");
     assert_eq!(rt; text_of(parts.offset), b"+1".as_slice());
     assert!(rt; parts.more);
+}
+
+#[test]
+fn a_byte_ends_a_stretch(rt: HostRuntime) {
+    for (text, length) in [(b"2,17,5", 1), (b",,,,,,", 0), (b"2 17.5", 6)] {
+        assert_eq!(rt; length_before_byte(text, b','), length);
+    }
 }
 
 #[test]

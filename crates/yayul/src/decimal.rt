@@ -1,13 +1,12 @@
 //! Decimal constants.
 
 ghost use Rattle.std.specs.Prelude.{◌≡◌, ◌==◌, ◌≤◌, ◌<◌, ◌^◌, ℕ, length};
-ghost use Rattle.std.specs.List.{position_or_len};
 ghost use Rattle.std.specs.Option.{option_map};
 ghost use Rattle.agc_text.specs.Digits.{sized};
 ghost use Rattle.yayul.specs.Forms.{at_most, greatest_magnitude, scaled, before_point, whole_in, fraction_in, magnitude_in, complemented, decimal_in};
 
 use crate::language::Numeral;
-use agc_text::{Number, decimal, decimal_value};
+use agc_text::{Number, decimal, decimal_value, length_before_byte};
 use words::Word;
 
 /// The greatest magnitude of a word.
@@ -57,19 +56,7 @@ fn before_point(text: &[u8]) -> &[u8]
     ensures value { result.now ≡ before_point text.now }
     ensures within { length result.now ≤ length text.now }
 {
-    &text[..point_place(text)]
-}
-
-// How many bytes stand before the first point.
-fn point_place(text: &[u8]) -> usize
-    ensures { result ≡ position_or_len (λ byte. byte == 0o56) text.now }
-{
-    for (i, byte) in text.iter().enumerate() {
-        if *byte == b'.' {
-            return i;
-        }
-    }
-    text.len()
+    &text[..length_before_byte(text, b'.')]
 }
 
 // The number as a word, where it is one of a plus sign.
