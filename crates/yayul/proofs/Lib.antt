@@ -1,3 +1,4 @@
+mod ByLength
 mod Codes
 mod Fields
 mod Names

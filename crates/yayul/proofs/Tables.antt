@@ -5,7 +5,7 @@ use Rattle.agc_text.specs.Tables.{same_name, value_in}
 use Rattle.yayul.proofs.Names.{seen}
 
 -- names of the same bytes are of the same length
-same_length : (a b : List ℕ) → same_name a b ≡ true → length a ≡ length b
+pub same_length : (a b : List ℕ) → same_name a b ≡ true → length a ≡ length b
 same_length [] [] same = refl
 same_length [] (y ∷ ys) same = cc
 same_length (x ∷ xs) [] same = cc

@@ -1,6 +1,6 @@
 //! The operators of the source language.
 
-ghost use Rattle.std.specs.Prelude.{◌≡◌, ◌≤◌, true, IfSome};
+ghost use Rattle.std.specs.Prelude.{◌≡◌, ◌==◌, ◌≤◌, true, IfSome, filter, length};
 ghost use Rattle.std.specs.Option.{SomeIff};
 ghost use Rattle.agc_text.specs.Tables.{named, value_in};
 ghost use Rattle.yayul.specs.Operators.{operators, is_bank, field_size, bits_under};
@@ -115,79 +115,92 @@ macro_rules! to_next {
     };
 }
 
-/// Each operator by its name.
-const OPERATORS: [(&str, Operator); 71] = [
-    ("SETLOC", Operator::Setloc),
-    ("BANK", Operator::Bank(BankRange::All)),
-    ("BLOCK", Operator::Bank(BankRange::TwoOrThree)),
-    ("ERASE", Operator::Erase),
-    ("EQUALS", Operator::Equals),
-    ("=", Operator::Equals),
-    ("EBANK=", Operator::Ebank),
+// Each operator by its name, in a table for each length of names.
+const OPERATORS_OF_ONE: [(&str, Operator); 1] = [("=", Operator::Equals)];
+
+const OPERATORS_OF_TWO: [(&str, Operator); 10] = [
+    ("TC", addressed!(0o0, Twelve, No, Address)),
+    ("CA", addressed!(0o30000, Twelve, No, Address)),
+    ("CS", addressed!(0o40000, Twelve, No, Address)),
+    ("TS", addressed!(0o54000, Ten, No, Address)),
+    ("AD", addressed!(0o60000, Twelve, No, Address)),
+    ("DV", addressed!(0o10000, Ten, Yes, Address)),
+    ("SU", addressed!(0o60000, Ten, Yes, Address)),
+    ("MP", addressed!(0o70000, Twelve, Yes, Address)),
+    ("ZL", plain!(0o22007, No)),
+    ("ZQ", plain!(0o22007, Yes)),
+];
+
+const OPERATORS_OF_THREE: [(&str, Operator); 22] = [
     ("OCT", Operator::Octal),
     ("DEC", Operator::Decimal),
-    ("ADRES", constant!(Address)),
-    ("ECADR", constant!(ErasablePlace)),
-    ("CADR", constant!(FixedPlace)),
-    ("FCADR", constant!(FixedPlace)),
-    ("2CADR", Operator::FarAddress),
-    ("TC", addressed!(0o0, Twelve, No, Address)),
     ("TCR", addressed!(0o0, Twelve, No, Address)),
     ("CCS", addressed!(0o10000, Ten, No, Address)),
     ("TCF", addressed!(0o10000, Twelve, No, FixedAddress)),
     ("DAS", addressed!(0o20000, Ten, No, Pair)),
-    ("LXCH", addressed!(0o22000, Ten, No, Address)),
-    ("INCR", addressed!(0o24000, Ten, No, Address)),
     ("ADS", addressed!(0o26000, Ten, No, Address)),
-    ("CA", addressed!(0o30000, Twelve, No, Address)),
     ("CAE", addressed!(0o30000, Ten, No, Address)),
     ("CAF", addressed!(0o30000, Twelve, No, FixedAddress)),
-    ("CS", addressed!(0o40000, Twelve, No, Address)),
-    ("INDEX", addressed!(0o50000, Ten, Either, Address)),
     ("NDX", addressed!(0o50000, Ten, Either, Address)),
-    ("DXCH", addressed!(0o52000, Ten, No, Pair)),
-    ("TS", addressed!(0o54000, Ten, No, Address)),
     ("XCH", addressed!(0o56000, Ten, No, Address)),
-    ("AD", addressed!(0o60000, Twelve, No, Address)),
-    ("MASK", addressed!(0o70000, Twelve, No, Address)),
     ("MSK", addressed!(0o70000, Twelve, No, Address)),
-    ("READ", addressed!(0o0, Nine, Yes, Channel)),
-    ("WRITE", addressed!(0o1000, Nine, Yes, Channel)),
-    ("RAND", addressed!(0o2000, Nine, Yes, Channel)),
-    ("WAND", addressed!(0o3000, Nine, Yes, Channel)),
     ("ROR", addressed!(0o4000, Nine, Yes, Channel)),
     ("WOR", addressed!(0o5000, Nine, Yes, Channel)),
-    ("RXOR", addressed!(0o6000, Nine, Yes, Channel)),
-    ("DV", addressed!(0o10000, Ten, Yes, Address)),
     ("BZF", addressed!(0o10000, Twelve, Yes, FixedAddress)),
     ("MSU", addressed!(0o20000, Ten, Yes, Address)),
-    ("QXCH", addressed!(0o22000, Ten, Yes, Address)),
     ("AUG", addressed!(0o24000, Ten, Yes, Address)),
     ("DIM", addressed!(0o26000, Ten, Yes, Address)),
     ("DCA", addressed!(0o30000, Twelve, Yes, Pair)),
     ("DCS", addressed!(0o40000, Twelve, Yes, Pair)),
-    ("SU", addressed!(0o60000, Ten, Yes, Address)),
-    ("BZMF", addressed!(0o60000, Twelve, Yes, FixedAddress)),
-    ("MP", addressed!(0o70000, Twelve, Yes, Address)),
-    ("RELINT", plain!(0o3, No)),
-    ("INHINT", plain!(0o4, No)),
-    ("EXTEND", extend!(0o6)),
-    ("RESUME", plain!(0o50017, No)),
-    ("XXALQ", plain!(0o0, No)),
     ("XLQ", plain!(0o1, No)),
-    ("RETURN", plain!(0o2, No)),
-    ("DDOUBL", plain!(0o20001, No)),
-    ("ZL", plain!(0o22007, No)),
     ("COM", plain!(0o40000, No)),
+];
+
+const OPERATORS_OF_FOUR: [(&str, Operator); 18] = [
+    ("BANK", Operator::Bank(BankRange::All)),
+    ("CADR", constant!(FixedPlace)),
+    ("LXCH", addressed!(0o22000, Ten, No, Address)),
+    ("INCR", addressed!(0o24000, Ten, No, Address)),
+    ("DXCH", addressed!(0o52000, Ten, No, Pair)),
+    ("MASK", addressed!(0o70000, Twelve, No, Address)),
+    ("READ", addressed!(0o0, Nine, Yes, Channel)),
+    ("RAND", addressed!(0o2000, Nine, Yes, Channel)),
+    ("WAND", addressed!(0o3000, Nine, Yes, Channel)),
+    ("RXOR", addressed!(0o6000, Nine, Yes, Channel)),
+    ("QXCH", addressed!(0o22000, Ten, Yes, Address)),
+    ("BZMF", addressed!(0o60000, Twelve, Yes, FixedAddress)),
     ("DTCF", plain!(0o52005, No)),
     ("DTCB", plain!(0o52006, No)),
     ("OVSK", plain!(0o54000, No)),
     ("TCAA", plain!(0o54005, No)),
-    ("DOUBLE", plain!(0o60000, No)),
-    ("ZQ", plain!(0o22007, Yes)),
     ("DCOM", plain!(0o40001, Yes)),
-    ("SQUARE", plain!(0o70000, Yes)),
     ("NOOP", to_next!(0o10000, Twelve, No, FixedAddress)),
+];
+
+const OPERATORS_OF_FIVE: [(&str, Operator); 9] = [
+    ("BLOCK", Operator::Bank(BankRange::TwoOrThree)),
+    ("ERASE", Operator::Erase),
+    ("ADRES", constant!(Address)),
+    ("ECADR", constant!(ErasablePlace)),
+    ("FCADR", constant!(FixedPlace)),
+    ("2CADR", Operator::FarAddress),
+    ("INDEX", addressed!(0o50000, Ten, Either, Address)),
+    ("WRITE", addressed!(0o1000, Nine, Yes, Channel)),
+    ("XXALQ", plain!(0o0, No)),
+];
+
+const OPERATORS_OF_SIX: [(&str, Operator); 11] = [
+    ("SETLOC", Operator::Setloc),
+    ("EQUALS", Operator::Equals),
+    ("EBANK=", Operator::Ebank),
+    ("RELINT", plain!(0o3, No)),
+    ("INHINT", plain!(0o4, No)),
+    ("EXTEND", extend!(0o6)),
+    ("RESUME", plain!(0o50017, No)),
+    ("RETURN", plain!(0o2, No)),
+    ("DDOUBL", plain!(0o20001, No)),
+    ("DOUBLE", plain!(0o60000, No)),
+    ("SQUARE", plain!(0o70000, Yes)),
 ];
 
 /// The operator of a name.
@@ -195,7 +208,23 @@ pub(crate) fn operator_of(name: &[u8]) -> Option<Operator>
     ensures value { result ≡ value_in operators name.now }
     ensures fits { IfSome result (λ operator. has_room operator ≡ true) }
 {
-    find_operator(&OPERATORS, name)
+    find_operator(operators_of_length(name.len()), name)
+}
+
+// The operators whose names have so many characters.
+#[tactic(auto, unfolding(crate::specs::Operators::operators))]
+fn operators_of_length(count: usize) -> &'static [(&'static str, Operator)]
+    ensures { named result.now ≡ filter (λ row. length row.0 == count) operators }
+{
+    match count {
+        1 => &OPERATORS_OF_ONE,
+        2 => &OPERATORS_OF_TWO,
+        3 => &OPERATORS_OF_THREE,
+        4 => &OPERATORS_OF_FOUR,
+        5 => &OPERATORS_OF_FIVE,
+        6 => &OPERATORS_OF_SIX,
+        _ => &[],
+    }
 }
 
 fn find_operator(table: &[(&str, Operator)], name: &[u8]) -> Option<Operator>
