@@ -80,7 +80,7 @@ impl WorkshopFault {
     }
 }
 
-/// The most bytes of a fault's line: `agcws: E`, a number of 8 bits, ` LINE `, a number of 32 bits and a line feed.
+/// Room for a fault's line: `agcws: E`, a number, ` LINE `, a number and a line feed. No number that is written has more than 20 digits.
 const FAULT_LINE: usize = 64;
 
 type FaultLine = ArrayVec<u8, FAULT_LINE>;
