@@ -5,7 +5,7 @@ use Rattle.agc_text.specs.Fields.{runs}
 use Rattle.feed.specs.Names.{counters, sequences}
 use Rattle.feed.specs.Statements.{parsed}
 use Rattle.feed.specs.declared.input.Counter.TheVariants.{Time1}
-use Rattle.feed.specs.declared.input.Input.TheVariants.{Count, Word, Request as Interrupt}
+use Rattle.feed.specs.declared.input.Input.TheVariants.{Count, Word, Interrupt}
 use Rattle.feed.specs.declared.input.Sequence.TheVariants.{Pinc}
 use Rattle.space.specs.declared.place.Linear.TheVariants.{Erasable, Fixed}
 use Rattle.yayul.specs.declared.values.Value.TheVariants as value

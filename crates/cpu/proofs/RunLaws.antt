@@ -6,7 +6,7 @@ use Rattle.words.specs.declared.counters.Carry.TheVariants.{No, Plus, Minus, Shi
 use Rattle.rope.specs.Places.{Words}
 use Rattle.feed.specs.declared.input.Counter.{Counter}
 use Rattle.feed.specs.declared.input.Input.{Input}
-use Rattle.feed.specs.declared.input.Input.TheVariants.{Count, Word, Request}
+use Rattle.feed.specs.declared.input.Input.TheVariants.{Count, Word, Interrupt}
 use Rattle.feed.specs.Merged.{due}
 use Rattle.feed.specs.Fits as from
 use Rattle.cpu.specs.State.{State, Scenario, start}
@@ -92,12 +92,12 @@ cycles-effect s (Count counter sequence) =
     let step = step_of sequence (count_of s counter) in
     cycles-asked _ (asked_after counter step) ∙ cycles-carried (stepped s counter step) (carries_into counter) step.carry
 cycles-effect s (Word n w) = cycles-asked _ (asked_on n)
-cycles-effect s (Request k) = refl
+cycles-effect s (Interrupt k) = refl
 
 few-input : (input : Input) → input_cycles input ≤ 6
 few-input (Count counter sequence) = omega arith
 few-input (Word n w) = omega arith
-few-input (Request k) = omega arith
+few-input (Interrupt k) = omega arith
 
 -- a state in which an input is counted, and its cycles have passed
 abbrev pub counted_in : State → Input × Option ℕ → State

@@ -7,7 +7,7 @@ use Rattle.words.specs.declared.counters.Carry.TheVariants.{No, Plus, Minus, Shi
 use Rattle.rope.specs.Places.{Words}
 use Rattle.feed.specs.declared.input.Counter.{Counter}
 use Rattle.feed.specs.declared.input.Input.{Input}
-use Rattle.feed.specs.declared.input.Input.TheVariants.{Count, Word, Request}
+use Rattle.feed.specs.declared.input.Input.TheVariants.{Count, Word, Interrupt}
 use Rattle.feed.specs.declared.entry.Entry.{Entry}
 use Rattle.feed.specs.Fits as from
 use Rattle.feed.specs.Feed.{most_series}
@@ -68,7 +68,7 @@ account-effect s (Count counter sequence) =
     let step = step_of sequence (count_of s counter) in
     account-asked _ (asked_after counter step) ∙ account-carried (stepped s counter step) (carries_into counter) step.carry
 account-effect s (Word n w) = account-asked _ (asked_on n)
-account-effect s (Request k) = refl
+account-effect s (Interrupt k) = refl
 
 -- an input that is taken is counted
 pub account-take : (s : State) (given : Input × Option ℕ) → account (inputs.take s given) ≡ (s.taken + 1, from.counts_after s.counts given.1)

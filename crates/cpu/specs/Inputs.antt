@@ -13,7 +13,7 @@ use Rattle.feed.specs.declared.input.Counter.{Counter}
 use Rattle.feed.specs.declared.input.Sequence.{Sequence}
 use Rattle.feed.specs.declared.input.Sequence.TheVariants.{Pinc, Minc, Dinc, Pcdu, Mcdu, Shinc, Shanc}
 use Rattle.feed.specs.declared.input.Input.{Input}
-use Rattle.feed.specs.declared.input.Input.TheVariants.{Count, Word, Request}
+use Rattle.feed.specs.declared.input.Input.TheVariants.{Count, Word, Interrupt}
 use Rattle.feed.specs.Counters.{row_of, counter_place}
 use Rattle.feed.specs.Fits as from
 use Rattle.cpu.specs.State.{State}
@@ -115,13 +115,13 @@ received s n w = asked (change s (OnChannel n (extend w))) (asked_on n)
 abbrev pub input_effect : State → Input → State
 input_effect s (Count counter sequence) = counted s counter sequence
 input_effect s (Word n w) = received s n w
-input_effect s (Request k) = asked s (Some k)
+input_effect s (Interrupt k) = asked s (Some k)
 
 -- the cycles that an input takes
 abbrev pub input_cycles : Input → ℕ
 input_cycles (Count counter sequence) = 1
 input_cycles (Word n w) = 0
-input_cycles (Request k) = 0
+input_cycles (Interrupt k) = 0
 
 -- an input is taken, with the series that it is from: it is counted, and for its series, its cycles pass, and it does what it does
 unfoldable pub take : State → Input × Option ℕ → State

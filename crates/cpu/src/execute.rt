@@ -10,7 +10,7 @@ use crate::dispatch::decode;
 use crate::instruction::{Instruction, Role};
 use crate::machine::{FIRST_ADDRESS, Machine};
 use crate::output::Output;
-use feed::request::Request;
+use feed::interrupt::Interrupt;
 use rope::Rope;
 use space::numbers::{Chan, Eras};
 use space::resolve::{FIRST_FIXED, resolve_fixed};
@@ -204,7 +204,7 @@ impl Machine {
     /// The interrupt that is entered now.
     #[inline(always)]
     #[tactic(auto, unfolding(crate::specs::Next::entry))]
-    pub(crate) fn entry(&self) -> Option<Request>
+    pub(crate) fn entry(&self) -> Option<Interrupt>
         ensures { result ≡ entry self.now }
     {
         if self.asks() {
@@ -217,7 +217,7 @@ impl Machine {
     /// The interrupt that is entered now, where one may be asked for.
     #[inline(never)]
     #[tactic(auto, unfolding(crate::specs::Next::entry))]
-    fn entry_of_asked(&self) -> Option<Request>
+    fn entry_of_asked(&self) -> Option<Interrupt>
         ensures { result ≡ entry self.now }
     {
         if self.inhibit() || self.inside() || self.extra() {
@@ -235,7 +235,7 @@ impl Machine {
     /// Enters an interrupt.
     #[inline(never)]
     #[tactic(auto, unfolding(crate::specs::Next::entered))]
-    pub(crate) fn enter(&mut self, rope: &Rope, request: Request)
+    pub(crate) fn enter(&mut self, rope: &Rope, request: Interrupt)
         requires { self.old.cycles ≤ most_cycles }
         ensures { self.new ≡ entered rope.now self.old request }
     {

@@ -8,7 +8,7 @@ ghost use Rattle.cpu.specs.Next.{most_cycles};
 use crate::machine::Machine;
 use feed::Asks;
 use feed::input::{Counter, Input, Sequence};
-use feed::request::Request;
+use feed::interrupt::Interrupt;
 use space::numbers::Chan;
 use words::{Carry, CounterStep, Word};
 
@@ -39,7 +39,7 @@ impl Machine {
                 self.count(counter, sequence);
             }
             Input::Word(channel, word) => self.receive(channel, word),
-            Input::Request(request) => self.ask(request),
+            Input::Interrupt(request) => self.ask(request),
         }
     }
 
@@ -83,7 +83,7 @@ impl Machine {
     }
 
     /// Asks for an interrupt, if there is one to ask for.
-    fn ask_any(&mut self, request: Option<Request>)
+    fn ask_any(&mut self, request: Option<Interrupt>)
         ensures { self.new ≡ asked self.old request }
     {
         if let Some(request) = request {
@@ -125,7 +125,7 @@ fn carried_by(asks: Asks) -> Option<Counter>
 }
 
 /// The interrupt that is asked for after a step.
-fn asked_by(asks: Asks, step: &CounterStep) -> Option<Request>
+fn asked_by(asks: Asks, step: &CounterStep) -> Option<Interrupt>
     ensures { result ≡ asked_by asks step.now }
 {
     match asks {
@@ -137,18 +137,18 @@ fn asked_by(asks: Asks, step: &CounterStep) -> Option<Request>
 }
 
 /// The interrupt for which a word on a channel asks.
-fn asked_on(channel: Chan) -> Option<Request>
+fn asked_on(channel: Chan) -> Option<Interrupt>
     ensures { result ≡ asked_on channel }
 {
     match channel.number() {
-        FIRST_KEYBOARD_CHANNEL => Some(Request::new(FIRST_KEYBOARD)),
-        SECOND_KEYBOARD_CHANNEL => Some(Request::new(SECOND_KEYBOARD)),
+        FIRST_KEYBOARD_CHANNEL => Some(Interrupt::new(FIRST_KEYBOARD)),
+        SECOND_KEYBOARD_CHANNEL => Some(Interrupt::new(SECOND_KEYBOARD)),
         _ => None,
     }
 }
 
 /// An interrupt, where it is asked for.
-fn request_if(is_asked: bool, request: Request) -> Option<Request>
+fn request_if(is_asked: bool, request: Interrupt) -> Option<Interrupt>
     ensures { result ≡ (if is_asked then Some request else None) }
 {
     if is_asked { Some(request) } else { None }

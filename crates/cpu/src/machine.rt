@@ -14,7 +14,7 @@ ghost use Rattle.feed.specs.Fits.{counts_after};
 
 use crate::address::Addr10;
 use feed::MOST_SERIES;
-use feed::request::Request;
+use feed::interrupt::Interrupt;
 use rope::Rope;
 use space::numbers::{Addr12, Chan, Eras};
 use space::place::Linear;
@@ -24,7 +24,7 @@ use std::marker::Model;
 use words::{Wide, Word};
 
 /// How many interrupts there are.
-const REQUESTS: usize = 10;
+const INTERRUPTS: usize = 10;
 
 /// The address at which a run starts.
 pub(crate) const FIRST_ADDRESS: u16 = 0o4000;
@@ -47,7 +47,7 @@ pub struct Machine {
     inside: bool,
     waiting_sum: Option<Wide>,
     waiting_word: Option<Word>,
-    requests: [bool; REQUESTS],
+    requests: [bool; INTERRUPTS],
     asks: bool,
     waits: bool,
     taken: usize,
@@ -84,7 +84,7 @@ impl Machine {
             inside: false,
             waiting_sum: None,
             waiting_word: None,
-            requests: [false; REQUESTS],
+            requests: [false; INTERRUPTS],
             asks: false,
             waits: false,
             taken: 0,
@@ -248,7 +248,7 @@ impl Machine {
     }
 
     /// The least of the interrupts that are asked for.
-    pub(crate) fn least_request(&self) -> Option<Request>
+    pub(crate) fn least_request(&self) -> Option<Interrupt>
         ensures { result ≡ least_request self.now.requests }
     {
         if !self.asks {
@@ -256,7 +256,7 @@ impl Machine {
         }
         for number in 1..11u8 {
             if self.requests[usize::from(number) - 1] {
-                return Some(Request::new(number));
+                return Some(Interrupt::new(number));
             }
         }
         None
@@ -270,7 +270,7 @@ impl Machine {
     }
 
     /// An interrupt is asked for.
-    pub(crate) fn ask(&mut self, request: Request)
+    pub(crate) fn ask(&mut self, request: Interrupt)
         ensures { self.new ≡ record self.old { requests = insert self.old.requests request } }
     {
         self.requests[request.index()] = true;
@@ -278,7 +278,7 @@ impl Machine {
     }
 
     /// An interrupt is no longer asked for.
-    pub(crate) fn withdraw(&mut self, request: Request)
+    pub(crate) fn withdraw(&mut self, request: Interrupt)
         ensures { self.new ≡ record self.old { requests = remove self.old.requests request } }
     {
         self.requests[request.index()] = false;

@@ -14,7 +14,7 @@ use Rattle.feed.specs.declared.fault.FeedFault.TheVariants.{BadLine, OutOfOrder,
 use Rattle.feed.specs.declared.input.Counter.{Counter}
 use Rattle.feed.specs.declared.input.Counter.TheVariants.{Time1, Time3, PipaX}
 use Rattle.feed.specs.declared.input.Input.{Input}
-use Rattle.feed.specs.declared.input.Input.TheVariants.{Count, Word, Request}
+use Rattle.feed.specs.declared.input.Input.TheVariants.{Count, Word, Interrupt}
 use Rattle.feed.specs.declared.input.Sequence.TheVariants.{Pinc, Minc}
 use Rattle.feed.specs.declared.entry.Entry.{Entry}
 
@@ -45,7 +45,7 @@ unfolding inputs first_fault plain_from series_from merged in_order inserted is_
 no_input_channel = refl
 
 each_form : inputs (feed (codes "# a feed" ∷ codes " 0 CHAN 015 00021" ∷ [] ∷ codes "4 TIME1 PINC # twice" ∷ codes "4 PIPAX MINC" ∷ codes "7 RUPT 01" ∷ []))
-    ≡ Ok (at 2 0 (Word 0o15 0o21) ∷ at 4 4 (Count Time1 Pinc) ∷ at 5 4 (Count PipaX Minc) ∷ at 6 7 (Request 1) ∷ [])
+    ≡ Ok (at 2 0 (Word 0o15 0o21) ∷ at 4 4 (Count Time1 Pinc) ∷ at 5 4 (Count PipaX Minc) ∷ at 6 7 (Interrupt 1) ∷ [])
 unfolding inputs first_fault plain_from series_from merged in_order inserted is_before entries_from statement_of runs lines counters sequences
 each_form = refl
 
@@ -96,7 +96,7 @@ between = refl
 
 -- a series stands on any line, whatever its cycles
 anywhere : inputs (feed (codes "5 RUPT 1" ∷ codes "EVERY 0 1 1 1 TIME3 PINC" ∷ codes "5 RUPT 2" ∷ []))
-    ≡ Ok (entry 2 0 0 (Count Time3 Pinc) ∷ at 1 5 (Request 1) ∷ at 3 5 (Request 2) ∷ [])
+    ≡ Ok (entry 2 0 0 (Count Time3 Pinc) ∷ at 1 5 (Interrupt 1) ∷ at 3 5 (Interrupt 2) ∷ [])
 unfolding inputs first_fault plain_from series_from merged in_order inserted is_before entries_from entries_of statement_of runs lines counters sequences
 anywhere = refl
 

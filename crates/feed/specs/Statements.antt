@@ -13,7 +13,7 @@ use Rattle.feed.specs.declared.fault.LineFault.{LineFault}
 use Rattle.feed.specs.declared.fault.LineFault.TheVariants.{BadLine, WrongCounter}
 use Rattle.feed.specs.declared.input.Counter.{Counter}
 use Rattle.feed.specs.declared.input.Input.{Input}
-use Rattle.feed.specs.declared.input.Input.TheVariants.{Count, Word, Request}
+use Rattle.feed.specs.declared.input.Input.TheVariants.{Count, Word, Interrupt}
 use Rattle.feed.specs.declared.input.Sequence.{Sequence}
 use Rattle.feed.specs.declared.statement.Statement.{Statement}
 use Rattle.feed.specs.declared.statement.Statement.TheVariants.{Nothing, Faulty, Gives, Repeats}
@@ -44,7 +44,7 @@ word_in text = passing (λ n. nat_le n 0o77777) (number_of 8 5 text)
 
 -- an interrupt that is asked for: 1 to 10, in 1 or 2 decimal digits
 abbrev pub request_in : List ℕ → Option Input
-request_in text = option_map (λ n. Request n) (passing (λ n. nat_le 1 n && nat_le n 10) (number_of 10 2 text))
+request_in text = option_map (λ n. Interrupt n) (passing (λ n. nat_le 1 n && nat_le n 10) (number_of 10 2 text))
 
 -- a word on a channel, where both have their form
 abbrev pub word_on : Option ℕ → Option ℕ → Option Input

@@ -6,7 +6,7 @@ ghost use Rattle.feed.specs.Counters.{row_of, counter_place, takes};
 use crate::counter::Asks::{AtZero, CarryInto, Nothing, OnOneShiftedOut, OnOverflow};
 use crate::input::Sequence::{Dinc, Mcdu, Minc, Pcdu, Pinc, Shanc, Shinc};
 use crate::input::{Counter, Sequence};
-use crate::request::Request;
+use crate::interrupt::Interrupt;
 use space::numbers::Eras;
 
 /// What a counter asks for after a step.
@@ -17,11 +17,11 @@ pub enum Asks {
     /// One more in another counter, on an overflow.
     CarryInto(Counter),
     /// An interrupt, on an overflow.
-    OnOverflow(Request),
+    OnOverflow(Interrupt),
     /// An interrupt, on a result of +0.
-    AtZero(Request),
+    AtZero(Interrupt),
     /// An interrupt, on a one that is shifted out.
-    OnOneShiftedOut(Request),
+    OnOneShiftedOut(Interrupt),
 }
 
 /// All that there is to say of a counter.
@@ -49,10 +49,10 @@ impl Counter {
         match self {
             Counter::Time1 => make_row(b"TIME1", 0o25, &[Pinc], CarryInto(Counter::Time2)),
             Counter::Time2 => make_row(b"TIME2", 0o24, &[Pinc], Nothing),
-            Counter::Time3 => make_row(b"TIME3", 0o26, &[Pinc], OnOverflow(Request::new(3))),
-            Counter::Time4 => make_row(b"TIME4", 0o27, &[Pinc], OnOverflow(Request::new(4))),
-            Counter::Time5 => make_row(b"TIME5", 0o30, &[Pinc], OnOverflow(Request::new(2))),
-            Counter::Time6 => make_row(b"TIME6", 0o31, &[Dinc], AtZero(Request::new(1))),
+            Counter::Time3 => make_row(b"TIME3", 0o26, &[Pinc], OnOverflow(Interrupt::new(3))),
+            Counter::Time4 => make_row(b"TIME4", 0o27, &[Pinc], OnOverflow(Interrupt::new(4))),
+            Counter::Time5 => make_row(b"TIME5", 0o30, &[Pinc], OnOverflow(Interrupt::new(2))),
+            Counter::Time6 => make_row(b"TIME6", 0o31, &[Dinc], AtZero(Interrupt::new(1))),
             Counter::CduX => make_row(b"CDUX", 0o32, &[Pcdu, Mcdu], Nothing),
             Counter::CduY => make_row(b"CDUY", 0o33, &[Pcdu, Mcdu], Nothing),
             Counter::CduZ => make_row(b"CDUZ", 0o34, &[Pcdu, Mcdu], Nothing),
@@ -62,7 +62,7 @@ impl Counter {
             Counter::PipaY => make_row(b"PIPAY", 0o40, &[Pinc, Minc], Nothing),
             Counter::PipaZ => make_row(b"PIPAZ", 0o41, &[Pinc, Minc], Nothing),
             Counter::Inlink => {
-                let uplink = Request::new(7);
+                let uplink = Interrupt::new(7);
                 make_row(b"INLINK", 0o45, &[Shinc, Shanc], OnOneShiftedOut(uplink))
             }
         }

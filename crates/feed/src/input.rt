@@ -1,6 +1,6 @@
 //! What reaches the computer from outside, and when.
 
-use crate::request::Request;
+use crate::interrupt::Interrupt;
 use space::numbers::Chan;
 use words::Word;
 
@@ -66,5 +66,5 @@ pub enum Input {
     /// A word on an input channel.
     Word(Chan, Word),
     /// An interrupt that is asked for.
-    Request(Request),
+    Interrupt(Interrupt),
 }

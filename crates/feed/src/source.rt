@@ -6,7 +6,7 @@ ghost use Rattle.feed.specs.Heads.{IsRule, entry_before};
 
 use crate::entry::{Entry, Series};
 use crate::input::Input;
-use crate::request::Request;
+use crate::interrupt::Interrupt;
 use std::marker::Model;
 
 /// A series, with the cycles of one of its entries and of the one before that. An entry that follows costs one division.
@@ -88,7 +88,7 @@ impl Default for Source {
             num: 0,
             den: 1,
             count: 0,
-            input: Input::Request(Request::new(1)),
+            input: Input::Interrupt(Interrupt::new(1)),
         })
     }
 }

@@ -9,8 +9,8 @@ ghost use Rattle.feed.specs.Statements.{is_allowed, is_input_channel, channel_in
 use crate::entry::Rule;
 use crate::fault::LineFault;
 use crate::input::{Counter, Input, Sequence};
+use crate::interrupt::{INTERRUPTS, Interrupt};
 use crate::names::{counter_of, sequence_of};
-use crate::request::{REQUESTS, Request};
 use agc_text::{LINE_LENGTH, before_comment, decimal, is_text, octal, split_field};
 use space::numbers::Chan;
 use words::Word;
@@ -278,8 +278,8 @@ fn request_in(field: &[u8]) -> Option<Input>
     ensures { result ≡ request_in field.now }
 {
     match decimal(field, REQUEST_DIGITS) {
-        Some(number) if (1..=u64::from(REQUESTS)).contains(&number) => {
-            Some(Input::Request(Request::new(number as u8)))
+        Some(number) if (1..=u64::from(INTERRUPTS)).contains(&number) => {
+            Some(Input::Interrupt(Interrupt::new(number as u8)))
         }
         Some(_) => None,
         None => None,

@@ -1,7 +1,7 @@
 //! Feeds: their lines, their faults, and when inputs are due.
 
 use feed::input::{Counter, Input, Sequence};
-use feed::request::Request;
+use feed::interrupt::Interrupt;
 use feed::{Feed, FeedFault, MOST_BYTES, MOST_SERIES, read};
 use space::numbers::Chan;
 use std::alloc::{AllocError, Global};
@@ -113,13 +113,13 @@ fn words_and_requests(rt: HostRuntime) {
         let input = Input::Word(Chan::of_low_bits(channel), Word::of_low_bits(word));
         assert_eq!(rt; first_input(rt.alloc(), text), Some(input));
     }
-    let requests: [(&[u8], Request); 3] = [
-        (b"0 RUPT 01", Request::new(1)),
-        (b"0 RUPT 9", Request::new(9)),
-        (b"0 RUPT 10 # 11", Request::new(10)),
+    let requests: [(&[u8], Interrupt); 3] = [
+        (b"0 RUPT 01", Interrupt::new(1)),
+        (b"0 RUPT 9", Interrupt::new(9)),
+        (b"0 RUPT 10 # 11", Interrupt::new(10)),
     ];
     for (text, request) in requests {
-        let input = Input::Request(request);
+        let input = Input::Interrupt(request);
         assert_eq!(rt; first_input(rt.alloc(), text), Some(input));
     }
 }

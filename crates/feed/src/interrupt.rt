@@ -5,15 +5,15 @@ ghost use Rattle.std.specs.Prelude.{◌≡◌, ◌+◌, ◌-◌, ◌≤◌, ◌<
 use std::marker::Model;
 
 /// How many interrupts there are.
-pub const REQUESTS: u8 = 10;
+pub const INTERRUPTS: u8 = 10;
 
 /// The number of an interrupt, 1 to 10.
 #[derive(Clone, Copy, PartialEq, Eq, Debug)]
-pub struct Request {
+pub struct Interrupt {
     number: u8,
 }
 
-impl Model for Request {
+impl Model for Interrupt {
     ghost use Rattle.std.specs.Prelude.{ℕ, ◌≤◌};
 
     ghost Value = { ℕ };
@@ -25,14 +25,14 @@ impl Model for Request {
     ghost inverse = { λ n. record { number = n } };
 }
 
-impl Request {
+impl Interrupt {
     /// The interrupt of this number.
-    pub fn new(number: u8) -> Request
+    pub fn new(number: u8) -> Interrupt
         requires low { 1 ≤ number }
         requires high { number ≤ 10 }
         ensures { result ≡ number }
     {
-        Request { number }
+        Interrupt { number }
     }
 
     /// Its number.
