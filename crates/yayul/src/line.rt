@@ -53,7 +53,7 @@ impl Layout {
         let statement = statement_of(text);
         let mark = Mark::of(self.location, &statement);
         let Statement { label, operation } = statement;
-        match self.operation(placing, line, &label, operation) {
+        match self.operation(placing, line, label, operation) {
             Ok(()) => Ok(mark),
             Err(kind) => Err(kind),
         }
@@ -64,31 +64,31 @@ impl Layout {
         &mut self,
         placing: &mut Placing,
         line: u32,
-        label: &Label,
+        label: Label,
         operation: Operation,
     ) -> Result<(), FaultKind>
-        ensures { (s : LaidOut) → Agrees line s self.old placing.old → LeadsOn line (statement_effect line s label.now operation) self.new placing.new result }
+        ensures { (s : LaidOut) → Agrees line s self.old placing.old → LeadsOn line (statement_effect line s label operation) self.new placing.new result }
     {
         match operation {
             Operation::Nothing => self.label_alone(label),
-            Operation::Unknown => Err(self.refused(label, FaultKind::UnknownOperator)),
-            Operation::Setloc(operand) => self.setloc(label, operand),
+            Operation::Unknown => Err(self.refused(&label, FaultKind::UnknownOperator)),
+            Operation::Setloc(operand) => self.setloc(&label, operand),
             Operation::Bank(range, number) => {
-                self.relocate(label, placing.bank_target(range, number))
+                self.relocate(&label, placing.bank_target(range, number))
             }
             Operation::Erase(count) => self.erase(label, count),
             Operation::Equals(operand) => self.equals(label, operand),
-            Operation::Ebank(operand) => self.ebank(label, operand),
+            Operation::Ebank(operand) => self.ebank(&label, operand),
             Operation::Gives(Some(content)) => self.give(placing, line, label, content),
-            Operation::Gives(None) => Err(self.refused(label, FaultKind::BadOperand)),
+            Operation::Gives(None) => Err(self.refused(&label, FaultKind::BadOperand)),
         }
     }
 
     // A line with a label alone, or without a field.
-    fn label_alone(&mut self, label: &Label) -> Result<(), FaultKind>
-        ensures { LeadsTo (label_alone (layout_of self.old) label.now) (layout_of self.new) result }
+    fn label_alone(&mut self, label: Label) -> Result<(), FaultKind>
+        ensures { LeadsTo (label_alone (layout_of self.old) label) (layout_of self.new) result }
     {
-        match (self.label_fault(label), self.location.value()) {
+        match (self.label_fault(&label), self.location.value()) {
             (Some(kind), _) => Err(kind),
             (None, Some(value)) => self.define(label, value),
             (None, None) => Ok(()),
@@ -181,11 +181,11 @@ impl Layout {
     }
 
     // EQUALS and =: the label has the value of the operand.
-    fn equals(&mut self, label: &Label, operand: Option<Operand>) -> Result<(), FaultKind>
-        ensures { LeadsTo (valued (layout_of self.old) label.now (early_value (layout_of self.old) operand)) (layout_of self.new) result }
+    fn equals(&mut self, label: Label, operand: Option<Operand>) -> Result<(), FaultKind>
+        ensures { LeadsTo (valued (layout_of self.old) label (early_value (layout_of self.old) operand)) (layout_of self.new) result }
     {
         let value = self.value_of(&operand);
-        match (self.equals_fault(label, &value), value) {
+        match (self.equals_fault(&label, &value), value) {
             (Some(kind), _) => Err(kind),
             (None, Ok(value)) => self.define(label, value),
             (None, Err(_)) => unreachable!(),
@@ -230,11 +230,11 @@ impl Layout {
     }
 
     // ERASE: passes erasable words.
-    fn erase(&mut self, label: &Label, count: Numeral) -> Result<(), FaultKind>
-        ensures { LeadsTo (erase (layout_of self.old) label.now count) (layout_of self.new) result }
+    fn erase(&mut self, label: Label, count: Numeral) -> Result<(), FaultKind>
+        ensures { LeadsTo (erase (layout_of self.old) label count) (layout_of self.new) result }
     {
         let end = self.location.erased_to(count);
-        match (self.erase_fault(label, &end), self.location.value(), end) {
+        match (self.erase_fault(&label, &end), self.location.value(), end) {
             (Some(kind), _, _) => Err(kind),
             (None, Some(value), Ok(end)) => match self.define(label, value) {
                 Ok(()) => {
@@ -264,12 +264,12 @@ impl Layout {
         &mut self,
         placing: &mut Placing,
         line: u32,
-        label: &Label,
+        label: Label,
         content: Content,
     ) -> Result<(), FaultKind>
-        ensures { (s : LaidOut) → Agrees line s self.old placing.old → LeadsOn line (gives line s label.now content) self.new placing.new result }
+        ensures { (s : LaidOut) → Agrees line s self.old placing.old → LeadsOn line (gives line s label content) self.new placing.new result }
     {
-        let fault = self.give_fault(placing, label, &content);
+        let fault = self.give_fault(placing, &label, &content);
         match (fault, self.location.word_place()) {
             (Some(kind), _) => Err(kind),
             (None, Some(place)) => match self.define(label, Value::Fixed(place.0, place.1)) {
@@ -335,9 +335,9 @@ impl Layout {
     }
 
     // Gives a name its value.
-    fn define(&mut self, label: &Label, value: Value) -> Result<(), FaultKind>
-        requires { is_twice (layout_of self.old) label.now ≡ false }
-        ensures ok { OnOk result (layout_of self.new ≡ defined (layout_of self.old) label.now value) }
+    fn define(&mut self, label: Label, value: Value) -> Result<(), FaultKind>
+        requires { is_twice (layout_of self.old) label ≡ false }
+        ensures ok { OnOk result (layout_of self.new ≡ defined (layout_of self.old) label value) }
         ensures err { IfErr result (λ kind. kind ≡ FaultKind.NoMemory) }
     {
         match label {
@@ -355,7 +355,7 @@ impl Layout {
         ensures { result ≡ is_twice (layout_of self.now) label.now }
     {
         match label {
-            Label::Named(name) => self.symbols.symbol(name.as_slice()).is_some(),
+            Label::Named(name) => self.symbols.named(name).is_some(),
             Label::Missing => false,
             Label::Malformed => false,
         }

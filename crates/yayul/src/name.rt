@@ -15,7 +15,7 @@ pub(crate) const NAME_LENGTH: usize = 8;
 /// The name of a symbol: 1 to 8 characters in the form of a label.
 #[derive(Drop)]
 pub(crate) struct Name {
-    bytes: ArrayVec<u8, NAME_LENGTH>,
+    key: ArrayVec<u8, NAME_LENGTH>,
 }
 
 impl Model for Name {
@@ -23,7 +23,7 @@ impl Model for Name {
 
     ghost Value = { List ℕ };
 
-    ghost view = { λ n. n.bytes.items };
+    ghost view = { λ n. n.key.items };
 }
 
 impl Name {
@@ -33,19 +33,28 @@ impl Name {
     {
         if is_name(text) {
             Some(Name {
-                bytes: key_of(text),
+                key: key_of(text),
             })
         } else {
             None
         }
     }
 
-    /// Its characters.
-    pub(crate) fn as_slice(&self) -> &[u8]
-        ensures value { result.now ≡ self.now }
-        ensures fits { length result.now ≤ NAME_LENGTH }
+    /// Its characters, as a table of symbols holds them.
+    pub(crate) fn key(&self) -> &ArrayVec<u8, NAME_LENGTH>
+        ensures { result.now.items ≡ self.now }
     {
-        self.bytes.as_slice()
+        &self.key
+    }
+
+    /// The same, without a copy.
+    pub(crate) fn into_key(self) -> ArrayVec<u8, NAME_LENGTH>
+        ensures value { result.items ≡ self }
+        ensures fits { length result.items ≤ NAME_LENGTH }
+    {
+        // `len` is called for its clause that a name fits, which the proof cites.
+        let _len = self.key.len();
+        self.key
     }
 }
 

@@ -50,6 +50,13 @@ impl Symbols {
         values.get(&key_of(name)).copied()
     }
 
+    // The value of a name that a line holds, without a copy of it.
+    pub(crate) fn named(&self, name: &Name) -> Option<Value>
+        ensures { result ≡ value_in self.now name.now }
+    {
+        self.values.get(name.key()).copied()
+    }
+
     /// How many symbols there are.
     pub(crate) fn len(&self) -> usize
         ensures { result ≡ length self.now }
@@ -67,12 +74,12 @@ impl Symbols {
     }
 
     // Adds a name that is not there.
-    pub(crate) fn define(&mut self, name: &Name, value: Value) -> Result<(), AllocError>
-        requires { value_in self.old name.now ≡ None }
-        ensures ok { OnOk result (self.new ≡ self.old ++ (name.now, value) ∷ []) }
+    pub(crate) fn define(&mut self, name: Name, value: Value) -> Result<(), AllocError>
+        requires { value_in self.old name ≡ None }
+        ensures ok { OnOk result (self.new ≡ self.old ++ (name, value) ∷ []) }
         ensures err { OnErr result (self.new ≡ self.old) }
     {
-        self.values.insert(key_of(name.as_slice()), value)?;
+        self.values.insert(name.into_key(), value)?;
         Ok(())
     }
 }
@@ -83,8 +90,8 @@ pub(crate) fn key_of(text: &[u8]) -> ArrayVec<u8, NAME_LENGTH>
     ensures { result.items ≡ text.now }
 {
     let mut key = ArrayVec::new();
-    for byte in text {
-        key.push(*byte);
+    match key.try_extend_from_slice(text) {
+        Ok(()) => key,
+        Err(_) => unreachable!(),
     }
-    key
 }

@@ -160,7 +160,7 @@ fn term_value(
     match term {
         Term::Number(Some(number)) => Ok(Point::of_value(Value::Num(*number))),
         Term::Number(None) => Err(FaultKind::OutOfRange),
-        Term::Named(name) => match symbols.symbol(name.as_slice()) {
+        Term::Named(name) => match symbols.named(name) {
             Some(value) => Ok(Point::of_value(value)),
             None => Err(missing),
         },

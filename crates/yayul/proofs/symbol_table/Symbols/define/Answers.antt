@@ -6,20 +6,20 @@ use Rattle.yayul.proofs.Names.{lookup-seen, insert-seen, same_key, seen}
 use Rattle.yayul.proofs.symbol_table.Symbols.define.Goals as goal
 
 -- the name is not there
-new : (c : goal.In_ok-insert) → value_in (seen (λ name. name.items) c.self.inside.values.entries) c.key_of.result.items ≡ None
+new : (c : goal.In_ok-insert) → value_in (seen (λ name. name.items) c.self.inside.values.entries) c.into_key.result.items ≡ None
 new c =
-    ap (λ name. value_in (seen (λ name. name.items) c.self.inside.values.entries) name) (c.key_of.ensures ∙ c.as_slice.ensures.value)
-    ∙ ap (λ table. value_in table c.args.name.now) c.self.view_is ∙ c.requires
+    ap (λ name. value_in (seen (λ name. name.items) c.self.inside.values.entries) name) c.into_key.ensures.value
+    ∙ ap (λ table. value_in table c.args.name) c.self.view_is ∙ c.requires
 
 pub invariant_of-self-2 : goal.invariant_of-self-2
 invariant_of-self-2 c =
     rw (c.in_ok-insert.ensures.entries
-    ∙ insert_entry-new (same_key (λ name. name.items)) c.self.inside.values c.key_of.result _ (lookup-seen (λ name. name.items) c.self.inside.values.entries c.key_of.result ∙ new c))
-    (All-push (λ e. length e.0.items ≤ 8) c.self.inside.values.entries (c.key_of.result, _) c.self.invariant (rw (c.key_of.ensures) c.as_slice.ensures.fits))
+    ∙ insert_entry-new (same_key (λ name. name.items)) c.self.inside.values c.into_key.result _ (lookup-seen (λ name. name.items) c.self.inside.values.entries c.into_key.result ∙ new c))
+    (All-push (λ e. length e.0.items ≤ 8) c.self.inside.values.entries (c.into_key.result, _) c.self.invariant c.into_key.ensures.fits)
 
 pub returns-clause-ok : goal.returns-clause-ok
 returns-clause-ok c =
     ap (seen (λ name. name.items)) c.in_ok-insert.ensures.entries
-    ∙ insert-seen (λ name. name.items) c.self.inside.values.entries c.key_of.result c.args.value (new c)
-    ∙ ap (λ table. table ++ (c.key_of.result.items, c.args.value) ∷ []) c.self.view_is
-    ∙ ap (λ name. c.args.self.now ++ (name, c.args.value) ∷ []) (c.key_of.ensures ∙ c.as_slice.ensures.value)
+    ∙ insert-seen (λ name. name.items) c.self.inside.values.entries c.into_key.result c.args.value (new c)
+    ∙ ap (λ table. table ++ (c.into_key.result.items, c.args.value) ∷ []) c.self.view_is
+    ∙ ap (λ name. c.args.self.now ++ (name, c.args.value) ∷ []) c.into_key.ensures.value
