@@ -24,7 +24,7 @@ use std::marker::Model;
 use words::{Wide, Word};
 
 /// How many interrupts there are.
-const INTERRUPTS: usize = 10;
+const INTERRUPTS: usize = feed::INTERRUPTS as usize;
 
 /// The address at which a run starts.
 pub(crate) const FIRST_ADDRESS: u16 = 0o4000;
@@ -254,7 +254,7 @@ impl Machine {
         if !self.asks {
             return None;
         }
-        for number in 1..11u8 {
+        for number in 1..feed::INTERRUPTS + 1 {
             if self.requests[usize::from(number) - 1] {
                 return Some(Interrupt::new(number));
             }
