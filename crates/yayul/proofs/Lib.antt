@@ -6,6 +6,7 @@ mod Rows
 mod ListingRows
 mod Least
 mod LeastOfSet
+mod Labels
 mod Late
 mod Lines
 mod Tables

@@ -3,7 +3,7 @@
 ghost use Rattle.std.specs.Prelude.{◌≡◌, Some};
 ghost use Rattle.yayul.specs.Layout.{fault_number, fault_if, standing};
 ghost use Rattle.yayul.specs.Program.{is_before};
-ghost use Rattle.yayul.specs.Inside.Answers.{least_kind, lesser_if};
+ghost use Rattle.yayul.specs.Inside.Answers.{least_kind, lesser_if, lesser_kind};
 ghost use Rattle.yayul.specs.Told.{fault_text};
 ghost use Rattle.yayul.specs.Inside.Waiting.{held};
 
@@ -121,9 +121,20 @@ fn lesser_fault(least: Option<FaultKind>, other: Option<FaultKind>) -> Option<Fa
     ensures { result ≡ lesser_if least other }
 {
     match (least, other) {
-        (Some(kind), Some(next)) if next.number() < kind.number() => Some(next),
-        (Some(kind), _) => Some(kind),
+        (Some(kind), Some(next)) => Some(lesser_kind(kind, next)),
+        (Some(kind), None) => Some(kind),
         (None, next) => next,
+    }
+}
+
+/// Of two kinds of fault, the one with the lesser number.
+pub(crate) fn lesser_kind(kind: FaultKind, next: FaultKind) -> FaultKind
+    ensures { result ≡ lesser_kind kind next }
+{
+    if next.number() < kind.number() {
+        next
+    } else {
+        kind
     }
 }
 

@@ -2,17 +2,15 @@
 
 ghost use Rattle.std.specs.Prelude.{◌≡◌, ◌<◌, ◌∷◌, [], false, ◌++◌, ◌&&◌, not, IfOk, IfErr, OnOk, Some};
 ghost use Rattle.std.specs.Result.{result_err};
-ghost use Rattle.yayul.specs.Layout.{Layout as LaidOut, fault_number, fault_if, standing, start, word_place, width, lacks_room, is_missing, is_twice, defined, label_faults, label_alone, refused, bare_faults, relocated, and_then, location_at, erasable_place, early_value, valued, ebank, erase, gives, statement_effect, text_faults};
+ghost use Rattle.yayul.specs.Layout.{Layout as LaidOut, fault_if, standing, start, word_place, width, lacks_room, is_missing, is_twice, defined, label_faults, label_alone, refused, bare_faults, relocated, and_then, location_at, erasable_place, early_value, valued, ebank, erase, gives, statement_effect, text_faults};
 ghost use Rattle.yayul.specs.declared.faults.FaultKind.TheVariants.{BankFull};
-ghost use Rattle.yayul.specs.Inside.Answers.{layout_of, least_kind, LeadsTo, Agrees, LeadsOn, LineLeadsOn, TakesWords, passed, tested_faults};
+ghost use Rattle.yayul.specs.Inside.Answers.{layout_of, least_kind, labelled, words_faults, LeadsTo, Agrees, LeadsOn, LineLeadsOn, TakesWords, passed};
 ghost use Rattle.yayul.specs.Inside.Representation.{request_of, holds_word};
 ghost use Rattle.yayul.specs.Inside.Sound.{IsLocation};
 
 use crate::bank::{ErasableBank, FixedBank};
-use crate::faults::{FaultKind, least_fault};
-use crate::language::{
-    Content, Label, Location, Numeral, Operand, Operation, Statement,
-};
+use crate::faults::{FaultKind, least_fault, lesser_kind};
+use crate::language::{Content, Label, Location, Numeral, Operand, Operation, Statement};
 use crate::layout::{Layout, Placing};
 use crate::mark::Mark;
 use crate::request::WordRequest;
@@ -88,22 +86,13 @@ impl Layout {
     fn label_alone(&mut self, label: Label) -> Result<(), FaultKind>
         ensures { LeadsTo (label_alone (layout_of self.old) label) (layout_of self.new) result }
     {
-        match (self.label_fault(&label), self.location.value()) {
-            (Some(kind), _) => Err(kind),
-            (None, Some(value)) => self.define(label, value),
-            (None, None) => Ok(()),
+        if self.lacks_place(&label) {
+            return Err(self.refused(&label, FaultKind::BankFull));
         }
-    }
-
-    // The least fault of a line with a label alone, or without a field.
-    fn label_fault(&self, label: &Label) -> Option<FaultKind>
-        ensures { result ≡ least_kind (label_alone (layout_of self.now) label.now).faults }
-    {
-        least_fault(&[
-            FaultKind::BadLabel.when(label.is_malformed()),
-            FaultKind::TwiceDefined.when(self.is_twice(label)),
-            FaultKind::BankFull.when(self.lacks_place(label)),
-        ])
+        match self.location.value() {
+            Some(value) => self.define(label, value),
+            None => Ok(()),
+        }
     }
 
     // Whether a label stands where no word may.
@@ -113,15 +102,14 @@ impl Layout {
         !label.is_missing() && self.location.is_past_end()
     }
 
-    // The least fault of a line that may have a label, and has a fault of its own: of a greater kind than those of labels.
+    // The least fault of a line that may have a label, and has a fault of its own.
     fn refused(&self, label: &Label, kind: FaultKind) -> FaultKind
-        requires { 14 < fault_number kind }
         ensures { least_kind (refused (layout_of self.now) label.now kind).faults ≡ Some result }
     {
         if label.is_malformed() {
-            FaultKind::BadLabel
+            lesser_kind(FaultKind::BadLabel, kind)
         } else if self.is_twice(label) {
-            FaultKind::TwiceDefined
+            lesser_kind(FaultKind::TwiceDefined, kind)
         } else {
             kind
         }
@@ -184,23 +172,13 @@ impl Layout {
     fn equals(&mut self, label: Label, operand: Option<Operand>) -> Result<(), FaultKind>
         ensures { LeadsTo (valued (layout_of self.old) label (early_value (layout_of self.old) operand)) (layout_of self.new) result }
     {
-        let value = self.value_of(&operand);
-        match (self.equals_fault(&label, &value), value) {
-            (Some(kind), _) => Err(kind),
-            (None, Ok(value)) => self.define(label, value),
-            (None, Err(_)) => unreachable!(),
+        if label.is_missing() {
+            return Err(FaultKind::BadLabel);
         }
-    }
-
-    // The least fault of EQUALS and =.
-    fn equals_fault(&self, label: &Label, value: &Result<Value, FaultKind>) -> Option<FaultKind>
-        ensures { result ≡ least_kind (valued (layout_of self.now) label.now value.now).faults }
-    {
-        least_fault(&[
-            FaultKind::BadLabel.when(label.is_missing() || label.is_malformed()),
-            FaultKind::TwiceDefined.when(self.is_twice(label)),
-            fault_of(value),
-        ])
+        match self.value_of(&operand) {
+            Ok(value) => self.define(label, value),
+            Err(kind) => Err(self.refused(&label, kind)),
+        }
     }
 
     // EBANK=: the erasable bank of 2CADR becomes that of the operand's place.
@@ -235,7 +213,7 @@ impl Layout {
     {
         let end = self.location.erased_to(count);
         match (self.erase_fault(&label, &end), self.location.value(), end) {
-            (Some(kind), _, _) => Err(kind),
+            (Some(kind), _, _) => Err(self.refused(&label, kind)),
             (None, Some(value), Ok(end)) => match self.define(label, value) {
                 Ok(()) => {
                     self.location = end;
@@ -247,13 +225,11 @@ impl Layout {
         }
     }
 
-    // The least fault of ERASE, which comes to an end.
+    // The least fault of ERASE, which comes to an end, besides those of its label.
     fn erase_fault(&self, label: &Label, end: &Result<Location, FaultKind>) -> Option<FaultKind>
-        ensures { result ≡ least_kind (standing (label_faults (layout_of self.now) label.now ++ fault_if (not (is_missing label.now) && lacks_room 1 self.now.location) BankFull ∷ result_err end.now ∷ [])) }
+        ensures { result ≡ least_kind (standing (fault_if (not (is_missing label.now) && lacks_room 1 self.now.location) BankFull ∷ result_err end.now ∷ [])) }
     {
         least_fault(&[
-            FaultKind::BadLabel.when(label.is_malformed()),
-            FaultKind::TwiceDefined.when(self.is_twice(label)),
             FaultKind::BankFull.when(self.lacks_place(label)),
             fault_of(end),
         ])
@@ -269,9 +245,9 @@ impl Layout {
     ) -> Result<(), FaultKind>
         ensures { (s : LaidOut) → Agrees line s self.old placing.old → LeadsOn line (gives line s label content) self.new placing.new result }
     {
-        let fault = self.give_fault(placing, &label, &content);
+        let fault = self.give_fault(placing, &content);
         match (fault, self.location.word_place()) {
-            (Some(kind), _) => Err(kind),
+            (Some(kind), _) => Err(self.refused(&label, kind)),
             (None, Some(place)) => match self.define(label, Value::Fixed(place.0, place.1)) {
                 Ok(()) => self.ask(
                     placing,
@@ -290,14 +266,12 @@ impl Layout {
         }
     }
 
-    // The least fault of a line that gives words.
-    fn give_fault(&self, placing: &Placing, label: &Label, content: &Content) -> Option<FaultKind>
-        ensures { result ≡ least_kind (tested_faults (layout_of self.now) placing.now.rope label.now (width content.now)) }
+    // The least fault of a line that gives words, besides those of its label.
+    fn give_fault(&self, placing: &Placing, content: &Content) -> Option<FaultKind>
+        ensures { result ≡ least_kind (standing (words_faults (layout_of self.now) placing.now.rope (width content.now))) }
     {
         let width = content.width();
         least_fault(&[
-            FaultKind::BadLabel.when(label.is_malformed()),
-            FaultKind::TwiceDefined.when(self.is_twice(label)),
             FaultKind::BankFull.when(self.location.lacks_room(width)),
             FaultKind::PlaceTaken.when(self.is_taken(placing, width)),
             FaultKind::CodeInErasable.when(self.location.is_erasable()),
@@ -334,19 +308,18 @@ impl Layout {
         }
     }
 
-    // Gives a name its value.
+    // Gives a name its value, where it has none yet.
     fn define(&mut self, label: Label, value: Value) -> Result<(), FaultKind>
-        requires { is_twice (layout_of self.old) label ≡ false }
-        ensures ok { OnOk result (layout_of self.new ≡ defined (layout_of self.old) label value) }
-        ensures err { IfErr result (λ kind. kind ≡ FaultKind.NoMemory) }
+        ensures { LeadsTo (labelled (layout_of self.old) label value) (layout_of self.new) result }
     {
         match label {
             Label::Named(name) => match self.symbols.define(name, value) {
-                Ok(()) => Ok(()),
+                Ok(true) => Ok(()),
+                Ok(false) => Err(FaultKind::TwiceDefined),
                 Err(_) => Err(FaultKind::NoMemory),
             },
             Label::Missing => Ok(()),
-            Label::Malformed => Ok(()),
+            Label::Malformed => Err(FaultKind::BadLabel),
         }
     }
 

@@ -32,9 +32,7 @@ impl Name {
         ensures { result ≡ (if is_name text.now then Some text.now else None) }
     {
         if is_name(text) {
-            Some(Name {
-                key: key_of(text),
-            })
+            Some(Name { key: key_of(text) })
         } else {
             None
         }

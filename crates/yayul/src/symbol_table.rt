@@ -1,6 +1,6 @@
 //! Symbols and their values, in order of definition.
 
-ghost use Rattle.std.specs.Prelude.{◌≡◌, ◌≤◌, [], ◌∷◌, ◌++◌, None, OnOk, OnErr, IfSome, length, slice_get};
+ghost use Rattle.std.specs.Prelude.{◌≡◌, ◌≤◌, [], ◌∷◌, ◌++◌, IfOk, OnErr, IfSome, is_some, not, if◌then◌else◌, length, slice_get};
 ghost use Rattle.std.specs.Option.{option_map};
 ghost use Rattle.agc_text.specs.Tables.{value_in};
 
@@ -8,6 +8,7 @@ use crate::name::{NAME_LENGTH, Name};
 use crate::values::Value;
 use arrayvec::ArrayVec;
 use indexmap::IndexMap;
+use indexmap::map::Entry;
 use std::alloc::{AllocError, Global};
 use std::marker::Model;
 
@@ -73,14 +74,17 @@ impl Symbols {
         Some((entry.0.as_slice(), *entry.1))
     }
 
-    // Adds a name that is not there.
-    pub(crate) fn define(&mut self, name: Name, value: Value) -> Result<(), AllocError>
-        requires { value_in self.old name ≡ None }
-        ensures ok { OnOk result (self.new ≡ self.old ++ (name, value) ∷ []) }
+    // Adds a name, and answers whether it does: where the name is there already, nothing changes.
+    pub(crate) fn define(&mut self, name: Name, value: Value) -> Result<bool, AllocError>
+        ensures added { IfOk result (λ added. added ≡ not (is_some (value_in self.old name))) }
+        ensures ok { IfOk result (λ added. self.new ≡ (if added then self.old ++ (name, value) ∷ [] else self.old)) }
         ensures err { OnErr result (self.new ≡ self.old) }
     {
-        self.values.insert(name.into_key(), value)?;
-        Ok(())
+        let Entry::Vacant(entry) = self.values.entry(name.into_key())? else {
+            return Ok(false);
+        };
+        entry.insert(value);
+        Ok(true)
     }
 }
 

@@ -4,7 +4,7 @@ use Rattle.std.specs.List.{flat_map}
 use Rattle.std.specs.Result.{result_err, result_unwrap_or}
 use Rattle.rope.specs.Places.{Words, banks, no_words, with_words}
 use Rattle.yayul.specs.Forms.{statement_of}
-use Rattle.yayul.specs.Layout.{Request, Layout, LineEffect, start, standing, fault_if, label_faults, lacks_room, is_erasable, after_words, extends, width, fault_number, line_faults, line_effect, layout_after, layout_faults}
+use Rattle.yayul.specs.Layout.{Request, Layout, LineEffect, start, standing, fault_if, label_faults, defined, lacks_room, is_erasable, after_words, extends, width, fault_number, line_faults, line_effect, layout_after, layout_faults}
 use Rattle.yayul.specs.Listing.{shown}
 use Rattle.yayul.specs.Program.{placed, placed_from, least, no_memory}
 use Rattle.yayul.specs.Words.{extracode_of, extracode_fault, request_words, word_faults}
@@ -66,10 +66,18 @@ LineLeadsOn line s text l p (Ok mark) =
     (line_faults line s text ≡ []) × (Agrees (line + 1) (line_effect line s text).after l p × (shown_by_mark mark ≡ shown s.location (statement_of text)))
 LineLeadsOn line s text l p (Err kind) = kind ≢ NoMemory → least_kind (line_faults line s text) ≡ Some kind
 
+-- a label that is given a value
+abbrev pub labelled : Layout → Label → Value → LineEffect
+labelled s label value = record { faults = standing (label_faults s label); after = defined s label value }
+
+-- the conditions on so many words, where these stand before them
+abbrev pub words_faults : Layout → Words → ℕ → List (Option FaultKind)
+words_faults s words count =
+    fault_if (lacks_room count s.location) BankFull ∷ fault_if (holds_word words s.location count) PlaceTaken ∷ fault_if (is_erasable s.location) CodeInErasable ∷ []
+
 -- the faults of a line that gives so many words, where these stand before it
 abbrev pub tested_faults : Layout → Words → Label → ℕ → List FaultKind
-tested_faults s words label count =
-    standing (label_faults s label ++ fault_if (lacks_room count s.location) BankFull ∷ fault_if (holds_word words s.location count) PlaceTaken ∷ fault_if (is_erasable s.location) CodeInErasable ∷ [])
+tested_faults s words label count = standing (label_faults s label ++ words_faults s words count)
 
 -- what stands after the words of a content, besides these
 abbrev pub passed : Layout → Content → Layout
