@@ -172,8 +172,16 @@ fn faults_of_forward_references(rt: HostRuntime) {
 #[test]
 fn least_fault_of_words(rt: HostRuntime) {
     let rows: [(&[u8], u32, u8); 8] = [
-        (b" SETLOC 4000\n CA NOSUCH\n INDEX LAST\nLAST OCT 1\n", 2, 17),
-        (b" SETLOC 4000\n CA NOSUCH\n INDEX LAST\nLAST OCT 1\n FROB\n", 5, 15),
+        (
+            b" SETLOC 4000\n CA NOSUCH\n INDEX LAST\nLAST OCT 1\n",
+            2,
+            17,
+        ),
+        (
+            b" SETLOC 4000\n CA NOSUCH\n INDEX LAST\nLAST OCT 1\n FROB\n",
+            5,
+            15,
+        ),
         (b" INDEX LAST\n CA NOSUCH\nLAST OCT 1\n", 1, 25),
         (b" INDEX LAST\n MP 5\nLAST OCT 1\n", 1, 25),
         (b" MP 5\n INDEX LAST\nLAST OCT 1\n", 1, 23),
@@ -245,7 +253,10 @@ fn many_references_to_one_label(rt: HostRuntime) -> Result<(), AllocError> {
             let rope = program.rope();
             for bank in 4..34u16 {
                 for offset in 0..1_000u16 {
-                    if let (Some(bank), Some(offset)) = (Bank::try_new(bank), Offset::try_new(offset)) {
+                    if let (Some(bank), Some(offset)) = (
+                        Bank::try_new(bank),
+                        Offset::try_new(offset),
+                    ) {
                         assert!(rt; rope.has(bank, offset));
                         assert_eq!(rt; rope.word(bank, offset).to_u16(), 0o14000);
                     }

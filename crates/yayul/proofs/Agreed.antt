@@ -49,15 +49,14 @@ same_keeps line s t p symbols requests keeps =
 -- a line that asks for no words, where what it does is known without the requests before it
 agreed : (line : ℕ) (s : Layout) (l after : Held) (p : Placing) (bare e : LineEffect) (result : Result (Unit {0}) FaultKind) → Agrees line s l p → Lifts s bare e
     → LeadsTo bare (layout_of after) result → LeadsOn line e after p result
-agreed line s l after p bare e (Ok x) agrees lifts leads =
-    (
-      sym lifts.faults ∙ leads.0,
-      record {
-        same = leads.1 ∙ lifts.after;
-        keeps = same_keeps (line + 1) (record s { symbols = s.symbols ++ lifts.symbols.0 }) e.after p lifts.symbols.1 lifts.requests
-            (next_keeps line (record s { symbols = s.symbols ++ lifts.symbols.0 }) p (named_keeps line s p lifts.symbols.0 agrees.keeps));
-      },
-    )
+agreed line s l after p bare e (Ok x) agrees lifts leads = (
+  sym lifts.faults ∙ leads.0,
+  record {
+    same = leads.1 ∙ lifts.after;
+    keeps = same_keeps (line + 1) (record s { symbols = s.symbols ++ lifts.symbols.0 }) e.after p lifts.symbols.1 lifts.requests
+        (next_keeps line (record s { symbols = s.symbols ++ lifts.symbols.0 }) p (named_keeps line s p lifts.symbols.0 agrees.keeps));
+  },
+)
 agreed line s l after p bare e (Err kind) agrees lifts leads = λ known. ap least_kind (sym lifts.faults) ∙ leads known
 
 module _ (line : ℕ) (s : Layout) (l after : Held) (p : Placing) (label : Label) (agrees : Agrees line s l p) where
@@ -196,8 +195,7 @@ module _ (line : ℕ) (s : Layout) (l : Held) (p : Placing) (label : Label) (con
       takes_keeps line all p q (request_for line all content (bank, offset)) named refl (ap (λ rs. meets rs (request_for line all content (bank, offset))) (defined_requests s label (Fixed bank offset)) ∙ apart) room taken in
       let next : (gives line s label content).after ≡ asked all (request_for line all content (bank, offset)) =
       ap (λ v. asked_here line (defined s label v) content) (here_value s.location bank offset place)
-      ∙ ap (λ at. option_map_or (λ q. asked all (request_for line all content q)) at all) (ap word_place (defined_keeps s label (Fixed bank offset)).0 ∙ place) in
-      (
+      ∙ ap (λ at. option_map_or (λ q. asked all (request_for line all content q)) at all) (ap word_place (defined_keeps s label (Fixed bank offset)).0 ∙ place) in (
         faults,
         record {
           same = moved ∙ ap (λ (t : Layout). record t { location = after_words (width content) t.location; extracode = extends content t.extracode }) bare ∙ ap (with_requests []) (sym next);

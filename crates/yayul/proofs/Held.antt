@@ -74,7 +74,7 @@ told_last line (f ∷ fs) (k ∷ ks) off =
       | inl before ↦ stays line m (k ∷ ks) (omega arith) ∙ sym (stays line m (fold lesser_kind k ks ∷ []) (omega arith))
       | inr after ↦
           ap (λ g. fold lesser g (on_line line ks)) (gives_way line m k (omega (arith, other)))
-              ∙ fold-on_line line k ks ∙ sym (gives_way line m (fold lesser_kind k ks) (omega (arith, other)))
+          ∙ fold-on_line line k ks ∙ sym (gives_way line m (fold lesser_kind k ks) (omega (arith, other)))
     ] in
     ap (λ g. Some g) (fold-append lesser f fs (told line k ∷ on_line line ks) ∙ by_line)
 

@@ -131,8 +131,7 @@ clear : (before after : List Request) (r : Request) (qs : List Request) → AreA
 clear before after r [] apart = tt
 clear before after r (q ∷ qs) apart =
     let none = meets_not (before ++ r ∷ after) q apart.0 in
-    let later : AreApart (before ++ r ∷ (after ++ q ∷ [])) qs = subst (λ others. AreApart others qs) (append_assoc before (r ∷ after) (q ∷ [])) apart.1 in
-    (
+    let later : AreApart (before ++ r ∷ (after ++ q ∷ [])) qs = subst (λ others. AreApart others qs) (append_assoc before (r ∷ after) (q ∷ [])) apart.1 in (
       (not_met (stands_at q.bank q.offset) before after r none.0, λ two. not_met (stands_at q.bank (q.offset + 1)) before after r (none.1 two)),
       clear before (after ++ q ∷ []) r qs later,
     )
@@ -209,17 +208,17 @@ module _ (table : List (List ℕ × Value)) where
             ∙ ap (λ first. first ++ filter (is_waiting waiting) (r ∷ back)) (sym (sym (filter-alike some waiting front alike_front) ∙ none))
             ∙ sym (filter-append (is_waiting waiting) front (r ∷ back));
         rope = ap (λ words. with_words words (placed table r)) (
-              h.rope ∙ rope-split some front back r
-              ∙ ap (λ ps. with_words (with_words (with_words no_words ps) (places table some r)) (flat_map (places table some) back)) (places-alike table some waiting front alike_front)
-              ∙ ap (λ ps. with_words (with_words before (places table some r)) ps) (places-alike table some waiting back alike_back)
-              ∙ ap (λ words. with_words (with_words before (placed_from r.bank r.offset words)) later) (words-waiting table some r (first_waits waiting r)))
+            h.rope ∙ rope-split some front back r
+            ∙ ap (λ ps. with_words (with_words (with_words no_words ps) (places table some r)) (flat_map (places table some) back)) (places-alike table some waiting front alike_front)
+            ∙ ap (λ ps. with_words (with_words before (places table some r)) ps) (places-alike table some waiting back alike_back)
+            ∙ ap (λ words. with_words (with_words before (placed_from r.bank r.offset words)) later) (words-waiting table some r (first_waits waiting r)))
             ∙ patched-words r before later (request_words table r) (width-words table r) within.0.1 (elsewhere-all waiting back r within.1 (apart-back [] front back r h.ordered.apart))
             ∙ ap (λ words. with_words (with_words before (placed_from r.bank r.offset words)) later) (sym (words-settled table waiting r settled))
             ∙ sym (rope-split waiting front back r);
         fault = ap (λ first. held first r.line (least_kind (request_faults table r))) (
-              h.fault ∙ ap least (faults-append table some front (r ∷ back)
-              ∙ ap (λ fs. standing_faults table some front ++ fs) (faults-waiting table some r back (first_waits waiting r) ∙ faults-alike table some waiting back alike_back)
-              ∙ ap (λ fs. fs ++ standing_faults table waiting back) (faults-alike table some waiting front alike_front)))
+            h.fault ∙ ap least (faults-append table some front (r ∷ back)
+            ∙ ap (λ fs. standing_faults table some front ++ fs) (faults-waiting table some r back (first_waits waiting r) ∙ faults-alike table some waiting back alike_back)
+            ∙ ap (λ fs. fs ++ standing_faults table waiting back) (faults-alike table some waiting front alike_front)))
             ∙ sym (told_among r.line (standing_faults table waiting front) (standing_faults table waiting back) (request_faults table r) (faults-off table r.line waiting front off_front) (faults-off table r.line waiting back off_back))
             ∙ ap (λ fs. least (standing_faults table waiting front ++ fs)) (sym (faults-settled table waiting r back settled))
             ∙ ap least (sym (faults-append table waiting front (r ∷ back)));

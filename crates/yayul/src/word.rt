@@ -83,11 +83,7 @@ fn set_words(rope: &mut Rope, bank: FixedBank, offset: Offset, words: LineWords)
 }
 
 // Makes the words of a request, in whose places words stand, and tells its least fault.
-pub(crate) fn patch(
-    rope: &mut Rope,
-    symbols: &Symbols,
-    request: &WordRequest,
-) -> Option<FaultKind>
+pub(crate) fn patch(rope: &mut Rope, symbols: &Symbols, request: &WordRequest) -> Option<FaultKind>
     requires room { request.now.offset + width request.now.content ≤ bank_words }
     requires here { stands rope.old request.now.bank request.now.offset ≡ true }
     requires next { 1 < width request.now.content → stands rope.old request.now.bank (request.now.offset + 1) ≡ true }
@@ -275,7 +271,10 @@ fn channel_in(size: u16, value: Value) -> Result<u16, FaultKind>
 }
 
 // The least fault of a request that comes to words or a fault.
-pub(crate) fn request_fault(request: &WordRequest, words: &Result<LineWords, FaultKind>) -> Option<FaultKind>
+pub(crate) fn request_fault(
+    request: &WordRequest,
+    words: &Result<LineWords, FaultKind>,
+) -> Option<FaultKind>
     ensures { result ≡ least_kind (standing (result_err (result_map_both words_in (λ kind. kind) words.now) ∷ extracode_fault (extracode_of request.now.content) request.now.extracode ∷ [])) }
 {
     least_fault(&[
