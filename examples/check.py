@@ -8,6 +8,7 @@ In these each fenced block says by its first word what it is:
   run N    what `agcws run` writes for the last source in N steps
   debug SRC FEED   a session of `agcws debug`: commands, each after '> ', and the replies to each. A block `debug` goes on with it
   debug my.agc     a session over the last source and feed
+  extended SRC FEED   a session of `agcws debug --extended`, as of `debug`
   image V  the bytes with which the image of version V of the last source begins, in hexadecimal
   shell    commands, each after '$ ', and what each writes, run in a folder with my.agc, my.feed and examples/, where agcws is found;
            a last line '..' stands for the rest
@@ -21,23 +22,32 @@ language stands in a source whose listing is compared, and each instruction in a
 The last line is 'N passed, M failed'."""
 
 import os
+import random
 import re
+import resource
 import select
+import signal
 import subprocess
 import sys
 import tempfile
+import time
 
 sys.dont_write_bytecode = True
 EXAMPLES = os.path.dirname(os.path.abspath(__file__))
 ROOT = os.path.dirname(EXAMPLES)
 sys.path.insert(0, f"{ROOT}/gate")
+from covers import check_cover
 from files import read, write
-from tally import end, told
+from one_processor import second_makers
+from rows import check_rows
+from tally import end, is_built, told
+from terminal import CTRL_C, Terminal
+from traces import check_trace
 
 PROGRAM = f"{ROOT}/crates/agcws/out/agcws"
 IMAGE_BYTES = 73728
-# The most seconds that a reply is awaited.
-WAIT = 60
+# The most seconds that a reply is awaited, and that one is after a wrong one.
+WAIT, WAIT_AFTER_WRONG = 60, 0.1
 
 
 def agcws(*words):
@@ -49,18 +59,21 @@ def agcws(*words):
 class Session:
     """A session of `agcws debug` through pipes: the replies to each command are awaited before the next one is sent."""
 
-    def __init__(self, source, feed):
-        self.ran = subprocess.Popen([PROGRAM, "debug", source, feed], stdin=subprocess.PIPE, stdout=subprocess.PIPE, stderr=subprocess.PIPE)
+    def __init__(self, source, feed, *options):
+        self.ran = subprocess.Popen([PROGRAM, "debug", *options, source, feed], stdin=subprocess.PIPE, stdout=subprocess.PIPE, stderr=subprocess.PIPE)
+        self.wait = WAIT
 
     def ask(self, label, command, replies):
         """Sends a command with its line feed, and compares as many bytes as the replies have."""
         os.write(self.ran.stdin.fileno(), command)
         got = b""
-        while len(got) < len(replies) and select.select([self.ran.stdout], [], [], WAIT)[0]:
+        while len(got) < len(replies) and select.select([self.ran.stdout], [], [], self.wait)[0]:
             part = os.read(self.ran.stdout.fileno(), len(replies) - len(got))
             if not part:
                 break
             got += part
+        if got != replies:
+            self.wait = WAIT_AFTER_WRONG
         told(f"{label}: {command!r}", got == replies, f"wanted {replies[:300]!r}, got {got[:300]!r}")
 
     def writes(self):
@@ -107,6 +120,69 @@ def check_examples(room):
     others = with_ending(".feed") - {row[1].removesuffix(".feed") for row in rows}
     told("each feed is run", not others, " ".join(others))
     check_names()
+
+
+def check_trace_of_inputs(room):
+    """What INDEX adds, here minus one, and what inputs ask for: the keyboards' channels, DINC of a zero, and RUPT."""
+    source = write(f"{room}/traced.agc", b" SETLOC 100\nX ERASE\n SETLOC 4000\n CA MINUS\n TS X\n INDEX X\n CA TABLE +1\nDONE TCF DONE\nMINUS OCT 77776\nTABLE OCT 7\n OCT 10\n")
+    feed = write(f"{room}/traced.feed", b"8 CHAN 015 00021\n8 TIME6 DINC\n8 RUPT 10\n8 CDUX PCDU\n")
+    lines = [
+        b"1         2         02,4000  34005  CA MINUS            A=177776\n",
+        b"2         4         02,4001  54100  TS X                X=77776\n",
+        b"3         6         02,4002  50100  INDEX X             -\n",
+        b"4         8         02,4003  34006  CA 4007 -1          A=000007\n",
+        b"5         8         -        INPUT  CHAN 015 00021 ASKS KEYRUPT1   CH015=00021\n",
+        b"6         9         -        INPUT  TIME6 DINC ASKS T6RUPT   0031=00000\n",
+        b"7         9         -        INPUT  RUPT 10 ASKS RUPT10   -\n",
+        b"8         10        -        INPUT  CDUX PCDU           0032=00001\n",
+    ]
+    compare("a trace of inputs", agcws("trace", source, feed, "8"), 0, b"".join(lines))
+
+
+def example_runs():
+    """The examples that are run: the name of each, and its source and its feed."""
+    for line in text_of("examples/runs.txt").split("\n"):
+        if line and not line.startswith("#"):
+            name, feed, _ = line.split()
+            yield name, [f"{EXAMPLES}/{name}.agc", f"{EXAMPLES}/{feed}"]
+
+
+def check_traces(room):
+    """The lines of `agcws trace` of each example that is run, beside what `agcws debug` replies of the same steps; of an image, and of some steps."""
+    source, empty, rope = f"{EXAMPLES}/five_plus_five.agc", f"{EXAMPLES}/empty.feed", f"{room}/traced.rope"
+    agcws("asm", source, rope)
+    lines = [
+        b"1         2         02,4000  34005  CA 4005             A=000005\n",
+        b"2         4         02,4001  64005  AD 4005             A=000012\n",
+        b"3         5         02,4002  00006  EXTEND              -\n",
+        b"4         7         02,4003  01010  WRITE 010           CH010=00012  7 CH 010 00012\n",
+    ]
+    compare("a trace of an image", agcws("trace", "--image", rope, empty, "4"), 0, b"".join(lines))
+    compare("a trace of some steps", agcws("trace", "--image", rope, empty, "1099511627774", "--from", "2", "--to", "3"), 0, b"".join(lines[1:3]))
+    compare("a trace of later steps than there are", agcws("trace", source, empty, "4", "--from", "5", "--to", "9"), 0, b"")
+    compare("a trace of no steps", agcws("trace", source, empty, "0"), 0, b"")
+    check_trace_of_inputs(room)
+    compare("a trace of a refused feed", agcws("trace", source, source, "4"), 1, b"", b"agcws: E30 LINE 2\n")
+    for name, files in example_runs():
+        check_trace(PROGRAM, told, name, files)
+
+
+def check_covers(room):
+    """What `agcws cover` counts of each example that is run, beside the lines of `agcws trace`; of an image, and of a place without a word."""
+    source, empty, rope = f"{EXAMPLES}/five_plus_five.agc", f"{EXAMPLES}/empty.feed", f"{room}/covered.rope"
+    agcws("asm", source, rope)
+    words = agcws("words", rope)[1].decode().split("\n")[:-1]
+    figures = {"02,4000": (1, 2), "02,4001": (1, 2), "02,4002": (1, 1), "02,4003": (1, 2)}
+    lines = ["%10s %10s %s" % (*figures.get(word[:7], ("-", "-")), word) for word in words]
+    none = [f"         -          - {name}" for name in ("INPUT", "ENTRY", "BRUPT")]
+    lines += none + ["         4          7 TOTAL"]
+    compare("a profile of an image", agcws("cover", "--image", rope, empty, "4"), 0, "".join(f"{it}\n" for it in lines).encode())
+    away = write(f"{room}/away.agc", b" SETLOC 4000\n TC 1000\n")
+    rows = [" " * 22 + "    1                 SETLOC 4000", "         1          1     2 02,4000 01000   TC 1000", "         1          1 E2,1000", *none, "         2          2 TOTAL"]
+    compare("a profile of a place without a word", agcws("cover", away, empty, "2"), 0, "".join(f"{it}\n" for it in rows).encode())
+    compare("a profile of a refused feed", agcws("cover", source, source, "4"), 1, b"", b"agcws: E30 LINE 2\n")
+    for name, files in example_runs():
+        check_cover(PROGRAM, told, name, files)
 
 
 def fields_of(line):
@@ -215,11 +291,14 @@ class Document:
     def try_run(self, label, words, body):
         compare(label, agcws("run", self.source, self.feed, words[0]), 0, body)
 
-    def try_debug(self, label, words, body):
+    def try_extended(self, label, words, body):
+        self.try_debug(label, words, body, "--extended")
+
+    def try_debug(self, label, words, body, *options):
         if words:
             self.end()
             source, feed = (self.source, self.feed) if words == ["my.agc"] else [f"{ROOT}/{it}" for it in words]
-            self.session = Session(source, feed)
+            self.session = Session(source, feed, *options)
         for command, replies in asked(body.decode(), "> "):
             self.session.ask(label, command, replies)
 
@@ -240,10 +319,10 @@ class Document:
 
 
 def check_documents(room):
-    """What the README and the manual show."""
+    """What the README, the manual, the examples and the worked rows show."""
     os.symlink(PROGRAM, f"{room}/agcws")
     os.symlink(EXAMPLES, f"{room}/examples")
-    for name in ["README.md", "examples/README.md", "docs/MANUAL.md"]:
+    for name in ["README.md", "examples/README.md", "examples/rows/sessions.md", "docs/MANUAL.md"]:
         Document(room, name).check()
     fences = re.findall(r"^```.*$", text_of("docs/MANUAL.md"), re.M)
     told("each block of the manual says what it is", "```" not in fences[::2] and set(fences[1::2]) == {"```"})
@@ -365,6 +444,8 @@ def check_debugger(room):
     check_long_reply(source, empty)
     ran = subprocess.run([PROGRAM, "debug", source, empty], input=b"step 1\nstep 1", capture_output=True, timeout=WAIT)
     compare("a last line without a line feed", (ran.returncode, ran.stdout, ran.stderr), 0, b"AT 1 2 4001\nAT 2 4 4002\n")
+    ran = subprocess.run([PROGRAM, "debug", source, empty], input=b"\n # step 1\nstep\t1#2\nstep 1 #\xff\nquit\r\nadd 5 TIME1 PINC #\xff\nquit\nstep 1\n", capture_output=True, timeout=WAIT)
+    compare("bytes that are no text", (ran.returncode, ran.stdout, ran.stderr), 0, b"AT 1 2 4001\nAT 2 4 4002\nE50 COMMAND\nE50 COMMAND\n")
     ran = subprocess.run([PROGRAM, "debug", source, empty], input=b"step 1\nquit\nstep 1\n", capture_output=True, timeout=WAIT)
     compare("quit", (ran.returncode, ran.stdout, ran.stderr), 0, b"AT 1 2 4001\n")
     ran = subprocess.run([PROGRAM, "debug", source, empty], input=b"\n" * 16777211 + b"tail\ntail\n", capture_output=True, timeout=WAIT)
@@ -383,14 +464,9 @@ def check_debugger(room):
 
 
 def check_one_processor():
-    """A session steps no processor but its own: neither it, nor the debugger, nor what reads commands makes one, or a fixed memory of its own."""
-    makers = r"Processor::new|Rope::(?:empty|read)|Feed::(?:new|empty)|\bassemble\("
-    for crate, calls in [("commands", makers), ("debugger", rf"{makers}|Machine::start"), ("replay", makers)]:
-        folder = f"{ROOT}/crates/{crate}/src"
-        for name in sorted(os.listdir(folder)):
-            with open(f"{folder}/{name}", encoding="utf-8") as file:
-                made = re.findall(calls, file.read())
-            told(f"crates/{crate}/src/{name} makes no second processor", not made, " ".join(made))
+    """A session steps no processor but its own."""
+    found = second_makers(f"{ROOT}/crates")
+    told("no crate makes a second processor", not found, " ".join(found))
 
 
 def check_long_reply(source, empty):
@@ -445,7 +521,8 @@ def check_ropes(room):
         told(f"the words of {name}", (len(shown), len(set(shown)), err) == (36864, 36864, b"") and listed and listed <= set(shown))
         told(f"no other words in {name}", all(line in listed or line.endswith(b" 00000") for line in shown))
         compare(f"the words of {name} without parity", agcws("words", "--rope", "1", one), 0, out)
-        compare(f"bank 02 of {name}", agcws("words", two, "02"), 0, b"".join(line for line in out.splitlines(True) if line.startswith(b"02,")))
+        for bank in ("02", "2"):
+            compare(f"bank {bank} of {name}", agcws("words", two, bank), 0, b"".join(line for line in out.splitlines(True) if line.startswith(b"02,")))
     image = read(two)
     agcws("asm", f"{EXAMPLES}/five_plus_five.agc", other)
     status, out, err = agcws("compare", two, other)
@@ -466,18 +543,60 @@ def check_ropes(room):
     compare("a session over an image", (ran.returncode, ran.stdout, ran.stderr), 0, b"7 CH 010 00012\nAT 4 7 4004\nE17 UNDEFINED\n")
 
 
+def check_parities(room):
+    """Images of random bytes: the words of a wrong parity, in both orders of the bits; and the words without regard to parity."""
+    path, plain, hardware = f"{room}/random.rope", f"{room}/plain.rope", f"{room}/hardware.rope"
+    for seed in range(5):
+        image = random.Random(seed).randbytes(IMAGE_BYTES)
+        pairs = [high << 8 | low for high, low in zip(image[::2], image[1::2])]
+        lines = []
+        for bank in range(36):
+            for offset in range(1024):
+                position = 1024 * {0: 2, 1: 3, 2: 0, 3: 1}.get(bank, bank) + offset
+                if bin(pairs[position]).count("1") % 2 == 0:
+                    address = {2: 0o4000, 3: 0o6000}.get(bank, 0o2000) + offset
+                    lines.append(f"{bank:02o},{address:04o} {pairs[position] >> 1:05o} BYTE {2 * position}\n")
+        wanted = "".join(lines + [f"COUNT {len(lines)}\n"]).encode()
+        write(path, image)
+        write(plain, b"".join((pair & 0xFFFE).to_bytes(2, "big") for pair in pairs))
+        write(hardware, b"".join((pair & 0x8000 | (pair & 1) << 14 | pair >> 1 & 0x3FFF).to_bytes(2, "big") for pair in pairs))
+        words, sums = (agcws(name, "--rope", "1", plain)[1] for name in ("words", "sums"))
+        for form, file in (((), path), (("--form", "hardware"), hardware)):
+            compare(f"wrong parities of image {seed} {form}", agcws("parity", *form, file), 1, wanted)
+            compare(f"words of image {seed} {form}", agcws("words", "--parity", "ignore", *form, file), 0, words)
+            compare(f"sums of image {seed} {form}", agcws("sums", "--parity", "ignore", *form, file), 0, sums)
+            compare(f"image {seed} {form} beside another", agcws("compare", "--parity", "ignore", plain, *[it.replace("--", "--new-") for it in form], file), 0, b"COUNT 0\n")
+    agcws("asm", f"{EXAMPLES}/five_plus_five.agc", path)
+    image = bytearray(read(path))
+    image[1] ^= 1
+    write(path, bytes(image))
+    for words in (["run", "--image", "--parity", "ignore", path, f"{EXAMPLES}/empty.feed", "4"], ["run", f"{EXAMPLES}/five_plus_five.agc", f"{EXAMPLES}/empty.feed", "4"]):
+        compare(f"{words[1]} beside a wrong parity", agcws(*words), 0, b"7 CH 010 00012\n")
+    for label, text, error in (("short", bytes(image[:-1]), b"E3"), ("long", bytes(image) + b"\0", b"E4")):
+        write(path, text)
+        compare(f"the parity of an image that is {label}", agcws("parity", path), 1, b"", b"agcws: " + error + b"\n")
+
+
 def check_command_line():
     """Help, and command lines that are wrong, against the texts of examples/help; and the version."""
-    for name in ["agcws", "asm", "run", "debug", "upgrade", "words", "compare", "sums"]:
+    for name in ["agcws", "asm", "run", "trace", "cover", "debug", "upgrade", "words", "compare", "sums", "parity"]:
         got = agcws(*([] if name == "agcws" else [name]), "--help")
         compare(f"the help of {name}", got, 0, read(f"{EXAMPLES}/help/{name}.txt"))
         told(f"the width of the help of {name}", all(len(it) <= 80 for it in got[1].decode().split("\n")))
+        compare(f"agcws help for {name}", agcws("help", *([] if name == "agcws" else [name])), *got)
     compare("a subcommand that is none", agcws("fly"), 2, b"", read(f"{EXAMPLES}/help/unknown_subcommand.txt"))
     compare("a missing argument", agcws("run", "five.agc", "empty.feed"), 2, b"", read(f"{EXAMPLES}/help/missing_argument.txt"))
+    compare("a missing feed", agcws("run", "five.agc", "100"), 2, b"", read(f"{EXAMPLES}/help/missing_feed.txt"))
+    compare("a session without a feed", agcws("debug", "five.agc"), 2, b"", read(f"{EXAMPLES}/help/missing_feed_of_session.txt"))
+    told("a trace without a feed", agcws("trace", "five.agc", "100")[2].endswith(read(f"{EXAMPLES}/help/missing_feed.txt").split(b"\n\n")[-1]))
+    compare("a number below zero", agcws("run", "five.agc", "empty.feed", "-5"), 2, b"", read(f"{EXAMPLES}/help/negative_number.txt"))
+    compare("an option that is none", agcws("--verbose"), 2, b"", read(f"{EXAMPLES}/help/unknown_option.txt"))
+    compare("an option of run that is none", agcws("run", "--verbose", "five.agc", "empty.feed", "5"), 2, b"", read(f"{EXAMPLES}/help/unknown_option_of_run.txt"))
+    compare("a bank that is none", agcws("words", "my.rope", "44"), 2, b"", read(f"{EXAMPLES}/help/unknown_bank.txt"))
     version = re.search(rb'PROGRAM_VERSION: &str = "(.*)";', read(f"{ROOT}/crates/agcws/src/command_line.rt")).group(1)
     compare("agcws --version", agcws("--version"), 0, b"agcws " + version + b"\n")
     source, empty = f"{EXAMPLES}/five_plus_five.agc", f"{EXAMPLES}/empty.feed"
-    for words in [[], ["fly"], ["asm", source], ["run", source, empty], ["run", source, empty, "-1"], ["run", source, empty, "1099511627775"], ["asm", "--rope", "3", source, "x"], ["debug", source], ["upgrade", source], ["words"], ["words", source, "44"], ["compare", source], ["sums"], ["run", "--rope", "1", source, empty, "4"]]:
+    for words in [[], ["fly"], ["asm", source], ["run", source, empty], ["run", source, empty, "-1"], ["run", source, empty, "1099511627775"], ["asm", "--rope", "3", source, "x"], ["debug", source], ["upgrade", source], ["words"], ["words", source, "44"], ["words", source, "8"], ["words", source, "002"], ["compare", source], ["sums"], ["parity"], ["words", "--parity", "odd", source], ["run", "--parity", "ignore", source, empty, "4"], ["run", "--rope", "1", source, empty, "4"]]:
         status, out, err = agcws(*words)
         told(f"agcws {' '.join(words[:1])} with {len(words)} words", (status, out) == (2, b"") and err)
     compare("+4 steps", agcws("run", source, empty, "+4"), 0, b"7 CH 010 00012\n")
@@ -488,15 +607,101 @@ def text_of(name):
     return read(f"{ROOT}/{name}").decode()
 
 
-def check_one_path_for_two(room):
-    """One path for two files is refused before it is opened: it keeps its bytes, and need not be there."""
-    for command, label in [("asm", b"SRC and ROPE"), ("upgrade", b"OLD and NEW")]:
-        path, error = f"{room}/{command}.kept", b"error: " + label + b" are the same path\n"
+def check_targets(room):
+    """A file that is read, or has the name of a source or a feed, is not written over: that is told before anything is opened."""
+    for command, (read_name, written) in {"asm": ("SRC", "ROPE"), "upgrade": ("OLD", "NEW")}.items():
+        folder = f"{room}/{command}.folder"
+        os.mkdir(folder)
+        path = f"{folder}/kept"
+        error = f"error: {read_name} and {written} are the same path\n".encode()
         compare(f"agcws {command} with one path that is not there", agcws(command, path, path), 2, b"", error)
-        told(f"agcws {command} makes no file of that path", not os.path.exists(path))
+        told(f"agcws {command} makes no file of that path", os.listdir(folder) == [])
         write(path, b" FROB 1\n")
         compare(f"agcws {command} with one path", agcws(command, path, path), 2, b"", error)
-        told(f"agcws {command} with one path keeps the file", read(path) == b" FROB 1\n")
+        os.symlink("kept", f"{folder}/symbolic")
+        os.link(path, f"{folder}/hard")
+        os.symlink(folder, f"{room}/{command}.linked")
+        error = f"error: {read_name} and {written} are the same file\n".encode()
+        others = [f"{folder}/./kept", f"{folder}//kept", f"{folder}/../{command}.folder/kept", f"{folder}/symbolic", f"{folder}/hard", f"{room}/{command}.linked/kept"]
+        for one, other in [(path, it) for it in others] + [(it, path) for it in others]:
+            compare(f"agcws {command} {os.path.relpath(one, room)} {os.path.relpath(other, room)}", agcws(command, one, other), 2, b"", error)
+        error = f"error: {written} has the name of a source or a feed: no image is written to a file whose name ends in .agc or .feed\n".encode()
+        for name in ("b.agc", "b.feed", ".agc"):
+            for there in (False, True):
+                if there:
+                    write(f"{folder}/{name}", b"kept")
+                for source in (path, f"{folder}/none"):
+                    compare(f"agcws {command} to {name}", agcws(command, source, f"{folder}/{name}"), 2, b"", error)
+            told(f"agcws {command} keeps {name}", read(f"{folder}/{name}") == b"kept")
+        told(f"agcws {command} keeps the file", read(path) == b" FROB 1\n")
+        told(f"agcws {command} makes no other", sorted(os.listdir(folder)) == [".agc", "b.agc", "b.feed", "hard", "kept", "symbolic"])
+    names = f"{room}/agc"
+    status, _, _ = agcws("asm", f"{EXAMPLES}/five_plus_five.agc", names)
+    told("a name that is no ending", status == 0 and os.path.getsize(names) == IMAGE_BYTES)
+
+
+def with_short_files(words, most):
+    """What the program answers where the system lets no file grow above some bytes."""
+    def limit():
+        signal.signal(signal.SIGXFSZ, signal.SIG_IGN)
+        resource.setrlimit(resource.RLIMIT_FSIZE, (most, most))
+
+    ran = subprocess.run([PROGRAM, *words], stdin=subprocess.DEVNULL, capture_output=True, timeout=60, preexec_fn=limit)
+    return ran.returncode, ran.stdout, ran.stderr
+
+
+def check_whole_images(room):
+    """An image stands in its place only once it is whole: a write that fails leaves what stood there, and nothing beside it."""
+    source, folder = f"{EXAMPLES}/five_plus_five.agc", f"{room}/images"
+    os.mkdir(folder)
+    one, two, rope = f"{room}/first.rope", f"{room}/second.rope", f"{folder}/my.rope"
+    agcws("asm", "--rope", "1", source, one)
+    agcws("asm", source, two)
+    calls = {"asm": ["asm", source, rope], "upgrade": ["upgrade", one, rope]}
+    for name, words in calls.items():
+        for most in (0, 1, 40960, IMAGE_BYTES - 1):
+            compare(f"{name} of {most} bytes", with_short_files(words, most), 3, b"", b"agcws: E7\n")
+            told(f"{name} of {most} bytes makes no file", os.listdir(folder) == [])
+            write(rope, b"old")
+            compare(f"{name} of {most} bytes over an old file", with_short_files(words, most), 3, b"", b"agcws: E7\n")
+            told(f"{name} of {most} bytes keeps the old file", read(rope) == b"old" and os.listdir(folder) == ["my.rope"])
+            os.remove(rope)
+        write(f"{rope}.part0", b"mine")
+        write(rope, b"old")
+        os.chmod(rope, 0o640)
+        status, _, err = agcws(*words)
+        told(f"{name} puts the image in place of an old file", (status, err) == (0, b"") and read(rope) == read(two))
+        told(f"{name} keeps the permissions", os.stat(rope).st_mode & 0o777 == 0o640)
+        told(f"{name} keeps a file that has a draft's name", read(f"{rope}.part0") == b"mine" and sorted(os.listdir(folder)) == ["my.rope", "my.rope.part0"])
+        os.remove(f"{rope}.part0")
+        check_linked_images(name, words, folder, rope, read(two))
+        os.remove(rope)
+    compare("an image to a device", agcws("asm", source, "/dev/null"), *agcws("asm", source, rope))
+    told("the device stands", not os.path.isfile("/dev/null") and os.listdir(folder) == ["my.rope"])
+    long = f"{folder}/{'x' * 255}"
+    status, _, err = agcws("asm", source, long)
+    told("an image of the longest name", (status, err) == (0, b"") and read(long) == read(two) and sorted(os.listdir(folder)) == ["my.rope", "x" * 255])
+    ran = subprocess.run([PROGRAM, "asm", source, "/dev/stdout"], stdin=subprocess.DEVNULL, capture_output=True, timeout=60)
+    told("an image into a pipe", (ran.returncode, ran.stderr) == (0, b"") and ran.stdout.startswith(read(two)))
+
+
+def check_linked_images(name, words, folder, rope, image):
+    """A link to an image stays one, and a file of two names stays one file."""
+    os.rename(rope, f"{folder}/behind")
+    os.symlink("behind", rope)
+    write(f"{folder}/behind", b"old")
+    status, _, err = agcws(*words)
+    told(f"{name} through a link", (status, err, os.path.islink(rope)) == (0, b"", True) and read(f"{folder}/behind") == image)
+    os.remove(f"{folder}/behind")
+    status, _, err = agcws(*words)
+    told(f"{name} through a link to nothing", (status, err, os.path.islink(rope)) == (0, b"", True) and read(f"{folder}/behind") == image)
+    os.remove(rope)
+    write(f"{folder}/behind", b"old")
+    os.link(f"{folder}/behind", rope)
+    status, _, err = agcws(*words)
+    told(f"{name} to a file of two names", (status, err) == (0, b"") and read(f"{folder}/behind") == read(rope) == image and os.path.samefile(rope, f"{folder}/behind"))
+    os.remove(f"{folder}/behind")
+    told(f"{name} leaves nothing beside the image", os.listdir(folder) == ["my.rope"])
 
 
 def check_end(room):
@@ -515,13 +720,105 @@ def check_end(room):
         told("an end that cannot be told", (ran.returncode, ran.stdout) == (3, line))
 
 
+def check_progress(room):
+    """The lines that tell how many steps were made: at each multiple of 2^20, on standard error alone; a failure there is no fault of the run."""
+    source, feed = f"{room}/silent.agc", f"{EXAMPLES}/empty.feed"
+    write(source, b" SETLOC 4000\n CA FIVE\n EXTEND\n WRITE 10\nDONE TCF DONE\nFIVE OCT 5\n")
+    line, lines = b"5 CH 010 00005\n", b"agcws: STEPS 1048576\nagcws: STEPS 2097152\n"
+    for steps, wanted in (("1048575", b""), ("1048576", lines[:21]), ("2097151", lines[:21]), ("2097152", lines), ("2100000", lines)):
+        compare(f"the progress of {steps} steps", agcws("run", "--progress", source, feed, steps), 0, line, wanted)
+    traced = ("--from", "2097150", "--to", "2097152")
+    compare("the progress of a trace", agcws("trace", "--progress", source, feed, "2097152", *traced), 0, agcws("trace", source, feed, "2097152", *traced)[1], lines)
+    compare("progress, and then the end", agcws("run", "--progress", "--end", source, feed, "1048576"), 0, line, lines[:21] + b"END STEPS 1048576 CYCLES 1048578 OUTPUTS 1 Z 4003\n")
+    with open("/dev/full", "wb") as full:
+        ran = subprocess.run([PROGRAM, "run", "--progress", source, feed, "2097152"], stdout=subprocess.PIPE, stderr=full, timeout=60)
+        told("progress that cannot be told", (ran.returncode, ran.stdout) == (0, line))
+    compare("no progress that is not asked for", agcws("run", source, feed, "1048576"), 0, line)
+
+
+def check_handed_on(room):
+    """The lines of a long run are handed on while it goes: one that is broken off has written them."""
+    source, feed = f"{room}/silent.agc", f"{EXAMPLES}/empty.feed"
+    write(source, b" SETLOC 4000\n CA FIVE\n EXTEND\n WRITE 10\nDONE TCF DONE\nFIVE OCT 5\n")
+    line = b"5 CH 010 00005\n"
+    with subprocess.Popen([PROGRAM, "run", source, feed, "1099511627774"], stdin=subprocess.DEVNULL, stdout=subprocess.PIPE) as ran:
+        got = os.read(ran.stdout.fileno(), 100) if select.select([ran.stdout], [], [], 10)[0] else b""
+        told("a line of a long run comes while it goes", (got, ran.poll()) == (line, None), f"{got!r}")
+        ran.kill()
+    check_handed_on_by_a_session(source, feed, line)
+    out = f"{room}/broken.out"
+    with open(out, "wb") as file, subprocess.Popen([PROGRAM, "run", source, feed, "1099511627774"], stdin=subprocess.DEVNULL, stdout=file) as ran:
+        for _ in range(100):
+            if read(out):
+                break
+            time.sleep(0.1)
+        ran.kill()
+    told("a long run that is broken off has written its line", read(out) == line, f"{read(out)!r}")
+    with open("/dev/full", "wb") as full:
+        ran = subprocess.run([PROGRAM, "run", source, feed, "1099511627774"], stdin=subprocess.DEVNULL, stdout=full, stderr=subprocess.PIPE, timeout=60)
+    told("a long run whose lines cannot be written ends", (ran.returncode, ran.stderr) == (3, b"agcws: E7\n"))
+
+
+def check_handed_on_by_a_session(source, feed, line):
+    """The lines of a long command are handed on while it goes, to a pipe and to a terminal."""
+    session = Session(source, feed)
+    session.ask("a line of a long command comes while it goes", b"run 1000000000000\n", line)
+    told("the long command goes on", session.ran.poll() is None)
+    session.ran.kill()
+    told("nothing else of it has come", session.ran.communicate(timeout=WAIT) == (b"", b""))
+    with open("/dev/full", "wb") as full:
+        ran = subprocess.run([PROGRAM, "debug", source, feed], input=b"run 1000000000000\n", stdout=full, stderr=subprocess.PIPE, timeout=WAIT)
+    told("a long command whose lines cannot be written ends", (ran.returncode, ran.stderr) == (3, b"agcws: E7\n"))
+    at = Terminal(PROGRAM, "debug", source, feed)
+    shown = at.type(b"run 1000000000000\n", line.strip(), most_seconds=10)
+    told("at a terminal a line of a long command comes while it goes", line.strip() in shown and b"AT" not in shown, f"{shown!r}")
+    at.type(CTRL_C)
+    told("Ctrl-C ends a session", at.end() == -signal.SIGINT)
+
+
+def check_made_anew(room):
+    """A session whose commands were typed through tee, and that Ctrl-C has ended, is made anew from what tee has kept."""
+    source, feed, kept = f"{EXAMPLES}/five_plus_five.agc", f"{EXAMPLES}/empty.feed", f"{room}/my.session"
+    at = Terminal("/bin/bash", "-c", f"tee '{kept}' | '{PROGRAM}' debug '{source}' '{feed}'")
+    shown = at.type(b"break at 4002\n", b"BREAK 1") + at.type(b"run 20\n", b"AT 2 4 4002")
+    shown += at.type(b"step 1000000000000\n", b"7 CH 010 00012")
+    # (tee hands a line on before it keeps it)
+    for _ in range(100):
+        if read(kept).endswith(b"step 1000000000000\n"):
+            break
+        time.sleep(0.1)
+    at.type(CTRL_C)
+    told("Ctrl-C ends a session behind tee", at.end() != 0 and b"AT 2 4 4002" in shown, f"{shown!r}")
+    typed = read(kept)
+    told("tee has kept the commands", typed == b"break at 4002\nrun 20\nstep 1000000000000\n", f"{typed!r}")
+    ran = subprocess.run([PROGRAM, "debug", source, feed], input=b"".join(typed.splitlines(True)[:-1]) + b"run 20\n", capture_output=True, timeout=WAIT)
+    compare("a session made anew", (ran.returncode, ran.stdout, ran.stderr), 0, b"BREAK 1\nHIT 1\nAT 2 4 4002\n7 CH 010 00012\nHIT 1\nAT 7 12 4002\n")
+
+
+def check_slips(room):
+    """What section 8 of the manual says of an operand that is an address, and of an interrupt that enters where no handler stands."""
+    source, feed = f"{room}/slip.agc", f"{room}/slip.feed"
+    # Z, which CA 5 reads, leads to the word after it: 4001. CA takes 2 cycles, EXTEND 1 and WRITE 2.
+    write(source, b" SETLOC 4000\n CA 5\n EXTEND\n WRITE 10\n")
+    compare("CA 5 reads Z", agcws("run", source, "/dev/null", "3"), 0, b"5 CH 010 04001\n")
+    # RELINT and four jumps take 5 cycles. The input is a step without any, and the entry at 4000 + 4 * 3 takes 3.
+    write(source, b" SETLOC 4000\n RELINT\nLOOP TCF LOOP\n")
+    write(feed, b"5 RUPT 3\n")
+    session = Session(source, feed)
+    session.ask("an interrupt without a handler", b"break at 4014\n", b"BREAK 1\n")
+    session.ask("an interrupt without a handler", b"run 100\n", b"HIT 1\nAT 7 8 4014\n")
+    session.ask("an interrupt without a handler", b"regs\n", b"A 000000 L 00000 Q 000000 Z 4014 EB 0 FB 00 SUP 0 EXT 0 INH 0 INT 1\nNEXT 00000 TC 0000\n")
+    session.end("the end of a session over an interrupt without a handler")
+
+
 def main():
-    if not os.access(PROGRAM, os.X_OK):
-        print("the program is not built: run ./agcws --help first")
-        print("0 passed, 1 failed")
+    if not is_built(PROGRAM):
         return 1
     with tempfile.TemporaryDirectory(prefix="agcws-") as room:
         check_examples(room)
+        check_rows(PROGRAM, told, room)
+        check_traces(room)
+        check_covers(room)
         check_operators()
         check_links()
         check_documents(room)
@@ -531,9 +828,15 @@ def main():
         check_one_processor()
         check_upgrade(room)
         check_ropes(room)
+        check_parities(room)
         check_command_line()
-        check_one_path_for_two(room)
+        check_targets(room)
+        check_whole_images(room)
         check_end(room)
+        check_progress(room)
+        check_handed_on(room)
+        check_made_anew(room)
+        check_slips(room)
     return end()
 
 

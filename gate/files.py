@@ -1,4 +1,5 @@
 """Files that are read and written whole."""
+import os
 
 
 def read(path):
@@ -12,3 +13,10 @@ def write(path, content):
     with open(path, "wb") as file:
         file.write(content)
     return path
+
+
+def write_text(path, text):
+    """Makes a file of some text, and the folders that it stands in."""
+    os.makedirs(os.path.dirname(path), exist_ok=True)
+    with open(path, "w", encoding="utf-8") as file:
+        file.write(text)

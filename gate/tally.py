@@ -1,4 +1,5 @@
 """Counts checks: how many have passed, and which have failed."""
+import os
 import sys
 
 passed, failed = 0, []
@@ -19,3 +20,12 @@ def end():
     print(f"{passed} passed, {len(failed)} failed")
     sys.stdout.flush()
     return 1 if failed else 0
+
+
+def is_built(program):
+    """Returns whether a program is built. Where it is not, that is told as one check that failed."""
+    if os.access(program, os.X_OK):
+        return True
+    print("the program is not built: run ./agcws --help first")
+    print("0 passed, 1 failed")
+    return False

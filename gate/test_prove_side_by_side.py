@@ -63,7 +63,7 @@ class Orders(unittest.TestCase):
             return crate.name not in refused, f"text of {crate.name}"
 
         fakes = {"processors": lambda: processors, "free": lambda: memory}
-        with mock.patch.multiple(runner.rt, **fakes), mock.patch.object(runner, "prove", prove):
+        with mock.patch.multiple(runner.toolchain.rt, **fakes), mock.patch.object(runner, "prove", prove):
             return runner.prove_all(crates, said.append), said, events, most[0]
 
     def test_each_waits_for_those_below_and_no_longer(self):

@@ -9,6 +9,7 @@ import tempfile
 import unittest
 
 sys.dont_write_bytecode = True
+from files import write_text
 RUNNER = os.path.join(os.path.dirname(os.path.realpath(__file__)), "wrong_bodies")
 loader = importlib.machinery.SourceFileLoader("wrong_bodies", RUNNER)
 runner = importlib.util.module_from_spec(importlib.util.spec_from_loader("wrong_bodies", loader))
@@ -55,20 +56,22 @@ HARMLESS = ("    u16::from(x) + u16::from(y)", "    u16::from(y) + u16::from(x)"
 # what each edit puts for what, and what is said of it
 EDITS = {
     "one_more_adds_two": ("    u16::from(x) + ONE", "    u16::from(x) + ONE + ONE", "small::one_more is refused, as it must be: no proof"),
-    "two_more_adds_one": ("    one_more(x) + 1", "    one_more(x)", "small::two_more is refused, as it must be: no proof"),
+    "two_more_adds_one": ("    one_more(x) + 1", "    one_more(x)", "small::two_more_two_more_adds_one is refused, as it must be: no proof"),
     "one_is_two": ("const ONE: u16 = 1;", "const ONE: u16 = 2;", "small::one_more is refused, as it must be: no proof"),
-    "some_number_adds_eight": ("    u16::from(x) + 7", "    u16::from(x) + 8", "NOT REFUSED: small::some_number is still proved"),
+    "two_more_adds_three": ("    one_more(x) + 1", "    one_more(x) + 2", "small::two_more_two_more_adds_three is refused, as it must be: no proof"),
+    "two_more_adds_nine": ("    one_more(x) + 1", "    one_more(x) + 8", "small::two_more_two_more_adds_nine is refused, as it must be: no proof"),
+    "some_number_adds_eight": ("    u16::from(x) + 7", "    u16::from(x) + 8", "NOT REFUSED: small::some_number_some_number_adds_eight is still proved"),
+    "some_number_adds_nine": ("    u16::from(x) + 7", "    u16::from(x) + 9", "NOT REFUSED: small::some_number_some_number_adds_nine is still proved"),
+    "some_number_adds_ten": ("    u16::from(x) + 7", "    u16::from(x) + 10", "NOT REFUSED: small::some_number_some_number_adds_ten is still proved"),
     "contract_is_weak": (
         "    ensures { result ≡ x + 1 }",
         "    ensures { x < result }",
-        "NOT REFUSED: small::one_more is still proved, and another is refused: small::two_more",
+        "NOT REFUSED: small::one_more is still proved",
     ),
     "stands_beside_harmless": (*HARMLESS[:1], "    u16::from(x)", "BAD EDIT: it cannot be tried beside harmless.edit"),
     "text_is_not_there": ("    three_more(x)", "    one_more(x)", "BAD EDIT: an 'old:' text is in src/lib.rt 0 times"),
     "text_is_there_twice": ("ONE", "TWO", "BAD EDIT: an 'old:' text is in src/lib.rt 2 times"),
     "brace_is_lost": ("    u16::from(x) + 7", "    { u16::from(x) + 7", "BAD EDIT: no contract was tried: src/lib.rt:"),
-    "type_is_wrong": ("    u16::from(x) + 7", "    x", "BAD EDIT: no contract was tried: src/lib.rt:"),
-    "word_of_the_contract_is_unknown": ("    ensures { result < 300 }", "    ensures { result < three_hundred }", "BAD EDIT: no contract was tried: src/lib.rt:"),
 }
 
 
@@ -76,19 +79,13 @@ def edit_text(old, new, path="src/lib.rt"):
     return f"file: {path}\nold: {old}\nnew: {new}\n"
 
 
-def write(path, text):
-    os.makedirs(os.path.dirname(path), exist_ok=True)
-    with open(path, "w", encoding="utf-8") as it:
-        it.write(text)
-
-
 def repository(room, edits, harmless=HARMLESS):
     """Writes a repository of one crate with these edits."""
     os.mkdir(f"{room}/.git")
-    write(f"{room}/crates.txt", "small:\n")
-    write(f"{room}/crates/small/src/lib.rt", SOURCE)
+    write_text(f"{room}/crates.txt", "small:\n")
+    write_text(f"{room}/crates/small/src/lib.rt", SOURCE)
     for name, (old, new, *_) in {"harmless": harmless, **edits}.items():
-        write(f"{room}/crates/small/wrong-bodies/{name}.edit", edit_text(old, new))
+        write_text(f"{room}/crates/small/wrong-bodies/{name}.edit", edit_text(old, new))
 
 
 def run(room, *words):
@@ -106,7 +103,7 @@ class WholeRuns(unittest.TestCase):
             ran = run(room, *EDITS)
         for name, (_, _, wanted) in EDITS.items():
             self.assertIn(f"wrong-bodies small/{name}: {wanted}", ran.stdout)
-        self.assertEqual((ran.stdout.split("\n")[-2], ran.returncode), ("3 passed, 8 failed", 1), ran.stdout + ran.stderr)
+        self.assertEqual((ran.stdout.split("\n")[-2], ran.returncode), ("5 passed, 8 failed", 1), ran.stdout + ran.stderr)
 
     def test_harmless_edit_must_stay_proved(self):
         with tempfile.TemporaryDirectory() as room:
@@ -131,7 +128,16 @@ class WholeRuns(unittest.TestCase):
             repository(room, EDITS)
             ran = run(room, "--read")
         said = [f"wrong-bodies small/{it}: {EDITS[it][2]}, and not once" for it in ("text_is_not_there", "text_is_there_twice")]
-        self.assertEqual(ran.stdout, "\n".join([*said, "10 passed, 2 failed", ""]))
+        self.assertEqual(ran.stdout, "\n".join([*said, "wrong-bodies to be tried: 13 of small", "12 passed, 2 failed", ""]))
+
+    def test_names_that_stand_twice_and_edits_of_must_fail_are_read(self):
+        with tempfile.TemporaryDirectory() as room:
+            repository(room, {"one_more_adds_two": EDITS["one_more_adds_two"]})
+            write_text(f"{room}/crates/small/must-fail/one_more_adds_two.edit", edit_text("    three_more(x)", "    one_more(x)"))
+            ran = run(room, "--read")
+        self.assertIn("small/must-fail/one_more_adds_two.edit: BAD EDIT: an 'old:' text is in src/lib.rt 0 times", ran.stdout)
+        self.assertIn("one_more_adds_two: BAD EDIT: 2 edits have this name", ran.stdout)
+        self.assertEqual((ran.stdout.split("\n")[-2], ran.returncode), ("2 passed, 2 failed", 1))
 
     def test_unknown_word_is_told(self):
         with tempfile.TemporaryDirectory() as room:
@@ -142,7 +148,7 @@ class WholeRuns(unittest.TestCase):
     def test_file_that_is_no_edit_is_told(self):
         with tempfile.TemporaryDirectory() as room:
             repository(room, {})
-            write(f"{room}/crates/small/wrong-bodies/one.edits", "")
+            write_text(f"{room}/crates/small/wrong-bodies/one.edits", "")
             ran = run(room)
         self.assertIn("small/wrong-bodies/one.edits is no edit", ran.stderr)
         self.assertEqual(ran.returncode, 1)
@@ -174,6 +180,12 @@ impl Read for &[u8] {
     fn read(&mut self) {}
 }
 
+impl From<Far> for Here {
+    fn from(far: Far) -> Here {
+        three
+    }
+}
+
 impl<T> Elsewhere<T> {
     fn far(self) {
         two
@@ -191,6 +203,7 @@ fn last()
             "            b": "c::deep::here::Here::new",
             "        one": "c::deep::here::LazyFileWrite::write",
             "    fn read(&mut self) {}": "c::deep::here::RefSliceU8Read::read",
+            "        three": "c::deep::here::HereFromFar::from",
             "        two": "c::there::Elsewhere::far",
             "{}": "c::deep::here::last",
             "pub struct Here;": runner.OUTSIDE,
@@ -223,6 +236,12 @@ class Batches(unittest.TestCase):
         self.assertEqual(self.names(outside, edit_of("two", "f")), ["one"])
         self.assertEqual(self.names(edit_of("two", "f"), outside), ["two"])
 
+    def test_turned_definition_is_alone(self):
+        turned = edit_of("one", "laws::l")
+        turned.turns = True
+        self.assertEqual(self.names(turned, edit_of("two", "f")), ["one"])
+        self.assertEqual(self.names(edit_of("two", "f"), turned), ["two"])
+
     def test_edit_that_waited_comes_first_and_apart(self):
         waited = edit_of("two", "f", apart=["g"])
         self.assertEqual(self.names(edit_of("one", "g"), waited, edit_of("three", "k")), ["two", "three"])
@@ -239,6 +258,68 @@ class Batches(unittest.TestCase):
         text = "file: src/lib.rt\nold: one\nnew: 1\nold: 1 two\nnew: 12\nfile: src/b.rt\nold: b\nnew: c\n"
         texts, why = runner.apply(text, {**self.pristine, "src/b.rt": "b"}, {})
         self.assertEqual((texts, why), ({"src/lib.rt": "12 three four harm", "src/b.rt": "c"}, None))
+
+
+COPIED = """//! A file.
+
+pub struct Here;
+
+impl Here {
+    /// One.
+    #[tactic(auto)]
+    pub fn one(&self) -> u8
+        ensures { result ≡ one }
+    {
+        1
+    }
+}
+
+impl Read for Here {
+    fn read(&mut self) {
+        self.one();
+    }
+}
+
+/// Two.
+fn two(n: u8) -> u8 {
+    if n == 0 { 0 } else { two(n - 1) }
+}
+
+fn three() -> u8 {
+    3
+}
+"""
+
+
+class Copies(unittest.TestCase):
+    def owners(self, text, file="src/a.rt"):
+        return runner.functions_in("c", file, text, runner.homes_of("c", {file: text}))
+
+    def copies(self, old, new, word="wrong"):
+        return runner.copies_of(word, "src/a.rt", COPIED, COPIED.replace(old, new), self.owners)
+
+    def test_function_with_its_edit_and_without(self):
+        control, copy = self.copies("        1\n", "        2\n")
+        self.assertEqual((control.path, copy.path), ("c::a::Here::one_as_it_is", "c::a::Here::one_wrong"))
+        self.assertEqual(copy.lines[:3], ("    /// One.", "    #[tactic(auto)]", "    pub fn one_wrong(&self) -> u8"))
+        self.assertEqual((control.lines[5], copy.lines[5]), ("        1", "        2"))
+        text = runner.with_copies({}, {"src/a.rt": COPIED}, [control, copy], lambda file, text: self.owners(text, file))["src/a.rt"]
+        self.assertIn("    }\n\n    /// One.\n    #[tactic(auto)]\n    pub fn one_wrong", text)
+        self.assertEqual({copy.path, control.path, copy.function} - set(self.owners(text)), set())
+        self.assertEqual([it for it in COPIED.split("\n") if it not in text.split("\n")], [])
+
+    def test_no_copy_where_it_would_show_something_else(self):
+        in_a_trait = self.copies("self.one();", "self.two();")
+        naming_itself = self.copies("{ 0 }", "{ 1 }")
+        two_functions = runner.copies_of("wrong", "src/a.rt", COPIED, COPIED.replace("    3", "    4").replace("        1\n", "        2\n"), self.owners)
+        beside_it = runner.copies_of("wrong", "src/a.rt", COPIED, COPIED.replace("    3", "    4").replace("//! A", "//! B"), self.owners)
+        self.assertEqual([in_a_trait, naming_itself, two_functions, beside_it], [None] * 4)
+        self.assertIsNotNone(self.copies("    3", "    4"))
+
+    def test_what_copies_may_call(self):
+        copy = runner.Copy("src/a.rt", "c::f", "c::f_wrong", ("fn f_wrong() {", "    g()", "}"))
+        sources = [("f", "    g()"), ("g", "    h()"), ("h", "    1"), ("k", "    f()")]
+        self.assertEqual(runner.reached([copy], sources), {"g", "h"})
 
 
 class Judgements(unittest.TestCase):

@@ -1,6 +1,7 @@
 """What the program is tried on: cases of hostile bytes (generator.c), the calls that they are tried by, and the refusals that a text of each kind may meet."""
 import ctypes
 import os
+import shutil
 import subprocess
 
 from files import read, write
@@ -20,7 +21,7 @@ EMPTY, CLOCK, KEYS = (f"{EXAMPLES}/{name}.feed" for name in ("empty", "clock", "
 CALLS = {
     "source": [["asm", "case", "made"], ["run", "case", EMPTY, "200"], ["asm", "--rope=1", "case", "made"], ["run", "--end", "case", CLOCK, "300"], ["debug", "case", CLOCK]],
     "feed": [["run", FIVE, "case", "300"], ["run", "--end", KEY_ECHO, "case", "600"], ["run", SECONDS, "case", "600"], ["debug", LOST_SUM, "case"]],
-    "commands": [["debug", FIVE, EMPTY], ["debug", KEY_ECHO, KEYS], ["debug", LOST_SUM, EMPTY]],
+    "commands": [["debug", FIVE, EMPTY], ["debug", KEY_ECHO, KEYS], ["debug", LOST_SUM, EMPTY], ["debug", "--extended", LOST_SUM, EMPTY]],
     "image": [
         ["words", "case"],
         ["words", "case", "02"],
@@ -70,6 +71,17 @@ changed 0
 seek
 quit
 """ % (ADDED, ADDED.replace(b"5000", b"6000"))
+
+
+def is_any_missing(script, *programs):
+    """Says what a script lacks, and ends its output as a failed one."""
+    found = [f"{os.path.relpath(it, ROOT)} is not built: `rt run` in crates/{os.path.basename(it)} builds it" for it in (PROGRAM, *programs) if not os.access(it, os.X_OK)]
+    found += [] if shutil.which("cc") else ["there is no C compiler cc"]
+    for why in found:
+        print(f"{script}: {why}")
+    if found:
+        print("0 passed, 1 failed")
+    return bool(found)
 
 
 def call_of(kind, number):

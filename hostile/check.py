@@ -5,10 +5,11 @@ usage: hostile/check.py [--cases N] [--seed TEXT] [PART ..]     a PART is memory
 
 memory   each single request for memory is refused, by itself and with all after it (refuse.c, loaded before the program), for each command, help and refusals: the answer is
          E2 and nothing else than a beginning of the output; a refused `add` is told and changes nothing; once a session is open its commands ask for none; of the program
-         vector_session, whose images stand in a vector, a step that is refused changes nothing and is made again
+         vector_session, whose images stand in a vector, a step that is refused changes nothing and is made again, and its replies to commands tell it; sessions whose replies
+         are counted by hand, and programs that execute everything, are answered by it as by the program
 devices  full devices, closed pipes, folders, files that aren't there or may not be read, devices without an end, closed standard streams, no file or memory to be had
 sizes    one byte, line or input too many, or a byte too few
-bytes    N sources, feeds, command files and images (cases.py; 20,000 of each if not said), each in a process of its own: it ends in time and in little memory, with a refusal
+bytes    N sources, feeds, command files and images (cases.py; if not said 600 of each, and 20,000 where CI is true), each in a process of its own: it ends in time and in little memory, with a refusal
          that exists. What hostile/long_run tries in one process gives the same answers; and in one process N more of each are tried with a failure besides
 
 The last line is 'N passed, M failed'. The built programs are crates/agcws/out/agcws, or what AGCWS names, and crates/vector_session/out/vector_session, or what VECTOR_SESSION names; `./check` leaves both, and `rt run`
@@ -16,6 +17,7 @@ in a crate's folder makes its own."""
 import argparse
 import collections
 import os
+import random
 import re
 import resource
 import shutil
@@ -30,9 +32,10 @@ from concurrent.futures import ProcessPoolExecutor
 sys.dont_write_bytecode = True
 HERE = os.path.dirname(os.path.abspath(__file__))
 ROOT = os.path.dirname(HERE)
-sys.path[:0] = [HERE, f"{ROOT}/gate"]
+sys.path[:0] = [HERE, f"{ROOT}/gate", f"{ROOT}/examples"]
 import cases
 import in_process
+import rows
 from cases import ADDED, COMMANDS, EMPTY, FIVE, IMAGE_BYTES, PROGRAM, REFUSALS
 from files import read, write
 from tally import end, told
@@ -56,7 +59,10 @@ def agcws(*words, commands=b"", **more):
 # Memory
 
 SOURCE = "".join([" SETLOC 4000\n", "START CA FIVE\n AD FIVE\n EXTEND\n WRITE 10\n TCF START\nFIVE OCT 5\n", *(f"L{number} OCT {number % 8}\n" for number in range(193))]).encode()
-FEED = "".join(["EVERY 0 2560 3 4 TIME3 PINC\n", "EVERY 5 7 1 100 TIME1 PINC\n", *(f"{10 * number} TIME2 PINC\n" for number in range(48))]).encode()
+# (64 plain inputs fill the vector in which they stand, so that an added one asks for memory)
+FEED = "".join(["EVERY 0 2560 3 4 TIME3 PINC\n", "EVERY 5 7 1 100 TIME1 PINC\n", *(f"{10 * number} TIME2 PINC\n" for number in range(64))]).encode()
+# A source, a feed and commands for a session whose images stand in a vector.
+PARTS = read(f"{ROOT}/crates/vector_session/stdin").split(b"---\n")
 
 
 class Refusing:
@@ -95,12 +101,17 @@ def memory(room):
     source, feed, made, old, new, other = write(f"{room}/source", SOURCE), write(f"{room}/feed", FEED), f"{room}/made", f"{room}/old", f"{room}/new", f"{room}/other"
     for words in (("asm", source, old, "--rope", "1"), ("asm", source, new), ("asm", FIVE, other)):
         agcws(*words)
-    sessions_of = {"debug": ("debug", source, feed), "debug --image": ("debug", "--image", new, feed)}
+    sessions_of = {"debug": ("debug", source, feed), "debug --image": ("debug", "--image", new, feed), "debug --extended": ("debug", "--extended", source, feed)}
     calls = {
         "asm": ("asm", source, made),
         "run": ("run", source, feed, "300"),
         "run --end": ("run", "--end", source, feed, "300"),
+        "run --progress": ("run", "--progress", source, feed, "300"),
         "run --image": ("run", "--image", "--rope", "1", "--end", old, feed, "300"),
+        "trace": ("trace", source, feed, "300"),
+        "trace --image": ("trace", "--image", "--rope", "1", old, feed, "300"),
+        "cover": ("cover", source, feed, "300"),
+        "cover --image": ("cover", "--image", "--rope", "1", old, feed, "300"),
         **sessions_of,
         "upgrade": ("upgrade", old, made),
         "words": ("words", new),
@@ -108,6 +119,7 @@ def memory(room):
         "compare": ("compare", "--old", "1", old, other),
         "compare of equal images": ("compare", "--old", "1", old, new),
         "sums": ("sums", new),
+        "parity": ("parity", old),
         "a refused source": ("run", feed, feed, "300"),
         "a refused image": ("words", source),
         "--help": ("--help",),
@@ -121,7 +133,9 @@ def memory(room):
         refuse_each(refusing, name, words, COMMANDS if name in sessions_of else b"", made)
     for name, words in sessions_of.items():
         none_in_a_session(room, name, words)
-    images_in_a_vector(refusing)
+    ask_for_none(room, "100,000 calls of an open session", ("debug", FIVE, EMPTY), *many_calls(100_000))
+    images_in_a_vector(room, refusing)
+    rows.check_vector(VECTOR_SESSION, told, room)
     files_without_memory(refusing, source, feed, old, made)
 
 
@@ -137,7 +151,7 @@ def refuse_each(refusing, name, words, commands, path):
     right, image = tried(lambda: agcws(*words, commands=commands))
     refused_sessions = transcripts(words) if commands else []
     for setting, title in (("REFUSE_AT", "each of {} requests refused once"), ("REFUSE_FROM", "all requests refused from each of {} on")):
-        at, wrong, again, is_met = 0, [], 0, True
+        at, wrong, again, refused_inputs, is_met = 0, [], 0, 0, True
         while is_met and at < 100_000:
             at += 1
             ((status, out, err), is_met), made = tried(lambda: refusing.run(words, commands, **{setting: at}))
@@ -146,45 +160,107 @@ def refuse_each(refusing, name, words, commands, path):
             # (a vector that is refused room for more than it needs asks again, for what it needs)
             is_whole = (status, out, err) == right and made == image
             again += is_whole and is_met
+            refused_inputs += is_told
             if not (is_e2 or is_told or is_whole):
                 wrong.append((at, status, out[-80:], err[-200:]))
         most = 2 if setting == "REFUSE_AT" else 0
         told(f"memory: {name}, {title.format(at - 1)}", not wrong and not is_met and again <= most, f"{len(wrong)} wrong, the first: {wrong[:3]}; {again} asked again")
-        print(f"memory: {name}: {title.format(at - 1)}" + (f"; {again} made again for less" if again else ""), flush=True)
+        told(f"memory: {name}, inputs that are refused when they are added, {setting}", (refused_inputs > 0) == bool(commands), f"{refused_inputs} sessions with a refused input")
+        remarks = [f"{again} made again for less"] * (again > 0) + [f"{refused_inputs} sessions with a refused input"] * (refused_inputs > 0)
+        print(f"memory: {name}: {'; '.join([title.format(at - 1), *remarks])}", flush=True)
 
 
 def none_in_a_session(room, name, words):
-    """Once a session is open its commands ask for no memory: the same script with each request refused from the first reply on."""
-    opened, script = f"{room}/opened", b"regs\nrun 20000\n" + COMMANDS.replace(ADDED, b"regs").replace(b"add 6000 TIME1 PINC", b"regs").replace(b"quit\n", b"run 100000\ngoto 7\nlast 25\ngoto 90000\nback 70000\nregs\n")
-    right = agcws(*words, commands=script)[1]
-    refused = f"{room}/refused"
+    """Once a session is open its commands ask for no memory: scripts with each request refused from the first reply on."""
+    several = COMMANDS.replace(ADDED, b"regs").replace(b"add 6000 TIME1 PINC", b"regs").replace(b"quit\n", b"run 100000\ngoto 7\nlast 25\ngoto 90000\nback 70000\nregs\n")
+    script = b"regs\nrun 20000\n" + several
+    ask_for_none(room, f"an open session of {name}", words, script, agcws(*words, commands=script)[1])
+
+
+def many_calls(count):
+    """A script of so many calls of a session over five plus five, and its replies, counted by hand: the five instructions of the loop take 2, 2, 1, 2 and 1 cycles, the fourth puts 12 out on channel 010, and the
+    breakpoint holds where the loop begins. A call goes many steps at once, up to a number of them or to the breakpoint, shows a step, or searches back from one; most stay among the last
+    thousand steps, and each thousandth goes anywhere."""
+    choose, script, replies, n, p = random.Random("agcws"), bytearray(b"break at 4000\n"), bytearray(b"BREAK 1\n"), 0, 0
+    cycles = lambda t: 8 * (t // 5) + (0, 2, 4, 5, 7)[t % 5]
+    for number in range(count):
+        call, is_far = choose.choice(("step", "run", "goto", "seek")), number % 1000 == 0
+        k, low, told = choose.randrange(100_000 if is_far else 100), n, b""
+        if call == "step":
+            p, n = p + k, max(n, p + k)
+        elif call == "run":
+            p = n = min(n + k, n - n % 5 + 5)
+            told = b"HIT 1\n" if k and p % 5 == 0 else b""
+        elif call == "goto":
+            k = p = choose.randrange(n + 1) if is_far else max(0, n - 10 * k)
+        else:
+            k, told, p = "", b"HIT 1\n" if p else b"NONE\n", max(0, (p - 1) // 5 * 5)
+        script += f"{call} {k}\n".encode()
+        for t in range(low + (4 - low - 1) % 5 + 1, n + 1, 5):
+            replies += b"%d CH 010 00012\n" % cycles(t)
+        replies += told
+        if told != b"NONE\n":
+            replies += b"AT %d %d %04o\n" % (p, cycles(p), 0o4000 + p % 5)
+    return bytes(script), bytes(replies)
+
+
+def ask_for_none(room, title, words, script, right):
+    """A script with each request refused once its first reply is there, and what it has to answer."""
+    opened, refused, first = f"{room}/opened", f"{room}/refused", script.split(b"\n")[0] + b"\n"
     env = {**os.environ, "LD_PRELOAD": f"{room}/refuse.so", "REFUSE_AFTER": opened, "REFUSE_FROM": "1", "REFUSE_TELLS": refused}
     for file in (opened, refused):
         if os.path.exists(file):
             os.remove(file)
     with subprocess.Popen([PROGRAM, *words], stdin=subprocess.PIPE, stdout=subprocess.PIPE, stderr=subprocess.PIPE, env=env, bufsize=0) as ran:
-        ran.stdin.write(b"regs\n")
-        first = ran.stdout.readline()
+        ran.stdin.write(first)
+        reply = ran.stdout.readline()
         write(opened, b"")
-        out, err = ran.communicate(script.removeprefix(b"regs\n"), timeout=600)
-    told(f"memory: an open session of {name} asks for none", (ran.returncode, first + out, err) == (0, right, b"") and not os.path.exists(refused), f"{ran.returncode} {err[-200:]} refused: {os.path.exists(refused)}")
+        out, err = ran.communicate(script.removeprefix(first), timeout=600)
+    is_right = (ran.returncode, reply + out, err) == (0, right, b"")
+    told(f"memory: {title} asks for none", is_right and not os.path.exists(refused), f"{ran.returncode} {err[-200:]} refused: {os.path.exists(refused)}")
 
 
-def images_in_a_vector(refusing):
-    """A session whose images stand in a vector: where one of its growths is refused, the step is refused and changes nothing, as the program itself sees, and is made again."""
+def images_in_a_vector(room, refusing):
+    """A session whose images stand in a vector: where one of its growths is refused, the step is refused and changes nothing, as the program itself sees, and is made again.
+    Then commands, whose replies tell the refused steps and inputs: they are those to the same commands with so many steps fewer, and without those inputs."""
+    source, feed = write(f"{room}/vector_source", PARTS[0]), write(f"{room}/vector_feed", PARTS[1])
+    replies = lambda commands: agcws("debug", source, feed, commands=commands)[1]
+    text = b"---\n".join(PARTS)
     for setting, title in (("REFUSE_AT", "each of {} requests refused once"), ("REFUSE_FROM", "all requests refused from each of {} on")):
         at, wrong, answers, is_met = 0, [], collections.Counter(), True
         while is_met and at < 100_000:
             at += 1
-            (status, out, err), is_met = refusing.run((), program=VECTOR_SESSION, **{setting: at})
-            answers[status, out] += is_met
-            is_right = (status, out) in ((0, b"DONE\n"), (0, b"REFUSED\nDONE\n"), (3, b""))
-            if err or not is_right or (status == 0 and is_met and setting == "REFUSE_FROM"):
+            (status, out, err), is_met = refusing.run((), text, program=VECTOR_SESSION, **{setting: at})
+            steps, done, commands = out.partition(b"DONE\n")
+            what = "none" if status else "again" if steps else "told" if b"E2 MEMORY\n" in commands else "whole"
+            answers[what] += is_met
+            is_right = (status, commands) == (3, b"") or (status == 0 and done and commands == replies_with(replies, PARTS[2], commands))
+            if err or steps not in (b"", b"REFUSED\n") or not is_right or (what in ("again", "whole") and is_met and setting == "REFUSE_FROM"):
                 wrong.append((at, status, out[-80:], err[-200:]))
-        again = answers[0, b"REFUSED\nDONE\n"]
-        told(f"memory: images in a vector, {title.format(at - 1)}", not wrong and not is_met and (again > 0) == (setting == "REFUSE_AT"), f"{len(wrong)} wrong, the first: {wrong[:3]}; {again} made again")
-        print(f"memory: images in a vector: {title.format(at - 1)}; {again} steps refused and made again", flush=True)
+        is_tried = answers["told"] and bool(answers["again"]) == (setting == "REFUSE_AT")
+        told(f"memory: images in a vector, {title.format(at - 1)}", not wrong and not is_met and is_tried, f"{len(wrong)} wrong, the first: {wrong[:3]}; {answers}")
+        print(f"memory: images in a vector: {title.format(at - 1)}; {answers['again']} steps refused and made again, {answers['told']} scripts with a refused step or input", flush=True)
 
+
+def replies_with(replies, commands, told):
+    """The replies that a session may have where some of its steps and inputs are refused: as these tell where."""
+    made, n, text = b"", 0, b""
+    for line in commands.splitlines(True):
+        rest, name = told.removeprefix(text), line.split()[0]
+        refused = re.match(rb"(?:\d+ CH \d+ \d+\n)*E2 MEMORY\n(?:AT (\d+) .*\n)?", rest)
+        if refused and name == b"add":
+            text += b"E2 MEMORY\n"
+            continue
+        is_cut = refused and name in (b"run", b"step")
+        # (a step that is refused at once leaves the position at the present, as `goto` does)
+        made += line if not is_cut else b"step %d\n" % (int(refused[1]) - n) if int(refused[1]) > n else b"goto %d\n" % n
+        reply = replies(made).removeprefix(text.replace(b"E2 MEMORY\n", b""))
+        if is_cut:
+            reply = re.sub(rb"(AT .*\n)$", rb"E2 MEMORY\n\1", reply)
+        if name in (b"run", b"step"):
+            n = int(re.search(rb"AT (\d+) .*\n$", reply)[1])
+        text += reply
+    return text
 
 
 def files_without_memory(refusing, source, feed, old, made):
@@ -192,7 +268,7 @@ def files_without_memory(refusing, source, feed, old, made):
     if os.path.exists(made):
         os.remove(made)
     upgrade, images = ("upgrade", old, made), ("--image", "--rope=1", old, feed)
-    calls = [(("asm", source, made), (source, made)), (("run", source, feed, "1"), (source, feed)), (("debug", source, feed), (source, feed)), (upgrade, (old, made))]
+    calls = [(("asm", source, made), (source, made)), (("run", source, feed, "1"), (source, feed)), (("trace", source, feed, "1"), (source, feed)), (("cover", source, feed, "1"), (source, feed)), (("debug", source, feed), (source, feed)), (upgrade, (old, made))]
     calls += [(("words", "--rope=1", old), (old,)), (("sums", "--rope=1", old), (old,)), (("run", *images, "1"), (old, feed)), (("debug", *images), (old, feed))]
     for words, files in calls:
         for file in files:
@@ -217,8 +293,8 @@ def devices(room):
     image, other = write(f"{room}/image", bytes(IMAGE_BYTES)), f"{room}/other"
     agcws("asm", "--rope", "1", FIVE, other)
     # Calls that write some output, the last two a session's.
-    writing = [("run", FIVE, EMPTY, "100"), ("run", "--end", FIVE, EMPTY, "100"), ("run", "--image", "--rope=1", other, EMPTY, "100"), ("asm", FIVE, made), ("words", "--rope=1", image)]
-    writing += [("compare", "--old=1", "--new=1", image, other), ("sums", "--rope=1", image), ("--help",), ("words", "--help"), ("--version",)]
+    writing = [("run", FIVE, EMPTY, "100"), ("trace", FIVE, EMPTY, "100"), ("cover", FIVE, EMPTY, "100"), ("run", "--end", FIVE, EMPTY, "100"), ("run", "--progress", FIVE, EMPTY, "100"), ("run", "--image", "--rope=1", other, EMPTY, "100"), ("asm", FIVE, made), ("words", "--rope=1", image)]
+    writing += [("compare", "--old=1", "--new=1", image, other), ("sums", "--rope=1", image), ("parity", image), ("--help",), ("words", "--help"), ("--version",)]
     writing += [("debug", FIVE, EMPTY), ("debug", "--image", "--rope=1", other, EMPTY)]
     outputs_that_fail(writing)
     for words in (("asm", FIVE, "/dev/full"), ("upgrade", image, "/dev/full"), ("asm", FIVE, folder), ("upgrade", image, folder), ("asm", FIVE, f"{folder}/none/rope"), ("upgrade", image, f"{folder}/none/rope")):
@@ -227,7 +303,7 @@ def devices(room):
     if os.path.exists(made):
         os.remove(made)
     for bad in (none, folder):
-        reading = [("run", bad, EMPTY, "1"), ("run", FIVE, bad, "1"), ("asm", bad, made), ("debug", bad, EMPTY), ("debug", FIVE, bad), ("upgrade", bad, made), ("words", bad), ("words", bad, "02"), ("sums", bad)]
+        reading = [("run", bad, EMPTY, "1"), ("run", FIVE, bad, "1"), ("trace", bad, EMPTY, "1"), ("trace", FIVE, bad, "1"), ("cover", bad, EMPTY, "1"), ("cover", FIVE, bad, "1"), ("asm", bad, made), ("debug", bad, EMPTY), ("debug", FIVE, bad), ("upgrade", bad, made), ("words", bad), ("words", bad, "02"), ("sums", bad), ("parity", bad)]
         reading += [("compare", bad, image), ("compare", "--old=1", image, bad), ("run", "--image", bad, EMPTY, "1"), ("run", "--image", "--rope=1", image, bad, "1")]
         reading += [("debug", "--image", bad, EMPTY), ("debug", "--image", "--rope=1", image, bad)]
         for words in reading:
@@ -292,12 +368,15 @@ def endless_inputs(made):
     for words, error in (
         (("run", zeros, EMPTY, "1"), b"E34"),
         (("run", FIVE, zeros, "1"), b"E34"),
+        (("trace", FIVE, zeros, "1"), b"E34"),
+        (("cover", FIVE, zeros, "1"), b"E34"),
         (("asm", zeros, made), b"E34"),
         (("debug", FIVE, zeros), b"E34"),
         (("upgrade", zeros, made), b"E4"),
         (("words", "--rope=1", zeros), b"E4"),
         (("words", zeros), b"E5"),
         (("sums", "--rope=1", zeros), b"E4"),
+        (("parity", zeros), b"E4"),
         (("compare", "--old=1", zeros, zeros), b"E4"),
         (("run", "--image", "--rope=1", zeros, EMPTY, "1"), b"E4"),
         (("debug", "--image", zeros, EMPTY), b"E5"),
@@ -356,11 +435,17 @@ def sizes(room):
     most = 8_388_608
     zeros = write(f"{room}/zeros", bytes(IMAGE_BYTES))
     large = write(f"{room}/large", b"#" * 100 + b"\n" * (most - 99))
-    for words in (("run", large, EMPTY, "1"), ("run", FIVE, large, "1"), ("asm", large, f"{room}/rope"), ("debug", FIVE, large), ("run", "--image", "--rope=1", zeros, large, "1"), ("debug", "--image", "--rope=1", zeros, large)):
+    for words in (("run", large, EMPTY, "1"), ("run", FIVE, large, "1"), ("trace", FIVE, large, "1"), ("asm", large, f"{room}/rope"), ("debug", FIVE, large), ("run", "--image", "--rope=1", zeros, large, "1"), ("debug", "--image", "--rope=1", zeros, large)):
         answer = agcws(*words)
         told(f"sizes: {words[0]} of {most + 1} bytes", answer == (1, b"", b"agcws: E34\n"), f"{answer}")
     whole = write(f"{room}/whole", b" SETLOC 4000\n TCF 4000\n" + b"#\n" * 65_534)
     told("sizes: a source of 65,536 lines", agcws("run", whole, EMPTY, "5") == (0, b"", b""), f"{agcws('run', whole, EMPTY, '5')}")
+    # The longest source that has no fault: as many lines as there may be, and each as long as it may be.
+    longest, made = b" SETLOC 4000\n TCF 4000\n" + (b"#" * 120 + b"\n") * 65_534, f"{room}/longest_rope"
+    write(whole, longest)
+    told(f"sizes: a source of {len(longest)} bytes", agcws("run", whole, EMPTY, "5") == (0, b"", b""))
+    status, out, err = agcws("asm", whole, made)
+    told(f"sizes: the image and the listing of {len(longest)} bytes", (status, err) == (0, b"") and os.path.getsize(made) == IMAGE_BYTES and out.endswith(b"SYMBOLS 0\n"), f"{status} {out[-80:]} {err}")
     write(whole, b" SETLOC 4000\n TCF 4000\n" + b"#\n" * 65_535)
     told("sizes: a source of 65,537 lines", agcws("run", whole, EMPTY, "5") == (1, b"", b"agcws: E12 LINE 65537\n"), f"{agcws('run', whole, EMPTY, '5')}")
     inputs = write(f"{room}/inputs", b"7 TIME1 PINC\n" * 65_536)
@@ -382,6 +467,8 @@ def image_sizes(room, zeros):
         for words in (
             ("words", "--rope=1", image),
             ("sums", "--rope=1", image),
+            ("parity", image),
+            ("words", "--parity=ignore", image),
             ("compare", "--old=1", "--new=1", image, zeros),
             ("compare", "--old=1", "--new=1", zeros, image),
             ("run", "--image", "--rope=1", image, EMPTY, "1"),
@@ -508,10 +595,12 @@ def alike(made, seed):
 
 def main():
     parser = argparse.ArgumentParser(description=__doc__, formatter_class=argparse.RawDescriptionHelpFormatter)
-    parser.add_argument("--cases", type=int, default=20_000)
+    parser.add_argument("--cases", type=int, default=20_000 if os.environ.get("CI") == "true" else 600)
     parser.add_argument("--seed", default="agcws")
     parser.add_argument("parts", nargs="*", choices=[[], "memory", "devices", "sizes", "bytes"], metavar="PART")
     given = parser.parse_args()
+    if cases.is_any_missing("hostile/check.py", *([VECTOR_SESSION] if not given.parts or "memory" in given.parts else [])):
+        return 1
     parts = {"memory": memory, "devices": devices, "sizes": sizes, "bytes": lambda room: hostile_bytes(room, given.cases, given.seed)}
     for name, part in parts.items():
         if not given.parts or name in given.parts:

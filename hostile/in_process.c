@@ -28,6 +28,7 @@
 #include <stdlib.h>
 #include <string.h>
 #include <sys/mman.h>
+#include <sys/stat.h>
 #include <sys/syscall.h>
 #include <sys/time.h>
 #include <time.h>
@@ -194,17 +195,54 @@ int posix_memalign(void **result, size_t alignment, size_t size)
 
 /* Devices */
 
-static int open_file(const char *path, int flags)
+/* The file that a call makes, which stands under the first name until it is whole. */
+static const char *const DRAFT = "made.part0", *const MADE = "made";
+
+/* The number of a file that is there, or -1. */
+static int find_file(const char *path)
 {
-    if (strcmp(path, "made") == 0 && flags & O_CREAT) {
-        call.outcome->is_made = 1;
-        return MADE_FILE;
-    }
     for (size_t number = 0; number < call.file_count; number++) {
-        if (strcmp(path, call.files[number].path) == 0) return FIRST_FILE + (int)number;
+        if (strcmp(path, call.files[number].path) == 0) return (int)number;
     }
     errno = ENOENT;
     return -1;
+}
+
+static int open_file(const char *path, int flags)
+{
+    if (strcmp(path, DRAFT) == 0 && flags & O_CREAT) return MADE_FILE;
+    int number = find_file(path);
+    return number < 0 ? -1 : FIRST_FILE + number;
+}
+
+int rename(const char *from, const char *to)
+{
+    if (!call.is_under_way) return (int)syscall(SYS_rename, from, to);
+    if (strcmp(from, DRAFT) != 0 || strcmp(to, MADE) != 0) {
+        errno = ENOENT;
+        return -1;
+    }
+    call.outcome->is_made = 1;
+    return 0;
+}
+
+int unlink(const char *path)
+{
+    if (!call.is_under_way) return (int)syscall(SYS_unlink, path);
+    if (strcmp(path, DRAFT) == 0) call.outcome->made_length = 0;
+    return 0;
+}
+
+int statx(int folder, const char *path, int flags, unsigned mask, struct statx *found)
+{
+    if (!call.is_under_way) return (int)syscall(SYS_statx, folder, path, flags, mask, found);
+    int number = find_file(path);
+    if (number < 0) return -1;
+    memset(found, 0, sizeof *found);
+    found->stx_mode = S_IFREG | 0644;
+    found->stx_nlink = 1;
+    found->stx_ino = (unsigned)number + 1;
+    return 0;
 }
 
 int open(const char *path, int flags, ...)
@@ -399,6 +437,9 @@ static int is_reply(const unsigned char *line, size_t length)
     return (length == 4 && is_octal(line, 4)) || is_channel_line(line, length);
 }
 
+/* The form of replies: of an extended session any line is one, since it says what `echo` is given. */
+static int (*reply_form)(const unsigned char *, size_t) = is_reply;
+
 /* How many lines an output has, or NEVER where one is not of its form. */
 static long lines_of(const struct outcome *outcome, int is_form(const unsigned char *, size_t))
 {
@@ -454,14 +495,14 @@ static const char *judge_image(const struct outcome *outcome)
     if (strcmp(command, "upgrade") == 0) return is_upgraded(&call.files[0], outcome) && outcome->out_length == 0 ? NULL : "another upgrade";
     if (strcmp(command, "sums") == 0) return lines_of(outcome, NULL) == 36 ? NULL : "another count of sums";
     if (strcmp(command, "words") == 0) return lines_of(outcome, NULL) == (has_bank ? 1024 : IMAGE_BYTES / 2) ? NULL : "another count of words";
-    return lines_of(outcome, strcmp(command, "run") == 0 ? is_channel_line : is_reply) == NEVER ? "another output" : NULL;
+    return lines_of(outcome, strcmp(command, "run") == 0 ? is_channel_line : reply_form) == NEVER ? "another output" : NULL;
 }
 
 /* Why an answer of status 0 is wrong, or NULL. */
 static const char *judge_done(const struct outcome *outcome)
 {
     int is_run = strcmp(command, "run") == 0, is_debug = strcmp(command, "debug") == 0;
-    if (is_run || is_debug) return lines_of(outcome, is_run ? is_channel_line : is_reply) == NEVER || outcome->is_made ? "another output" : NULL;
+    if (is_run || is_debug) return lines_of(outcome, is_run ? is_channel_line : reply_form) == NEVER || outcome->is_made ? "another output" : NULL;
     return outcome->is_made && outcome->made_length == IMAGE_BYTES && lines_of(outcome, NULL) > 0 ? NULL : "no whole image, or no listing";
 }
 
@@ -559,6 +600,7 @@ static void find_files(int count, char **words)
     command = words[1];
     image_version = strcmp(command, "upgrade") == 0 || has_option(count, words, "--rope=1") || has_option(count, words, "--old=1") ? 1 : 2;
     has_end = has_option(count, words, "--end");
+    reply_form = has_option(count, words, "--extended") ? NULL : is_reply;
     has_twin = has_option(count, words, "twin");
     has_bank = strcmp(command, "words") == 0 && strcmp(words[count - 1], "case") != 0;
     has_case = has_option(count, words, "case");

@@ -91,11 +91,12 @@ int posix_memalign(void **result, size_t alignment, size_t size)
     return 0;
 }
 
-/* Opens a file, or refuses it for want of memory. */
+/* Opens a file, or refuses it, and a draft for it, for want of memory. */
 static int open_file(int folder, const char *path, int flags, mode_t mode)
 {
     const char *refused = getenv("REFUSE_OPEN");
-    if (refused && strcmp(path, refused) == 0) {
+    size_t length = refused ? strlen(refused) : 0;
+    if (refused && strncmp(path, refused, length) == 0 && (path[length] == 0 || strncmp(path + length, ".part", 5) == 0)) {
         errno = ENOMEM;
         return -1;
     }

@@ -13,6 +13,12 @@ pub const ASM: &str = "asm";
 /// The name of the subcommand that runs a program.
 pub const RUN: &str = "run";
 
+/// The name of the subcommand that traces a run.
+pub const TRACE: &str = "trace";
+
+/// The name of the subcommand that profiles a run.
+pub const COVER: &str = "cover";
+
 /// The name of the subcommand that debugs a program.
 pub const DEBUG: &str = "debug";
 
@@ -27,6 +33,33 @@ pub const COMPARE: &str = "compare";
 
 /// The name of the subcommand that sums the banks of an image.
 pub const SUMS: &str = "sums";
+
+/// The name of the subcommand that tells which words of an image have a wrong parity.
+pub const PARITY: &str = "parity";
+
+/// The option by which the low bits of an image are passed over.
+pub const IGNORED_PARITY: &str = "IGNORED_PARITY";
+
+/// How parity is passed over, as it is named.
+static PARITIES: [&str; 1] = ["ignore"];
+
+/// The option that is the form of an image.
+pub const FORM: &str = "FORM";
+
+/// The option that is the form of the first of two images.
+pub const OLD_FORM: &str = "OLD_FORM";
+
+/// The option that is the form of the second of two images.
+pub const NEW_FORM: &str = "NEW_FORM";
+
+/// The form with the parity bit below the highest, as it is named.
+static FORMS: [&str; 1] = ["hardware"];
+
+/// The option that is the first step of which a line is written.
+pub const FROM: &str = "FROM";
+
+/// The option that is the last step of which a line is written.
+pub const TO: &str = "TO";
 
 /// The argument that names the source.
 pub const SOURCE: &str = "SRC";
@@ -48,6 +81,9 @@ static VERSIONS: [&str; 2] = [VERSION_ONE, VERSION_TWO];
 /// The option by which the first argument names an image in place of a source.
 pub const IMAGE: &str = "IMAGE";
 
+/// The option by which a session has more commands, and refusals in words.
+pub const EXTENDED: &str = "EXTENDED";
+
 /// The option that is the version of the first of two images.
 pub const OLD_VERSION: &str = "OLD_VERSION";
 
@@ -57,11 +93,14 @@ pub const NEW_VERSION: &str = "NEW_VERSION";
 /// The argument that is a bank.
 pub const BANK: &str = "BANK";
 
-/// The banks by their numbers, as they are named.
-pub static BANKS: [&str; 36] = [
+/// How many banks there are.
+pub const BANK_COUNT: usize = 36;
+
+/// The names of the banks by their numbers, and after them the shorter names that the first eight have besides.
+pub static BANKS: [&str; 44] = [
     "00", "01", "02", "03", "04", "05", "06", "07", "10", "11", "12", "13", "14", "15", "16", "17",
     "20", "21", "22", "23", "24", "25", "26", "27", "30", "31", "32", "33", "34", "35", "36", "37",
-    "40", "41", "42", "43",
+    "40", "41", "42", "43", "0", "1", "2", "3", "4", "5", "6", "7",
 ];
 
 /// The argument that names the file of an image of version 1.
@@ -79,6 +118,9 @@ pub const STEPS: &str = "N";
 /// The option that tells how a run has ended.
 pub const END: &str = "END";
 
+/// The option that tells how many steps are made, while they are made.
+pub const PROGRESS: &str = "PROGRESS";
+
 const ASM_HELP: &str = "Files:
   SRC   a source in the assembler's language, at most 65536 lines of at most
         120 bytes. A label begins at the first byte of its line; operator,
@@ -87,9 +129,10 @@ const ASM_HELP: &str = "Files:
         of 1024 words, each word as two bytes, high byte first, of twice the
         word. In version 2 the lowest bit is a parity bit, by which every two
         bytes have an odd number of one bits; in version 1 it is 0.
-        The file is made at the first write: a refused source leaves none.
-  SRC and ROPE must be two paths. They are compared as they are written, and
-  not what they lead to: p.agc and ./p.agc pass, and then the source is lost.
+        The file is made at the first write: a refused source leaves none. It
+        is written beside its place, as ROPE.part0, and put there whole: where
+        that fails an old image stands as it was.
+  ROPE may not end in .agc or .feed, nor be the file SRC, by whatever path.
 
 Output: the listing, a row for each line of the source with its number, its
 place and its word in octal, and then the symbols.
@@ -107,9 +150,10 @@ const UPGRADE_HELP: &str = "Files:
        of twice the word. One with a parity bit set is refused.
   NEW  the image of the same words in version 2, where the lowest bit of every
        two bytes is a parity bit: they have an odd number of one bits.
-       The file is made at the first write: a refused image leaves none.
-  OLD and NEW must be two paths. They are compared as they are written, and
-  not what they lead to: p.rope and ./p.rope pass, and then OLD is lost.
+       The file is made at the first write: a refused image leaves none. It is
+       written beside its place, as NEW.part0, and put there whole: where that
+       fails an old image stands as it was.
+  NEW may not end in .agc or .feed, nor be the file OLD, by whatever path.
 
 Exit status:
   0  done
@@ -121,6 +165,9 @@ Status 1 and 3 print one line to standard error, as agcws: E5.";
 
 const WORDS_HELP: &str = "Files:
   ROPE  a rope image, as agcws asm writes it.
+        With --parity ignore the lowest bit of each two bytes is passed over,
+        whatever --rope says; with --form hardware a parity bit stands below
+        the highest bit of each two bytes, and not lowest.
 
 Output: one line for each word of the bank, or of all banks in the order of
 their numbers, as
@@ -142,6 +189,9 @@ Status 1 and 3 print one line to standard error, as agcws: E5.";
 const COMPARE_HELP: &str = "Files:
   OLD  a rope image, as agcws asm writes it.
   NEW  another.
+       With --parity ignore the lowest bit of each two bytes is passed over,
+       whatever --old and --new say; with --old-form hardware and --new-form
+       hardware a parity bit stands below the highest bit of each two bytes.
 
 Output: one line for each place where the words differ, banks in the order of
 their numbers, as
@@ -161,6 +211,9 @@ no COUNT.";
 
 const SUMS_HELP: &str = "Files:
   ROPE  a rope image, as agcws asm writes it.
+        With --parity ignore the lowest bit of each two bytes is passed over,
+        whatever --rope says; with --form hardware a parity bit stands below
+        the highest bit of each two bytes, and not lowest.
 
 Output: one line for each bank in the order of their numbers, as
   02 00002
@@ -178,11 +231,30 @@ Exit status:
   3  a file, a device or memory failed
 Status 1 and 3 print one line to standard error, as agcws: E5.";
 
+const PARITY_HELP: &str = "Files:
+  ROPE  a rope image, as agcws asm writes it. With --form hardware a parity
+        bit stands below the highest bit of each two bytes, and not lowest.
+
+Output: one line for each word whose two bytes have an even number of one bits,
+banks in the order of their numbers, as
+  02,4001 64005 BYTE 2
+with the place as in a listing, the word in octal, and in decimal the number of
+its first byte in the file, from 0 on. Then COUNT, and how many there are.
+
+Exit status:
+  0  all words have the right parity
+  1  some have not; or the image is refused: it is short (E3) or long (E4)
+  2  the command line is wrong
+  3  a file, a device or memory failed
+A refusal and status 3 print one line to standard error, as agcws: E3, and write
+no COUNT.";
+
 const RUN_HELP: &str = "Files:
   SRC   a source in the assembler's language, at most 65536 lines of at most
         120 bytes. A label begins at the first byte of its line; operator,
         operand and offset follow, and # begins a comment.
-        With --image it is a rope image, as agcws asm writes it.
+        With --image it is a rope image, as agcws asm writes it; and with
+        --parity and --form it is taken as agcws words takes it.
   FEED  the timed inputs of the run, at most 65536, one a line, whose cycles
         do not fall; blank lines and comments after # are passed over:
           CYCLE CHAN CHANNEL WORD     a word on an input channel, in octal
@@ -207,6 +279,63 @@ with the cycles in decimal, and the channel and the word in octal.
 With --end, when all steps are made, also one line to standard error, as
   END STEPS 4 CYCLES 7 OUTPUTS 1 Z 4004
 with the lines written as OUTPUTS, and in octal Z, where the program stands.
+With --progress, after each 1048576 steps one line to standard error, as
+  agcws: STEPS 1048576
+
+Exit status:
+  0  done
+  1  the source, or the image, or the feed is refused
+  2  the command line is wrong
+  3  a file, a device or memory failed
+Status 1 and 3 print one line to standard error, as agcws: E14 LINE 9.";
+
+const TRACE_HELP: &str = "Files:
+  SRC   a source, as agcws run takes it, or with --image a rope image: then
+        there are no symbols
+  FEED  the timed inputs, as agcws run takes them
+
+Output: one line for each of the N steps, or with --from and --to for those
+from one to another, as
+  2         4         02,4001  64005  AD FIVE             A=000012
+Two blanks or more stand between two fields:
+  the step, from 1 on, and the cycles after it, in decimal
+  the place of the word, as in a listing; BRUPT where RESUME brought the word;
+      of an interrupt that is entered, the place where it leads; of an input -
+  the word that is executed; ENTRY of an interrupt; INPUT of an input
+  the instruction, with the symbol of the place that it names, and what INDEX
+      has added, as +3; the interrupt's name; the input as in a feed, and after
+      ASKS the interrupt for which it asks
+  what the step has written, each as PLACE=WORD with a blank between two, or -:
+      registers by their letters, other places by symbol or number, channels as
+      CH010; A and Q in 16 bits. Z is not shown
+  what agcws run writes in this step, if anything
+With --progress, after each 1048576 steps one line to standard error, as
+  agcws: STEPS 1048576
+
+Exit status:
+  0  done
+  1  the source, or the image, or the feed is refused
+  2  the command line is wrong
+  3  a file, a device or memory failed
+Status 1 and 3 print one line to standard error, as agcws: E14 LINE 9.";
+
+const COVER_HELP: &str = "Files:
+  SRC   a source, as agcws run takes it, or with --image a rope image
+  FEED  the timed inputs, as agcws run takes them
+
+Output: the rows of the listing, or with --image the lines of agcws words, each
+after two columns, right in 10 places with a blank after each: how often its
+word was executed in N steps, and the cycles that this took, as
+         2          4    25 02,4104 54100  LOOP    TS      COUNT
+A word that was never executed has - in both, a row without a word blanks. Below
+stand, with the same columns, one in each row:
+  the erasable places that were executed, and then the places of fixed memory
+      where no word stands; those that were not executed have no row
+  INPUT  the inputs that were taken
+  ENTRY  the interrupts that were entered
+  BRUPT  the words that RESUME brought
+  TOTAL  all steps, and all cycles
+Each step is counted once.
 
 Exit status:
   0  done
@@ -255,6 +384,12 @@ new steps come before a command's other lines. A blank line and a comment draw
 no reply, any other line E50 COMMAND, or E51 LONG above 80 bytes. E40 LIMIT ends
 a command at the last step, 1099511627774; E2 MEMORY leaves all as it was.
 
+With --extended there are these besides, and after E50 COMMAND stands why:
+  breaks               the breakpoints, one a line, as BREAK I at PLACE; COUNT
+  clear I              breakpoint I is taken away: CLEAR I, or NONE
+  echo TEXT            TEXT, as it stands, so that a reply's end can be told
+  help, help COMMAND   what each command takes and does, or one, as HELP lines
+
 Exit status:
   0  done
   1  the source, or the image, or the feed is refused
@@ -269,14 +404,16 @@ pub fn command<'a>(alloc: Global) -> Result<Command<'a>, AllocError> {
         .version(PROGRAM_VERSION)
         .after_help("See the --help of each for its files, its output and its exit statuses.")
         .subcommand_required(true)
-        .disable_help_subcommand(true)
         .subcommand(asm_command(alloc)?)?
         .subcommand(run_command(alloc)?)?
+        .subcommand(trace_command(alloc)?)?
+        .subcommand(cover_command(alloc)?)?
         .subcommand(debug_command(alloc)?)?
         .subcommand(upgrade_command(alloc)?)?
         .subcommand(words_command(alloc)?)?
         .subcommand(compare_command(alloc)?)?
-        .subcommand(sums_command(alloc)?)
+        .subcommand(sums_command(alloc)?)?
+        .subcommand(parity_command(alloc)?)
 }
 
 /// `agcws asm [--rope VERSION] SRC ROPE`.
@@ -284,11 +421,7 @@ fn asm_command<'a>(alloc: Global) -> Result<Command<'a>, AllocError> {
     Command::new(alloc, ASM)
         .about("Assembles a source to a rope image and a listing")
         .after_help(ASM_HELP)
-        .arg(
-            Arg::new(alloc, SOURCE)
-                .required(true)
-                .help("The source, a file"),
-        )?
+        .arg(source_argument(alloc))?
         .arg(
             Arg::new(alloc, ROPE)
                 .required(true)
@@ -320,7 +453,7 @@ fn upgrade_command<'a>(alloc: Global) -> Result<Command<'a>, AllocError> {
         )
 }
 
-/// `agcws words [--rope VERSION] ROPE [BANK]`.
+/// `agcws words [--rope VERSION] [--parity ignore] [--form FORM] ROPE [BANK]`.
 fn words_command<'a>(alloc: Global) -> Result<Command<'a>, AllocError> {
     Command::new(alloc, WORDS)
         .about("Shows the words of a rope image as instructions")
@@ -330,12 +463,14 @@ fn words_command<'a>(alloc: Global) -> Result<Command<'a>, AllocError> {
             Arg::new(alloc, BANK)
                 .value_parser(BANKS.as_slice())
                 .hide_possible_values(true)
-                .help("The bank, 00 to 43 (octal, two digits); all where none is given"),
+                .help("The bank, 0 to 43 (octal); all where none is given"),
         )?
-        .arg(version_option(alloc, VERSION, "rope"))
+        .arg(version_option(alloc, VERSION, "rope"))?
+        .arg(parity_option(alloc))?
+        .arg(form_option(alloc, FORM, "form"))
 }
 
-/// `agcws compare [--old VERSION] [--new VERSION] OLD NEW`.
+/// `agcws compare [--old VERSION] [--new VERSION] [--parity ignore] [--old-form FORM] [--new-form FORM] OLD NEW`.
 fn compare_command<'a>(alloc: Global) -> Result<Command<'a>, AllocError> {
     Command::new(alloc, COMPARE)
         .about("Shows where the words of two rope images differ")
@@ -343,16 +478,30 @@ fn compare_command<'a>(alloc: Global) -> Result<Command<'a>, AllocError> {
         .arg(image_argument(alloc, OLD))?
         .arg(image_argument(alloc, NEW))?
         .arg(version_option(alloc, OLD_VERSION, "old"))?
-        .arg(version_option(alloc, NEW_VERSION, "new"))
+        .arg(version_option(alloc, NEW_VERSION, "new"))?
+        .arg(parity_option(alloc))?
+        .arg(form_option(alloc, OLD_FORM, "old-form"))?
+        .arg(form_option(alloc, NEW_FORM, "new-form"))
 }
 
-/// `agcws sums [--rope VERSION] ROPE`.
+/// `agcws sums [--rope VERSION] [--parity ignore] [--form FORM] ROPE`.
 fn sums_command<'a>(alloc: Global) -> Result<Command<'a>, AllocError> {
     Command::new(alloc, SUMS)
         .about("Sums the words of each bank of a rope image")
         .after_help(SUMS_HELP)
         .arg(image_argument(alloc, ROPE))?
-        .arg(version_option(alloc, VERSION, "rope"))
+        .arg(version_option(alloc, VERSION, "rope"))?
+        .arg(parity_option(alloc))?
+        .arg(form_option(alloc, FORM, "form"))
+}
+
+/// `agcws parity [--form FORM] ROPE`.
+fn parity_command<'a>(alloc: Global) -> Result<Command<'a>, AllocError> {
+    Command::new(alloc, PARITY)
+        .about("Shows the words of a rope image whose parity is wrong")
+        .after_help(PARITY_HELP)
+        .arg(image_argument(alloc, ROPE))?
+        .arg(form_option(alloc, FORM, "form"))
 }
 
 /// An argument that names an image.
@@ -372,6 +521,24 @@ fn version_option<'a>(alloc: Global, name: &'a str, long: &'a str) -> Arg<'a> {
         .help("The image's version")
 }
 
+/// The option by which the low bits of an image are passed over.
+fn parity_option<'a>(alloc: Global) -> Arg<'a> {
+    Arg::new(alloc, IGNORED_PARITY)
+        .long("parity")
+        .value_name("HOW")
+        .value_parser(PARITIES.as_slice())
+        .help("How the lowest bits are taken")
+}
+
+/// An option that is the form of an image.
+fn form_option<'a>(alloc: Global, name: &'a str, long: &'a str) -> Arg<'a> {
+    Arg::new(alloc, name)
+        .long(long)
+        .value_name("F")
+        .value_parser(FORMS.as_slice())
+        .help("The order of the bits")
+}
+
 /// The option by which an image is run in place of a source.
 fn image_option<'a>(alloc: Global) -> Arg<'a> {
     Arg::new(alloc, IMAGE)
@@ -380,52 +547,103 @@ fn image_option<'a>(alloc: Global) -> Arg<'a> {
         .help("The first file is a rope image")
 }
 
-/// `agcws run [--end] [--image] [--rope VERSION] SRC FEED N`.
-fn run_command<'a>(alloc: Global) -> Result<Command<'a>, AllocError> {
-    Command::new(alloc, RUN)
-        .about("Writes what a program puts out on channels in some steps")
-        .after_help(RUN_HELP)
+/// The arguments of what runs a program: a source or an image, with how this is taken, and a feed.
+fn program_arguments<'a>(alloc: Global, command: Command<'a>) -> Result<Command<'a>, AllocError> {
+    command
         .arg(image_option(alloc))?
         .arg(version_option(alloc, VERSION, "rope").requires_arg(IMAGE)?)?
-        .arg(
-            Arg::new(alloc, SOURCE)
-                .required(true)
-                .help("The source, a file"),
-        )?
+        .arg(parity_option(alloc).requires_arg(IMAGE)?)?
+        .arg(form_option(alloc, FORM, "form").requires_arg(IMAGE)?)?
+        .arg(source_argument(alloc))?
         .arg(
             Arg::new(alloc, FEED)
                 .required(true)
-                .help("The feed, a file"),
-        )?
-        .arg(
-            Arg::new(alloc, STEPS)
-                .required(true)
-                .value_parser(value_parser!(u64).range(0..=MOST_STEPS as i64))
-                .help("How many steps, 0 to 1099511627774"),
-        )?
+                .help("The feed, a file; /dev/null where there are no inputs"),
+        )
+}
+
+/// The argument that names a source.
+fn source_argument<'a>(alloc: Global) -> Arg<'a> {
+    Arg::new(alloc, SOURCE)
+        .required(true)
+        .help("The source, a file")
+}
+
+/// The argument that is the number of steps.
+fn steps_argument<'a>(alloc: Global) -> Arg<'a> {
+    Arg::new(alloc, STEPS)
+        .required(true)
+        .allow_negative_numbers(true)
+        .value_parser(value_parser!(u64).range(0..=MOST_STEPS as i64))
+        .help("How many steps, 0 to 1099511627774")
+}
+
+/// `agcws run [--end] [--progress] [--image] [--rope VERSION] [--parity ignore] [--form FORM] SRC FEED N`.
+fn run_command<'a>(alloc: Global) -> Result<Command<'a>, AllocError> {
+    let command = Command::new(alloc, RUN)
+        .about("Writes what a program puts out on channels in some steps")
+        .after_help(RUN_HELP);
+    program_arguments(alloc, command)?
+        .arg(steps_argument(alloc))?
         .arg(
             Arg::new(alloc, END)
                 .long("end")
                 .action(ArgAction::SetTrue)
                 .help("Tells how the run has ended, on standard error"),
-        )
+        )?
+        .arg(progress_option(alloc))
 }
 
-/// `agcws debug [--image] [--rope VERSION] SRC FEED`.
+/// `agcws trace [--progress] [--image] [--rope VERSION] [--parity ignore] [--form FORM] SRC FEED N [--from T] [--to T]`.
+fn trace_command<'a>(alloc: Global) -> Result<Command<'a>, AllocError> {
+    let command = Command::new(alloc, TRACE)
+        .about("Writes a line for each step of a run")
+        .after_help(TRACE_HELP);
+    program_arguments(alloc, command)?
+        .arg(steps_argument(alloc))?
+        .arg(step_option(alloc, FROM, "from").help(
+            "The first step that is shown; 1 where none is given",
+        ))?
+        .arg(step_option(alloc, TO, "to").help(
+            "The last step that is shown; N where none is given",
+        ))?
+        .arg(progress_option(alloc))
+}
+
+/// The option that tells how many steps are made, while they are made.
+fn progress_option<'a>(alloc: Global) -> Arg<'a> {
+    Arg::new(alloc, PROGRESS)
+        .long("progress")
+        .action(ArgAction::SetTrue)
+        .help("Tells the steps made so far, on standard error")
+}
+
+/// `agcws cover [--image] [--rope VERSION] [--parity ignore] [--form FORM] SRC FEED N`.
+fn cover_command<'a>(alloc: Global) -> Result<Command<'a>, AllocError> {
+    let command = Command::new(alloc, COVER)
+        .about("Shows how often each word is executed, and for how many cycles")
+        .after_help(COVER_HELP);
+    program_arguments(alloc, command)?.arg(steps_argument(alloc))
+}
+
+/// An option that is a step.
+fn step_option<'a>(alloc: Global, name: &'a str, long: &'a str) -> Arg<'a> {
+    Arg::new(alloc, name)
+        .long(long)
+        .value_name("T")
+        .value_parser(value_parser!(u64).range(0..=MOST_STEPS as i64))
+}
+
+/// `agcws debug [--extended] [--image] [--rope VERSION] [--parity ignore] [--form FORM] SRC FEED`.
 fn debug_command<'a>(alloc: Global) -> Result<Command<'a>, AllocError> {
-    Command::new(alloc, DEBUG)
+    let command = Command::new(alloc, DEBUG)
         .about("Replies to commands about a run, forwards and backwards")
         .after_help(DEBUG_HELP)
-        .arg(image_option(alloc))?
-        .arg(version_option(alloc, VERSION, "rope").requires_arg(IMAGE)?)?
         .arg(
-            Arg::new(alloc, SOURCE)
-                .required(true)
-                .help("The source, a file"),
-        )?
-        .arg(
-            Arg::new(alloc, FEED)
-                .required(true)
-                .help("The feed, a file"),
-        )
+            Arg::new(alloc, EXTENDED)
+                .long("extended")
+                .action(ArgAction::SetTrue)
+                .help("More commands, and refusals in words: see its help"),
+        )?;
+    program_arguments(alloc, command)
 }

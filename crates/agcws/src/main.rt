@@ -1,32 +1,40 @@
 //! `agcws`: assembles, runs and debugs programs for the Apollo Guidance Computer, and shows rope images.
 #![tactic(auto)]
 
+ghost use Rattle.std.specs.Prelude.{◌≤◌, ◌-◌, ◌^◌, IfSome};
+
 mod command_line;
-mod lazy_file;
+mod gathered;
+mod image_file;
+mod target;
 
 use clap::ArgMatches;
 use clap::error::ErrorKind;
 use command_line::{
-    ASM, BANK, BANKS, COMPARE, DEBUG, END, FEED, IMAGE, NEW, NEW_VERSION, OLD, OLD_VERSION, ROPE,
-    RUN, SOURCE, STEPS, SUMS, UPGRADE, VERSION, VERSION_ONE, VERSION_TWO, WORDS, command,
+    ASM, BANK, BANK_COUNT, BANKS, COMPARE, COVER, DEBUG, END, EXTENDED, FEED, FORM, FROM,
+    IGNORED_PARITY, IMAGE, NEW, NEW_FORM, NEW_VERSION, OLD, OLD_FORM, OLD_VERSION, PARITY,
+    PROGRESS, ROPE, RUN, SOURCE, STEPS, SUMS, TO, TRACE, UPGRADE, VERSION, VERSION_ONE,
+    VERSION_TWO, WORDS, command,
 };
-use lazy_file::LazyFile;
-use std::alloc::AllocError;
+use gathered::Gathered;
+use image_file::ImageFile;
+use std::alloc::{AllocError, Global};
 use std::cell::Cell;
-use std::io::BufWriter;
 use std::process::ExitCode;
 use std::{env, fs, io};
+use target::wrong_target;
 use words::{ReadAhead, Std, Write, write_all};
 use workshop::{
-    Bank, Summary, Version, WorkshopFault, asm_engine, compare_engine, debug_engine,
-    debug_image_engine, may_run, report, run_engine, run_image_engine, sums_engine, upgrade_engine,
-    words_engine, write_end,
+    Bank, Form, InForm, Origin, Summary, Version, WorkshopFault, asm_engine, compare_engine,
+    cover_program, debug_extended, debug_program, may_run, parity_engine, report, run_and_tell,
+    run_program, sums_engine, trace_and_tell, trace_program, upgrade_engine, words_engine,
+    write_end,
 };
 
 /// The exit status where all is done.
 const DONE: u8 = 0;
 
-/// The exit status where two images differ.
+/// The exit status where two images differ, or an image has a wrong parity.
 const DIFFERENT: u8 = 1;
 
 /// The exit status where the arguments are wrong.
@@ -34,6 +42,14 @@ const WRONG_ARGUMENTS: u8 = 2;
 
 /// The null device.
 const NULL: &str = "/dev/null";
+
+/// What is said of a run, a trace or a profile without a feed, after what `clap` says.
+const NO_FEED: &[u8] =
+    b"\nFEED is missing, which stands before N: where a program takes no inputs, it is /dev/null.\n";
+
+/// What is said of a session without a feed.
+const NO_FEED_OF_SESSION: &[u8] =
+    b"\nFEED is missing: where a program takes no inputs, it is /dev/null.\n";
 
 /// The exit status where not even a fault's line can be written.
 const NOT_REPORTED: u8 = 3;
@@ -69,25 +85,71 @@ fn perform(rt: &HostRuntime) -> Result<u8, WorkshopFault> {
         Ok(matches) => match matches.subcommand() {
             Some((ASM, matches)) => asm(rt, matches),
             Some((RUN, matches)) => run(rt, matches),
+            Some((TRACE, matches)) => trace(rt, matches),
+            Some((COVER, matches)) => cover(rt, matches),
             Some((DEBUG, matches)) => debug(rt, matches),
             Some((UPGRADE, matches)) => upgrade(rt, matches),
             Some((WORDS, matches)) => show_words(rt, matches),
             Some((COMPARE, matches)) => compare(rt, matches),
             Some((SUMS, matches)) => show_sums(rt, matches),
+            Some((PARITY, matches)) => show_parity(rt, matches),
             _ => Ok(WRONG_ARGUMENTS),
         },
-        Err(error) => answer(rt, &error),
+        Err(error) => {
+            let status = answer(rt, &error)?;
+            if error.kind() != ErrorKind::MissingRequiredArgument {
+                return Ok(status);
+            }
+            match said_of_feed(&words) {
+                Some(text) => refuse_arguments(rt, text),
+                None => Ok(status),
+            }
+        }
+    }
+}
+
+/// What is said where arguments that lack some lack the feed: those of a session always do, and those of `agcws run`, of
+/// `agcws trace` and of `agcws cover` where they end with a number.
+fn said_of_feed(words: &[String]) -> Option<&'static [u8]> {
+    let name = words.get(1)?.as_str();
+    let is_number = words
+        .last()
+        .is_some_and(|word| word.as_str().parse::<u64>().is_ok());
+    if name == DEBUG {
+        Some(NO_FEED_OF_SESSION)
+    } else if is_number && (name == RUN || name == TRACE || name == COVER) {
+        Some(NO_FEED)
+    } else {
+        None
     }
 }
 
 /// Writes help to standard output, or a mistake in the arguments to standard error.
 fn answer(rt: &HostRuntime, error: &clap::Error) -> Result<u8, WorkshopFault> {
-    if error.kind() == ErrorKind::OutOfMemory {
-        return Err(WorkshopFault::NoMemory);
+    match error.kind() {
+        ErrorKind::OutOfMemory => return Err(WorkshopFault::NoMemory),
+        ErrorKind::UnknownArgument | ErrorKind::InvalidValue => {
+            let text = format!(in rt.alloc(); "{error}").map_err(no_memory)?;
+            let text = without_tip(rt.alloc(), text).map_err(no_memory)?;
+            return refuse_arguments(rt, text.as_str().as_bytes());
+        }
+        _ => {}
     }
     match error.print(rt) {
         Ok(()) => Ok(error.exit_code() as u8),
         Err(_) => Err(WorkshopFault::WriteFailed),
+    }
+}
+
+/// What `clap` says of a mistake, but for a tip and what it makes of it: it takes words for alike that are not, as `--version`
+/// and `--verbose`, and paths do not begin with `--`.
+fn without_tip(alloc: Global, text: String) -> Result<String, AllocError> {
+    let Some((mistake, others)) = text.as_str().split_once("\n\n  tip: ") else {
+        return Ok(text);
+    };
+    match others.rsplit_once("\n\n") {
+        Some((_, last)) => format!(in alloc; "{mistake}\n\n{last}"),
+        None => format!(in alloc; "{mistake}\n"),
     }
 }
 
@@ -99,8 +161,8 @@ fn refuse_arguments(rt: &HostRuntime, text: &[u8]) -> Result<u8, WorkshopFault> 
     }
 }
 
-/// `agcws asm [--rope VERSION] SRC ROPE`. The file ROPE is made at the first write, so that a refused source leaves none. One
-/// path for both is refused before anything is opened.
+/// `agcws asm [--rope VERSION] SRC ROPE`. The file ROPE is made at the first write, so that a refused source leaves none. A
+/// path of the source, or of one, is refused for ROPE before anything is opened.
 fn asm(rt: &HostRuntime, matches: &ArgMatches<'_>) -> Result<u8, WorkshopFault> {
     let (Some(source), Some(rope)) = (matches.get_str(SOURCE), matches.get_str(ROPE)) else {
         return Ok(WRONG_ARGUMENTS);
@@ -108,23 +170,42 @@ fn asm(rt: &HostRuntime, matches: &ArgMatches<'_>) -> Result<u8, WorkshopFault> 
     let Some(version) = version(matches, VERSION) else {
         return Ok(WRONG_ARGUMENTS);
     };
-    if source == rope {
-        return refuse_arguments(rt, b"error: SRC and ROPE are the same path\n");
+    if let Some(wrong) = wrong_target(rt, source, rope) {
+        return refuse_arguments(rt, wrong.of_an_assembly());
     }
     let mut source = Std::new(fs::open(rt, source).map_err(not_opened)?);
     let refused = Cell::new(false);
-    let mut image = Std::new(LazyFile::new(rt, rope, &refused));
-    let buffered = BufWriter::new(rt.alloc(), io::writer(rt)).map_err(not_buffered)?;
-    let mut listing = Std::new(buffered);
-    let outcome = asm_engine(rt.alloc(), &mut source, &mut image, &mut listing, version);
-    match listing.flush() {
-        Ok(()) => ended(outcome, &refused),
+    let mut image = Std::new(ImageFile::new(rt, rope, &refused));
+    with_stdout(rt, |listing| {
+        let outcome = asm_engine(rt.alloc(), &mut source, &mut image, listing, version);
+        ended(outcome, &refused)
+    })
+}
+
+/// Standard output, with what is to be written gathered.
+type StandardOutput<'a> = Std<Gathered<'a>>;
+
+/// Calls an engine with standard output, which is flushed then. That it can't be is told whatever the engine has answered.
+fn with_stdout<'a, T: Drop, F: FnOnce(&mut StandardOutput<'a>) -> Result<T, WorkshopFault>>(
+    rt: &'a HostRuntime,
+    engine: F,
+) -> Result<T, WorkshopFault>
+    requires { F.IsAlwaysCallable engine }
+{
+    let mut out = Std::new(Gathered::new(rt).map_err(not_buffered)?);
+    let outcome = engine(&mut out);
+    match out.flush() {
+        Ok(()) => outcome,
         Err(_) => Err(WorkshopFault::WriteFailed),
     }
 }
 
-/// The version of an image that an option names.
+/// The version in which an image is read: that which an option names, and version 1, whose low bits are 0, where they are
+/// passed over.
 fn version(matches: &ArgMatches<'_>, option: &str) -> Option<Version> {
+    if matches.get_str(IGNORED_PARITY).is_some() {
+        return Some(Version::One);
+    }
     match matches.get_str(option) {
         Some(VERSION_ONE) => Some(Version::One),
         Some(VERSION_TWO) => Some(Version::Two),
@@ -132,42 +213,67 @@ fn version(matches: &ArgMatches<'_>, option: &str) -> Option<Version> {
     }
 }
 
-/// The version of the image that is to be run in place of a source, where one is.
-fn image_version(matches: &ArgMatches<'_>) -> Option<Version> {
-    if matches.get_flag(IMAGE) {
-        version(matches, VERSION)
-    } else {
-        None
+/// The form in which the bytes of an image are taken.
+fn form(matches: &ArgMatches<'_>, option: &str) -> Form {
+    let is_hardware = matches.get_str(option).is_some();
+    let is_parity_ignored = matches.get_str(IGNORED_PARITY).is_some();
+    match (is_hardware, is_parity_ignored) {
+        (false, false) => Form::AsWritten,
+        (false, true) => Form::ParityIgnored,
+        (true, false) => Form::Hardware,
+        (true, true) => Form::HardwareParityIgnored,
     }
 }
 
-/// `agcws run [--end] [--image] [--rope VERSION] SRC FEED N`. Both files are opened before anything is read.
+/// Where the words come from that are to be run: a source, or an image of a version.
+fn origin(matches: &ArgMatches<'_>) -> Option<Origin> {
+    if matches.get_flag(IMAGE) {
+        version(matches, VERSION).map(Origin::Image)
+    } else {
+        Some(Origin::Source)
+    }
+}
+
+/// How many steps are asked for, where a run may have so many.
+fn steps(matches: &ArgMatches<'_>) -> Option<u64>
+    ensures { IfSome result (λ steps. steps ≤ 2 ^ 40 - 2) }
+{
+    match matches.get_one::<u64>(STEPS) {
+        Some(steps) if may_run(steps) => Some(steps),
+        _ => None,
+    }
+}
+
+/// `agcws run [--end] [--progress] [--image] [--rope VERSION] [--parity ignore] [--form FORM] SRC FEED N`. Both files are opened before anything is read.
 fn run(rt: &HostRuntime, matches: &ArgMatches<'_>) -> Result<u8, WorkshopFault> {
-    let (Some(source), Some(feed), Some(steps)) = (
+    let (Some(origin), Some(source), Some(feed), Some(steps)) = (
+        origin(matches),
         matches.get_str(SOURCE),
         matches.get_str(FEED),
-        matches.get_one::<u64>(STEPS),
+        steps(matches),
     ) else {
         return Ok(WRONG_ARGUMENTS);
     };
-    if !may_run(steps) {
-        return Ok(WRONG_ARGUMENTS);
-    }
-    let first = fs::open(rt, source).map_err(not_opened)?;
+    let mut program = InForm::new(opened(rt, source)?, form(matches, FORM));
     let mut feed = Std::new(fs::open(rt, feed).map_err(not_opened)?);
-    let buffered = BufWriter::new(rt.alloc(), io::writer(rt)).map_err(not_buffered)?;
-    let mut out = Std::new(buffered);
-    let outcome = match image_version(matches) {
-        Some(version) => {
-            let mut image = ReadAhead::new(Std::new(first));
-            run_image_engine(rt.alloc(), &mut image, version, &mut feed, steps, &mut out)
+    let tells = matches.get_flag(PROGRESS);
+    let summary = with_stdout(rt, |out| {
+        if tells {
+            let mut progress = Std::new(rt.stderr());
+            run_and_tell(
+                rt.alloc(),
+                origin,
+                &mut program,
+                &mut feed,
+                steps,
+                out,
+                &mut progress,
+            )
+        } else {
+            run_program(rt.alloc(), origin, &mut program, &mut feed, steps, out)
         }
-        None => run_engine(rt.alloc(), &mut Std::new(first), &mut feed, steps, &mut out),
-    };
-    match out.flush() {
-        Ok(()) => end(rt, matches, &outcome?),
-        Err(_) => Err(WorkshopFault::WriteFailed),
-    }
+    })?;
+    end(rt, matches, &summary)
 }
 
 /// Ends a run that is done: where `--end` stands, its summary is told on standard error.
@@ -178,51 +284,117 @@ fn end(rt: &HostRuntime, matches: &ArgMatches<'_>, summary: &Summary) -> Result<
     Ok(DONE)
 }
 
-/// `agcws debug [--image] [--rope VERSION] SRC FEED`. Both files are opened before anything is read; commands come from standard input.
-fn debug(rt: &HostRuntime, matches: &ArgMatches<'_>) -> Result<u8, WorkshopFault> {
-    let (Some(source), Some(feed)) = (matches.get_str(SOURCE), matches.get_str(FEED)) else {
+/// `agcws trace [--progress] [--image] [--rope VERSION] [--parity ignore] [--form FORM] SRC FEED N [--from T] [--to T]`. Both files are opened before anything is read.
+fn trace(rt: &HostRuntime, matches: &ArgMatches<'_>) -> Result<u8, WorkshopFault> {
+    let (Some(origin), Some(source), Some(feed), Some(steps)) = (
+        origin(matches),
+        matches.get_str(SOURCE),
+        matches.get_str(FEED),
+        matches.get_one::<u64>(STEPS),
+    ) else {
         return Ok(WRONG_ARGUMENTS);
     };
-    let first = fs::open(rt, source).map_err(not_opened)?;
+    let first = matches.get_one::<u64>(FROM).unwrap_or(1);
+    let last = matches.get_one::<u64>(TO).unwrap_or(steps).min(steps);
+    if !may_run(last) {
+        return Ok(WRONG_ARGUMENTS);
+    }
+    let mut program = InForm::new(opened(rt, source)?, form(matches, FORM));
     let mut feed = Std::new(fs::open(rt, feed).map_err(not_opened)?);
-    let mut commands = Std::new(rt.stdin());
-    let buffered = BufWriter::new(rt.alloc(), io::writer(rt)).map_err(not_buffered)?;
-    let mut out = Std::new(buffered);
-    let outcome = match image_version(matches) {
-        Some(version) => {
-            let mut image = ReadAhead::new(Std::new(first));
-            debug_image_engine(
+    let tells = matches.get_flag(PROGRESS);
+    with_stdout(rt, |out| {
+        if tells {
+            let mut progress = Std::new(rt.stderr());
+            trace_and_tell(
                 rt.alloc(),
-                &mut image,
-                version,
+                origin,
+                &mut program,
                 &mut feed,
-                &mut commands,
-                &mut out,
+                first,
+                last,
+                out,
+                &mut progress,
+            )
+        } else {
+            trace_program(
+                rt.alloc(),
+                origin,
+                &mut program,
+                &mut feed,
+                first,
+                last,
+                out,
             )
         }
-        None => {
-            let mut source = Std::new(first);
-            debug_engine(rt.alloc(), &mut source, &mut feed, &mut commands, &mut out)
-        }
-    };
-    match out.flush() {
-        Ok(()) => outcome.map(|_| DONE),
-        Err(_) => Err(WorkshopFault::WriteFailed),
-    }
+    })?;
+    Ok(DONE)
 }
 
-/// `agcws upgrade OLD NEW`. The file NEW is made at the first write, so that a refused image leaves none. One path for both
-/// is refused before anything is opened.
+/// `agcws cover [--image] [--rope VERSION] [--parity ignore] [--form FORM] SRC FEED N`. Both files are opened before anything is read.
+fn cover(rt: &HostRuntime, matches: &ArgMatches<'_>) -> Result<u8, WorkshopFault> {
+    let (Some(origin), Some(source), Some(feed), Some(steps)) = (
+        origin(matches),
+        matches.get_str(SOURCE),
+        matches.get_str(FEED),
+        steps(matches),
+    ) else {
+        return Ok(WRONG_ARGUMENTS);
+    };
+    let mut program = InForm::new(opened(rt, source)?, form(matches, FORM));
+    let mut feed = Std::new(fs::open(rt, feed).map_err(not_opened)?);
+    with_stdout(rt, |out| {
+        cover_program(rt.alloc(), origin, &mut program, &mut feed, steps, out)
+    })?;
+    Ok(DONE)
+}
+
+/// `agcws debug [--extended] [--image] [--rope VERSION] [--parity ignore] [--form FORM] SRC FEED`. Both files are opened before anything is read; commands come from standard input.
+fn debug(rt: &HostRuntime, matches: &ArgMatches<'_>) -> Result<u8, WorkshopFault> {
+    let (Some(origin), Some(source), Some(feed)) = (
+        origin(matches),
+        matches.get_str(SOURCE),
+        matches.get_str(FEED),
+    ) else {
+        return Ok(WRONG_ARGUMENTS);
+    };
+    let mut program = InForm::new(opened(rt, source)?, form(matches, FORM));
+    let mut feed = Std::new(fs::open(rt, feed).map_err(not_opened)?);
+    let mut commands = Std::new(rt.stdin());
+    with_stdout(rt, |out| {
+        if matches.get_flag(EXTENDED) {
+            return debug_extended(
+                rt.alloc(),
+                origin,
+                &mut program,
+                &mut feed,
+                &mut commands,
+                out,
+            );
+        }
+        debug_program(
+            rt.alloc(),
+            origin,
+            &mut program,
+            &mut feed,
+            &mut commands,
+            out,
+        )
+    })?;
+    Ok(DONE)
+}
+
+/// `agcws upgrade OLD NEW`. The file NEW is made at the first write, so that a refused image leaves none. A path of the old
+/// image, or of a source, is refused for NEW before anything is opened.
 fn upgrade(rt: &HostRuntime, matches: &ArgMatches<'_>) -> Result<u8, WorkshopFault> {
     let (Some(old), Some(new)) = (matches.get_str(OLD), matches.get_str(NEW)) else {
         return Ok(WRONG_ARGUMENTS);
     };
-    if old == new {
-        return refuse_arguments(rt, b"error: OLD and NEW are the same path\n");
+    if let Some(wrong) = wrong_target(rt, old, new) {
+        return refuse_arguments(rt, wrong.of_an_upgrade());
     }
-    let mut image = ReadAhead::new(Std::new(fs::open(rt, old).map_err(not_opened)?));
+    let mut image = opened(rt, old)?;
     let refused = Cell::new(false);
-    let mut out = Std::new(LazyFile::new(rt, new, &refused));
+    let mut out = Std::new(ImageFile::new(rt, new, &refused));
     let outcome = upgrade_engine(rt.alloc(), &mut image, &mut out);
     ended(outcome, &refused)
 }
@@ -239,33 +411,31 @@ fn ended<T: Drop>(
     }
 }
 
-/// `agcws words [--rope VERSION] ROPE [BANK]`.
+/// `agcws words [--rope VERSION] [--parity ignore] [--form FORM] ROPE [BANK]`.
 fn show_words(rt: &HostRuntime, matches: &ArgMatches<'_>) -> Result<u8, WorkshopFault> {
     let (Some(rope), Some(version)) = (matches.get_str(ROPE), version(matches, VERSION)) else {
         return Ok(WRONG_ARGUMENTS);
     };
     let bank = matches.get_str(BANK).and_then(bank_named);
-    let mut image = ReadAhead::new(Std::new(fs::open(rt, rope).map_err(not_opened)?));
-    let buffered = BufWriter::new(rt.alloc(), io::writer(rt)).map_err(not_buffered)?;
-    let mut out = Std::new(buffered);
-    let outcome = words_engine(rt.alloc(), &mut image, version, bank, &mut out);
-    match out.flush() {
-        Ok(()) => outcome.map(|_| DONE),
-        Err(_) => Err(WorkshopFault::WriteFailed),
-    }
+    let mut image = InForm::new(opened(rt, rope)?, form(matches, FORM));
+    with_stdout(
+        rt,
+        |out| words_engine(rt.alloc(), &mut image, version, bank, out),
+    )?;
+    Ok(DONE)
 }
 
 /// The bank of a name.
 fn bank_named(name: &str) -> Option<Bank> {
     for (number, bank) in BANKS.iter().enumerate() {
         if *bank == name {
-            return Bank::try_new(number as u16);
+            return Bank::try_new((number % BANK_COUNT) as u16);
         }
     }
     None
 }
 
-/// `agcws compare [--old VERSION] [--new VERSION] OLD NEW`. Both files are opened before anything is read.
+/// `agcws compare [--old VERSION] [--new VERSION] [--parity ignore] [--old-form FORM] [--new-form FORM] OLD NEW`. Both files are opened before anything is read.
 fn compare(rt: &HostRuntime, matches: &ArgMatches<'_>) -> Result<u8, WorkshopFault> {
     let (Some(old), Some(new)) = (matches.get_str(OLD), matches.get_str(NEW)) else {
         return Ok(WRONG_ARGUMENTS);
@@ -276,37 +446,45 @@ fn compare(rt: &HostRuntime, matches: &ArgMatches<'_>) -> Result<u8, WorkshopFau
     ) else {
         return Ok(WRONG_ARGUMENTS);
     };
-    let mut old = ReadAhead::new(Std::new(fs::open(rt, old).map_err(not_opened)?));
-    let mut new = ReadAhead::new(Std::new(fs::open(rt, new).map_err(not_opened)?));
-    let buffered = BufWriter::new(rt.alloc(), io::writer(rt)).map_err(not_buffered)?;
-    let mut out = Std::new(buffered);
-    let outcome = compare_engine(
-        rt.alloc(),
-        &mut old,
-        old_version,
-        &mut new,
-        new_version,
-        &mut out,
-    );
-    match out.flush() {
-        Ok(()) => outcome.map(|count| if count == 0 { DONE } else { DIFFERENT }),
-        Err(_) => Err(WorkshopFault::WriteFailed),
-    }
+    let mut old = InForm::new(opened(rt, old)?, form(matches, OLD_FORM));
+    let mut new = InForm::new(opened(rt, new)?, form(matches, NEW_FORM));
+    let count = with_stdout(rt, |out| {
+        compare_engine(
+            rt.alloc(),
+            &mut old,
+            old_version,
+            &mut new,
+            new_version,
+            out,
+        )
+    })?;
+    Ok(if count == 0 { DONE } else { DIFFERENT })
 }
 
-/// `agcws sums [--rope VERSION] ROPE`.
+/// `agcws sums [--rope VERSION] [--parity ignore] [--form FORM] ROPE`.
 fn show_sums(rt: &HostRuntime, matches: &ArgMatches<'_>) -> Result<u8, WorkshopFault> {
     let (Some(rope), Some(version)) = (matches.get_str(ROPE), version(matches, VERSION)) else {
         return Ok(WRONG_ARGUMENTS);
     };
-    let mut image = ReadAhead::new(Std::new(fs::open(rt, rope).map_err(not_opened)?));
-    let buffered = BufWriter::new(rt.alloc(), io::writer(rt)).map_err(not_buffered)?;
-    let mut out = Std::new(buffered);
-    let outcome = sums_engine(rt.alloc(), &mut image, version, &mut out);
-    match out.flush() {
-        Ok(()) => outcome.map(|_| DONE),
-        Err(_) => Err(WorkshopFault::WriteFailed),
-    }
+    let mut image = InForm::new(opened(rt, rope)?, form(matches, FORM));
+    with_stdout(rt, |out| sums_engine(rt.alloc(), &mut image, version, out))?;
+    Ok(DONE)
+}
+
+/// `agcws parity [--form FORM] ROPE`.
+fn show_parity(rt: &HostRuntime, matches: &ArgMatches<'_>) -> Result<u8, WorkshopFault> {
+    let Some(rope) = matches.get_str(ROPE) else {
+        return Ok(WRONG_ARGUMENTS);
+    };
+    let mut image = InForm::new(opened(rt, rope)?, form(matches, FORM));
+    let count = with_stdout(rt, |out| parity_engine(rt.alloc(), &mut image, out))?;
+    Ok(if count == 0 { DONE } else { DIFFERENT })
+}
+
+/// A file that is read, from its beginning on.
+fn opened(rt: &HostRuntime, path: &str) -> Result<ReadAhead<Std<fs::File>>, WorkshopFault> {
+    let file = fs::open(rt, path).map_err(not_opened)?;
+    Ok(ReadAhead::new(Std::new(file)))
 }
 
 fn no_memory(_: AllocError) -> WorkshopFault {

@@ -1,3 +1,4 @@
 pub mod Differences
+pub mod Parities
 pub mod Sums
 pub mod WordLines

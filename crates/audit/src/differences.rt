@@ -23,13 +23,9 @@ pub fn write_differences<W: Write>(old: &Rope, new: &Rope, out: &mut W) -> Resul
     ensures count { IfOk result (λ count. count ≡ length (differing old.now new.now)) }
     ensures failures { W.failures out.new ≡ failures_after (W.failures out.old) result }
 {
-    match write_places(old, new, out) {
-        Ok(count) => match write_all(out, count_line(count).as_slice()) {
-            Ok(()) => Ok(count),
-            Err(failed) => Err(failed),
-        },
-        Err(failed) => Err(failed),
-    }
+    let count = write_places(old, new, out)?;
+    write_all(out, count_line(count).as_slice())?;
+    Ok(count)
 }
 
 /// Writes the lines of all places, and answers how many.
@@ -40,10 +36,7 @@ fn write_places<W: Write>(old: &Rope, new: &Rope, out: &mut W) -> Result<u32, Wr
 {
     let mut count = 0;
     for bank in 0..FIXED_BANKS {
-        match write_bank(old, new, bank_of(bank), out) {
-            Ok(more) => count += more,
-            Err(failed) => return Err(failed),
-        }
+        count += write_bank(old, new, bank_of(bank), out)?;
     }
     Ok(count)
 }
@@ -59,10 +52,7 @@ fn write_bank<W: Write>(old: &Rope, new: &Rope, bank: Bank, out: &mut W) -> Resu
     let mut extra = (false, false);
     for number in 0..BANK_WORDS {
         let offset = offset_of(number);
-        match write_place(old, new, bank, offset, extra, out) {
-            Ok(more) => count += more,
-            Err(failed) => return Err(failed),
-        }
+        count += write_place(old, new, bank, offset, extra, out)?;
         extra = (
             extracode_after(old.word(bank, offset), extra.0),
             extracode_after(new.word(bank, offset), extra.1),
@@ -92,10 +82,8 @@ fn write_place<W: Write>(
         return Ok(0);
     }
     let line = difference_line(old, new, bank, offset, extra);
-    match write_all(out, line.as_slice()) {
-        Ok(()) => Ok(1),
-        Err(failed) => Err(failed),
-    }
+    write_all(out, line.as_slice())?;
+    Ok(1)
 }
 
 /// The line of a place.
@@ -121,7 +109,7 @@ fn difference_line(old: &Rope, new: &Rope, bank: Bank, offset: Offset, extra: (b
 
 /// The line that tells how many places differ.
 #[tactic(auto, using(words::proofs::Digits::short_decimal))]
-fn count_line(count: u32) -> Line
+pub(crate) fn count_line(count: u32) -> Line
     ensures { result.items ≡ count_line count }
 {
     let mut line = ArrayVec::new();

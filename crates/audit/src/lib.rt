@@ -3,8 +3,10 @@
 
 mod differences;
 mod lines;
+mod parities;
 mod sums;
 
 pub use differences::write_differences;
-pub use lines::write_words;
+pub use lines::{word_line, write_words};
+pub use parities::write_parities;
 pub use sums::write_sums;

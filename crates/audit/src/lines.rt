@@ -16,7 +16,7 @@ use words::{Write, WriteFailed, push_all, push_octal, write_all};
 /// The most bytes of a line: a place of 7, one or two words of 5 digits, one or two instructions of 10, and what stands between.
 const LINE: usize = 48;
 
-pub(crate) type Line = ArrayVec<u8, LINE>;
+pub type Line = ArrayVec<u8, LINE>;
 
 /// Writes a line for each word of a bank, or of all banks by their numbers, as `02,4001 64005 AD 4005`: its place, the word,
 /// and the instruction that it is. A word is read as an extracode where the words before it in the bank put extracode in
@@ -42,10 +42,7 @@ fn write_banks<W: Write>(rope: &Rope, out: &mut W) -> Result<(), WriteFailed>
     ensures failures { W.failures out.new ≡ failures_after (W.failures out.old) result }
 {
     for bank in 0..FIXED_BANKS {
-        match write_bank(rope, bank_of(bank), out) {
-            Ok(()) => {}
-            Err(failed) => return Err(failed),
-        }
+        write_bank(rope, bank_of(bank), out)?;
     }
     Ok(())
 }
@@ -57,17 +54,15 @@ fn write_bank<W: Write>(rope: &Rope, bank: Bank, out: &mut W) -> Result<(), Writ
     let mut extra = false;
     for number in 0..BANK_WORDS {
         let offset = offset_of(number);
-        match write_all(out, word_line(rope, bank, offset, extra).as_slice()) {
-            Ok(()) => extra = extracode_after(rope.word(bank, offset), extra),
-            Err(failed) => return Err(failed),
-        }
+        write_all(out, word_line(rope, bank, offset, extra).as_slice())?;
+        extra = extracode_after(rope.word(bank, offset), extra);
     }
     Ok(())
 }
 
 /// The line of a word.
 #[tactic(auto, unfolding(crate::specs::WordLines::word_line))]
-fn word_line(rope: &Rope, bank: Bank, offset: Offset, extra: bool) -> Line
+pub fn word_line(rope: &Rope, bank: Bank, offset: Offset, extra: bool) -> Line
     requires { extra ≡ extracode_at rope.now bank offset }
     ensures { result.items ≡ word_line rope.now bank offset }
 {

@@ -20,10 +20,7 @@ pub fn write_sums<W: Write>(rope: &Rope, out: &mut W) -> Result<(), WriteFailed>
     ensures failures { W.failures out.new ≡ failures_after (W.failures out.old) result }
 {
     for bank in 0..FIXED_BANKS {
-        match write_all(out, sum_line(rope, bank_of(bank)).as_slice()) {
-            Ok(()) => {}
-            Err(failed) => return Err(failed),
-        }
+        write_all(out, sum_line(rope, bank_of(bank)).as_slice())?;
     }
     Ok(())
 }

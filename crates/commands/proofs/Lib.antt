@@ -1,3 +1,5 @@
 mod LineSteps
 mod RequestLaws
 mod Rows
+mod ExtendedLaws
+mod ExtendedRows

@@ -1,8 +1,9 @@
 -- Lines taken off a text, a byte at a time.
-use Rattle.std.proofs.Common.{◌≡◌, ◌≢◌, ℕ, ◌+◌, Bool, true, false, not, Option, Some, List, [], ◌∷◌, ◌++◌, length, take, refl, ap, ◌∙◌, sym, eqb, arith, add-one, append_assoc, length-append}
+use Rattle.std.proofs.Common.{◌≡◌, ◌≢◌, ℕ, ◌+◌, Bool, true, false, not, ◌||◌, Option, Some, List, [], ◌∷◌, ◌++◌, length, take, refl, ap, ◌∙◌, sym, eqb, arith, add-one, append_assoc, length-append}
 use Rattle.std.proofs.Math.Seq.{take-append-add}
 use Rattle.std.proofs.lemmas.List.{append-nil}
-use Rattle.std.proofs.lemmas.Bool.{ne_eqb}
+use Rattle.std.proofs.lemmas.Bool.{ne_eqb, eqb-false, both_ways}
+use Rattle.std.specs.List.{list_any}
 use Rattle.agc_text.specs.Bytes.{line_feed}
 use Rattle.agc_text.specs.Lines.{lines, HasNoFeed}
 use Rattle.agc_text.proofs.LineLaws.{lines-ended, lines-last, lines-none, HasNoFeed-push}
@@ -92,3 +93,23 @@ ends-none {text} {before} {line} {rest} {now} {begun} left r e = record {
   no_feed = r.no_feed;
   split = r.split ∙ ap (λ t. r.part ++ t) e;
 }
+
+-- one of two is true
+neither : (a b : Bool) → (a || b) ≡ false → (a ≡ false) × (b ≡ false)
+neither true b e = absurd (both_ways true e refl)
+neither false b e = (refl, e)
+
+-- what no line feed stands in, by a search for one
+pub none-found : (held : List ℕ) → HasNoFeed held → list_any (λ b. eqb b line_feed) held ≡ false
+none-found [] none = refl
+none-found (byte ∷ rest) none = rw (ne_eqb byte line_feed none.0) (none-found rest none.1)
+
+pub found-none : (held : List ℕ) → list_any (λ b. eqb b line_feed) held ≡ false → HasNoFeed held
+found-none [] none = tt
+found-none (byte ∷ rest) none =
+    let both = neither (eqb byte line_feed) (list_any (λ b. eqb b line_feed) rest) none in
+    (eqb-false byte line_feed both.0, found-none rest both.1)
+
+-- nothing was read of a text in which no line feed was found
+pub ends-unread : (held left : List ℕ) → HasNoFeed held → EndsNoLine (held ++ left) left
+ends-unread held left none = record { part = held; no_feed = none; split = refl }

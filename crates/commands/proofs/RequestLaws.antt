@@ -4,7 +4,8 @@ use Rattle.std.specs.Option.{option_and_then}
 use Rattle.std.proofs.lemmas.Bool.{cases_Bool}
 use Rattle.agc_text.specs.Fields.{fields}
 use Rattle.agc_text.specs.Tables.{same_name, value_in}
-use Rattle.commands.specs.Commands.{SymbolTable, Form, forms, request_in, request_of}
+use Rattle.symbols.specs.Values.{SymbolTable}
+use Rattle.commands.specs.Commands.{Form, forms, request_in, request_of}
 use Rattle.commands.specs.Lines.{kept, command_length}
 use Rattle.commands.specs.declared.command.Request.TheVariants.{TooLong}
 

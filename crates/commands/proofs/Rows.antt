@@ -8,8 +8,9 @@ use Rattle.feed.specs.declared.input.Counter.TheVariants.{Time1}
 use Rattle.feed.specs.declared.input.Input.TheVariants.{Count, Word, Interrupt}
 use Rattle.feed.specs.declared.input.Sequence.TheVariants.{Pinc}
 use Rattle.space.specs.declared.place.Linear.TheVariants.{Erasable, Fixed}
-use Rattle.yayul.specs.declared.values.Value.TheVariants as value
-use Rattle.commands.specs.Commands.{SymbolTable, request_of, forms}
+use Rattle.symbols.specs.declared.values.Value.TheVariants as value
+use Rattle.symbols.specs.Values.{SymbolTable}
+use Rattle.commands.specs.Commands.{request_of, forms}
 use Rattle.commands.specs.declared.command.Breakpoint.TheVariants as breakpoint
 use Rattle.commands.specs.declared.command.Command.TheVariants.{Step, Run, Back, Goto, Seek, Break, Clear, Registers, Memory, Channel, Last, Symbol, Changed, Tail, Add, Quit}
 use Rattle.commands.specs.declared.command.Request.{Request}

@@ -11,9 +11,9 @@ use Rattle.feed.specs.declared.fault.LineFault.TheVariants as fault
 use Rattle.feed.specs.declared.input.Input.{Input}
 use Rattle.space.specs.declared.place.Linear.{Linear}
 use Rattle.space.specs.declared.place.Linear.TheVariants.{Erasable, Fixed}
-use Rattle.yayul.specs.Places.{place_of}
-use Rattle.yayul.specs.declared.values.Value.{Value}
-use Rattle.yayul.specs.declared.values.Value.TheVariants.{Num}
+use Rattle.symbols.specs.Values.{place_of, SymbolTable}
+use Rattle.symbols.specs.declared.values.Value.{Value}
+use Rattle.symbols.specs.declared.values.Value.TheVariants.{Num}
 use Rattle.commands.specs.Lines.{command_length}
 use Rattle.commands.specs.declared.command.Breakpoint.{Breakpoint}
 use Rattle.commands.specs.declared.command.Breakpoint.TheVariants as breakpoint
@@ -21,10 +21,6 @@ use Rattle.commands.specs.declared.command.Command.{Command}
 use Rattle.commands.specs.declared.command.Command.TheVariants.{Step, Run, Back, Goto, Seek, Break, Clear, Registers, Memory, Channel, Last, Symbol, Changed, Tail, Add, Quit}
 use Rattle.commands.specs.declared.command.Request.{Request}
 use Rattle.commands.specs.declared.command.Request.TheVariants.{Nothing, TooLong, Unknown, WrongCounter, Known}
-
--- the symbols of a program and their values
-abbrev pub SymbolTable : Type 0
-SymbolTable = List (List ℕ × Value)
 
 -- a step, or a number of steps: 1 to 15 decimal digits
 abbrev pub count_in : List ℕ → Option ℕ

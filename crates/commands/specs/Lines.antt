@@ -26,6 +26,11 @@ text_ahead a left = a.held ++ left
 abbrev pub most_ahead : Ahead → ℕ
 most_ahead a = length a.held + a.more
 
+-- no whole line is held, and more may be read, so that a line has to be waited for
+pub record IsToWait (a : Ahead) : Type 0 where
+  pub no_line : HasNoFeed a.held
+  pub more : 0 < a.more
+
 -- A line was taken off the first `before` bytes of a text, which leaves the first `after` bytes of the rest. Where more
 -- may stand in lines, a line feed ended it.
 pub record TakesLine (text : List ℕ) (before : ℕ) (line rest : List ℕ) (after : ℕ) : Type 0 where
@@ -61,3 +66,8 @@ abbrev pub is_write_failed : {T : Type 0} → Result T DeviceFault → Bool
 is_write_failed (Ok x) = false
 is_write_failed (Err ReadFailed) = false
 is_write_failed (Err WriteFailed) = true
+
+-- the number that a fault is told by
+abbrev pub number_of : DeviceFault → ℕ
+number_of ReadFailed = 6
+number_of WriteFailed = 7

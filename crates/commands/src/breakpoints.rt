@@ -1,6 +1,7 @@
 //! The breakpoints of a session.
 
 ghost use Rattle.std.specs.Prelude.{◌≡◌, ◌≤◌, ◌<◌, ◌==◌, ◌++◌, ◌∷◌, [], length};
+ghost use Rattle.std.specs.List.{remove};
 ghost use Rattle.arrayvec.specs.ArrayVec.{array_vec_len};
 
 use crate::command::Breakpoint;
@@ -59,6 +60,14 @@ impl Breakpoints {
         ensures { self.new ≡ self.old ++ breakpoint ∷ [] }
     {
         append(&mut self.list, breakpoint);
+    }
+
+    /// Takes one away; those after it move down.
+    pub fn remove(&mut self, index: usize)
+        requires { index < length self.old }
+        ensures { self.new ≡ remove self.old index }
+    {
+        self.list.remove(index);
     }
 
     /// Takes all away.

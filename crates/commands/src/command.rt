@@ -3,8 +3,8 @@
 use feed::input::Input;
 use space::numbers::{Chan, Eras};
 use space::place::Linear;
+use symbols::Value;
 use words::Word;
-use yayul::Value;
 
 /// Where a run stops.
 #[derive(Clone, Copy, Drop)]

@@ -5,14 +5,20 @@
 
 mod breakpoints;
 mod command;
+mod extended;
 mod fields;
 mod line;
+mod phrase;
 mod places;
 mod reading;
 mod request;
+mod usage;
 
 pub use breakpoints::{Breakpoints, MOST_BREAKPOINTS};
 pub use command::{Breakpoint, Command, Request};
+pub use extended::{ExtendedRequest, extended_request_of};
 pub use line::{COMMAND_LENGTH, CommandLine};
+pub use phrase::Phrase;
 pub use reading::{DeviceFault, LineReader, MOST_BYTES};
 pub use request::request_of;
+pub use usage::{HelpText, help_text};

@@ -1,6 +1,6 @@
 //! A line of commands, as far as it is kept.
 
-ghost use Rattle.std.specs.Prelude.{◌≡◌, List, ℕ, [], ◌∷◌, ◌++◌, Some};
+ghost use Rattle.std.specs.Prelude.{◌≡◌, List, ℕ, [], ◌∷◌, ◌++◌, ◌≤◌, Some, IfSome, length};
 ghost use Rattle.std.specs.Option.{option_map};
 ghost use Rattle.commands.specs.Lines.{kept};
 
@@ -49,7 +49,8 @@ impl CommandLine {
 
     /// Its bytes, where it isn't too long.
     pub fn text(&self) -> Option<&[u8]>
-        ensures { option_map (λ text. text.now) result ≡ self.now }
+        ensures text { option_map (λ text. text.now) result ≡ self.now }
+        ensures short { IfSome result (λ text. length text.now ≤ COMMAND_LENGTH) }
     {
         if self.long {
             None

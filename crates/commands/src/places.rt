@@ -9,8 +9,8 @@ use crate::fields::{OCTAL_DIGITS, bank_in, offset_in};
 use agc_text::{length_before_byte, octal};
 use space::numbers::Eras;
 use space::place::Linear;
+use symbols::{Symbols, Value, place_of};
 use words::Word;
-use yayul::{Symbols, Value, place_of};
 
 // The place of a number.
 fn numbered_place(field: &[u8]) -> Option<Linear>

@@ -1,12 +1,13 @@
 //! Lines of commands from a reader.
 
-ghost use Rattle.std.specs.Prelude.{◌≡◌, ◌+◌, ◌<◌, ◌≤◌, [], ◌∷◌, ◌++◌, true, false, Ok, Err, None, Some, OnErr, OnOk, IfOk, IfErr, IfNone, MatchOption, length, take, if◌then◌else◌};
+ghost use Rattle.std.specs.Prelude.{◌≡◌, ◌↔◌, ◌+◌, ◌<◌, ◌≤◌, [], ◌∷◌, ◌++◌, true, false, Ok, Err, None, Some, OnErr, OnOk, IfOk, IfErr, IfNone, MatchOption, length, take, codes, decimal, if◌then◌else◌};
 ghost use Rattle.words.specs.Devices.{one_more, failures_after};
-ghost use Rattle.commands.specs.Lines.{KeepsLine, EndsNoLine, ReadsWithin, text_ahead, most_ahead, is_read_failed, is_write_failed};
+ghost use Rattle.agc_text.specs.Lines.{HasNoFeed};
+ghost use Rattle.commands.specs.Lines.{KeepsLine, EndsNoLine, ReadsWithin, IsToWait, text_ahead, most_ahead, is_read_failed, is_write_failed, number_of};
 
 use crate::line::CommandLine;
+use std::fmt;
 use std::marker::Model;
-use thiserror::Error;
 use words::{Read, Write};
 
 /// The most bytes of commands that are read.
@@ -16,15 +17,35 @@ pub const MOST_BYTES: u64 = 16_777_216;
 const CHUNK: usize = 4096;
 
 /// The device that failed.
-#[derive(Clone, Copy, PartialEq, Eq, Debug, Drop, Error)]
+#[derive(Clone, Copy, PartialEq, Eq, Debug, Drop)]
 pub enum DeviceFault {
     /// A read failed.
-    #[error("E6")]
     ReadFailed,
     /// A flush failed.
-    #[error("E7")]
     WriteFailed,
 }
+
+impl DeviceFault {
+    /// The number that the fault is told by.
+    pub fn number(self) -> u8
+        ensures { result ≡ number_of self }
+    {
+        match self {
+            DeviceFault::ReadFailed => 6,
+            DeviceFault::WriteFailed => 7,
+        }
+    }
+}
+
+impl fmt::Display for DeviceFault {
+    ghost output = { λ fault. Some (codes "E" ++ decimal (number_of fault)) };
+
+    fn fmt<W: fmt::Write>(&self, f: &mut fmt::Formatter<W>) -> fmt::Result {
+        write!(f, "E{}", self.number())
+    }
+}
+
+impl std::error::Error for DeviceFault {}
 
 /// Takes lines off the first 16,777,216 bytes of a reader.
 ///
@@ -38,12 +59,11 @@ pub struct LineReader {
     end: usize,
     // How many bytes more may be read.
     more: u64,
-    // Whether something may have been written since the last flush.
-    written: bool,
 }
 
 impl Model for LineReader {
     ghost use Rattle.std.specs.Prelude.{◌≤◌, slice_range};
+    ghost use Rattle.agc_text.specs.Lines.{HasNoFeed};
     ghost use Rattle.commands.specs.Lines.{Ahead};
 
     ghost Value = { Ahead };
@@ -64,14 +84,15 @@ impl LineReader {
             start: 0,
             end: 0,
             more: MOST_BYTES,
-            written: false,
         }
     }
 
-    /// Takes the next line off, and answers whether there is one.
+    /// Takes the next line off, and answers whether there is one. What was written is handed on before more bytes are asked
+    /// for.
     ///
-    /// Lines end with a line feed; a last line without one counts unless it is empty. `ReadFailed` where a read failed,
-    /// `WriteFailed` where what was written could not be handed on; no line feed stands in what was read before either.
+    /// Lines end with a line feed; a last line without one counts unless it is empty. `ReadFailed` where a read failed: no line
+    /// feed stands in what was read before it. `WriteFailed` where what was written could not be handed on: then nothing was
+    /// read.
     pub fn next_line<R: Read, W: Write>(
         &mut self,
         reader: &mut R,
@@ -88,31 +109,40 @@ impl LineReader {
         ensures written { W.told ≡ true → W.written out.new ≡ W.written out.old }
         ensures read_failures { R.failures reader.new ≡ (if is_read_failed result then one_more (R.failures reader.old) else R.failures reader.old) }
         ensures write_failures { W.failures out.new ≡ (if is_write_failed result then one_more (W.failures out.old) else W.failures out.old) }
+
+        // Where more has to be waited for, all that was written is handed on; where that fails nothing is read.
+        ensures handed_on { W.told ≡ true → IsToWait self.old → is_write_failed result ≡ false → W.handed_on out.new ≡ W.written out.new }
+        ensures unread { is_write_failed result ≡ true → reader.new ≡ reader.old }
     {
         line.clear();
-        self.written = true;
+        if self.is_to_wait() {
+            match out.flush() {
+                Ok(()) => {}
+                Err(_) => return Err(DeviceFault::WriteFailed),
+            }
+        }
         let mut begun = false;
         'bytes: loop {
-            match self.next_byte(reader, out) {
-                Err(fault) => return Err(fault),
-                Ok(None) => return Ok(begun),
-                Ok(Some(byte)) => {
-                    if byte == b'\n' {
-                        return Ok(true);
-                    }
-                    line.push(byte);
-                    begun = true;
-                }
+            let Some(byte) = self.next_byte(reader)? else {
+                return Ok(begun);
+            };
+            if byte == b'\n' {
+                return Ok(true);
             }
+            line.push(byte);
+            begun = true;
         }
     }
 
+    // Whether no whole line is held, and more may be read.
+    fn is_to_wait(&self) -> bool
+        ensures { (result ≡ true) ↔ IsToWait self.now }
+    {
+        self.more > 0 && !has_line_feed(&self.chunk[self.start..self.end])
+    }
+
     // Takes the next byte of the text ahead, if there is one. At its end no more may be read.
-    fn next_byte<R: Read, W: Write>(
-        &mut self,
-        reader: &mut R,
-        out: &mut W,
-    ) -> Result<Option<u8>, DeviceFault>
+    fn next_byte<R: Read>(&mut self, reader: &mut R) -> Result<Option<u8>, DeviceFault>
         ensures byte { R.told ≡ true → IfOk result (λ byte. MatchOption byte
             (take (most_ahead self.old) (text_ahead self.old (R.left reader.old)) ≡ [])
             (λ b. text_ahead self.old (R.left reader.old) ≡ b ∷ text_ahead self.new (R.left reader.new))) }
@@ -120,15 +150,11 @@ impl LineReader {
         ensures failed { R.told ≡ true → OnErr result (text_ahead self.old (R.left reader.old) ≡ R.left reader.new) }
         ensures asked { OnErr result (0 < most_ahead self.old) }
         ensures reads { R.told ≡ true → ReadsWithin (R.left reader.old) (R.left reader.new) self.old.more self.new.more }
-        ensures written { W.told ≡ true → W.written out.new ≡ W.written out.old }
-        ensures read_failures { R.failures reader.new ≡ (if is_read_failed result then one_more (R.failures reader.old) else R.failures reader.old) }
-        ensures write_failures { W.failures out.new ≡ (if is_write_failed result then one_more (W.failures out.old) else W.failures out.old) }
+        ensures fault { IfErr result (λ fault. fault ≡ DeviceFault.ReadFailed) }
+        ensures failures { R.failures reader.new ≡ failures_after (R.failures reader.old) result }
     {
         if self.start == self.end {
-            match self.fill(reader, out) {
-                Err(fault) => return Err(fault),
-                Ok(()) => {}
-            }
+            self.fill(reader)?;
         }
         Ok(self.take_byte())
     }
@@ -148,8 +174,8 @@ impl LineReader {
         }
     }
 
-    // Reads some bytes, unless no more may be read, once what was written is handed on.
-    fn fill<R: Read, W: Write>(&mut self, reader: &mut R, out: &mut W) -> Result<(), DeviceFault>
+    // Reads some bytes, unless no more may be read. At the end of the text no more may be read.
+    fn fill<R: Read>(&mut self, reader: &mut R) -> Result<(), DeviceFault>
         requires { self.old.held ≡ [] }
         ensures held { R.told ≡ true → OnOk result (R.left reader.old ≡ self.new.held ++ R.left reader.new) }
         ensures end { R.told ≡ true → OnOk result (self.new.held ≡ [] → take self.old.more (R.left reader.old) ≡ []) }
@@ -158,31 +184,12 @@ impl LineReader {
         ensures failed { R.told ≡ true → OnErr result (R.left reader.new ≡ R.left reader.old) }
         ensures asked { OnErr result (0 < self.old.more) }
         ensures reads { R.told ≡ true → ReadsWithin (R.left reader.old) (R.left reader.new) self.old.more self.new.more }
-        ensures written { W.told ≡ true → W.written out.new ≡ W.written out.old }
-        ensures read_failures { R.failures reader.new ≡ (if is_read_failed result then one_more (R.failures reader.old) else R.failures reader.old) }
-        ensures write_failures { W.failures out.new ≡ (if is_write_failed result then one_more (W.failures out.old) else W.failures out.old) }
+        ensures fault { IfErr result (λ fault. fault ≡ DeviceFault.ReadFailed) }
+        ensures failures { R.failures reader.new ≡ failures_after (R.failures reader.old) result }
     {
         if self.more == 0 {
             return Ok(());
         }
-        match self.hand_on(out) {
-            Ok(()) => self.read_chunk(reader),
-            Err(fault) => Err(fault),
-        }
-    }
-
-    // Reads some bytes. At the end of the text no more may be read.
-    fn read_chunk<R: Read>(&mut self, reader: &mut R) -> Result<(), DeviceFault>
-        requires { self.old.held ≡ [] }
-        ensures held { R.told ≡ true → OnOk result (R.left reader.old ≡ self.new.held ++ R.left reader.new) }
-        ensures end { R.told ≡ true → OnOk result (self.new.held ≡ [] → 0 < self.old.more → R.left reader.old ≡ []) }
-        ensures counted { OnOk result (0 < length self.new.held → self.old.more ≡ length self.new.held + self.new.more) }
-        ensures done { OnOk result (self.new.held ≡ [] → self.new.more ≡ 0) }
-        ensures failed { R.told ≡ true → OnErr result (R.left reader.new ≡ R.left reader.old) }
-        ensures reads { R.told ≡ true → ReadsWithin (R.left reader.old) (R.left reader.new) self.old.more self.new.more }
-        ensures fault { IfErr result (λ fault. fault ≡ DeviceFault.ReadFailed) }
-        ensures failures { R.failures reader.new ≡ failures_after (R.failures reader.old) result }
-    {
         let room = self.more.min(CHUNK as u64) as usize;
         let part = &mut self.chunk[..room];
         match reader.read(part) {
@@ -205,20 +212,11 @@ impl LineReader {
             }
         }
     }
+}
 
-    // Hands on what may have been written since the last flush.
-    fn hand_on<W: Write>(&mut self, out: &mut W) -> Result<(), DeviceFault>
-        ensures same { self.new ≡ self.old }
-        ensures written { W.told ≡ true → W.written out.new ≡ W.written out.old }
-        ensures fault { IfErr result (λ fault. fault ≡ DeviceFault.WriteFailed) }
-        ensures failures { W.failures out.new ≡ failures_after (W.failures out.old) result }
-    {
-        if self.written {
-            match out.flush() {
-                Ok(()) => self.written = false,
-                Err(_) => return Err(DeviceFault::WriteFailed),
-            }
-        }
-        Ok(())
-    }
+/// Whether a line feed stands among some bytes.
+fn has_line_feed(bytes: &[u8]) -> bool
+    ensures { (result ≡ false) ↔ HasNoFeed bytes.now }
+{
+    bytes.contains(&b'\n')
 }

@@ -13,7 +13,7 @@ use crate::line::CommandLine;
 use crate::places::{erasable_in, place_in};
 use agc_text::{before_comment, next_field, split_field};
 use feed::{LineFault, parse_line, word_in};
-use yayul::Symbols;
+use symbols::Symbols;
 
 /// What a line of commands asks for, where the symbols of a program stand.
 pub fn request_of(symbols: &Symbols, line: &CommandLine) -> Request
@@ -26,7 +26,7 @@ pub fn request_of(symbols: &Symbols, line: &CommandLine) -> Request
 }
 
 // What a line asks for that is not too long.
-fn request_in(symbols: &Symbols, line: &[u8]) -> Request
+pub(crate) fn request_in(symbols: &Symbols, line: &[u8]) -> Request
     ensures { result ≡ request_in symbols.now line.now (fields line.now) }
 {
     let Some((name, rest)) = split_field(before_comment(line)) else {

@@ -7,6 +7,9 @@ pub mod RowLaws
 pub mod RowTexts
 mod EntryLaws
 mod StepLaws
+pub mod SameBut
+pub mod Resuming
+pub mod ByValue
 mod RequestLemmas
 pub mod Holding
 pub mod Held
@@ -14,3 +17,14 @@ mod HeldSteps
 pub mod HeldRuns
 pub mod FiveRun
 pub mod ClockRun
+pub mod Flowing
+pub mod Following
+pub mod Linking
+pub mod Leaving
+pub mod Trails
+pub mod LeavingBeside
+pub mod LeavingFlags
+pub mod Framing
+pub mod Chaining
+pub mod CellSets
+pub mod Profiling

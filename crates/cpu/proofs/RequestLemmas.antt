@@ -23,7 +23,7 @@ joined p q a n false true e d =
     let ne : q ≢ a = λ h. both_ways (p q) (ap p h ∙ e) d in grind (arith, nat_tests)
 joined p q a n false false e d = grind (arith, nat_tests)
 
-any-filter : (p : ℕ → Bool) (q a n : ℕ) → list_any (λ y. nat_eq y q) (filter p (range_with_len a n)) ≡ (leb a q && ltb q (a + n) && p q)
+pub any-filter : (p : ℕ → Bool) (q a n : ℕ) → list_any (λ y. nat_eq y q) (filter p (range_with_len a n)) ≡ (leb a q && ltb q (a + n) && p q)
 any-filter p q a zero = grind (arith, nat_tests)
 any-filter p q a (suc n) =
     any_cons q a (p a) (filter p (range_with_len (a + 1) n))
@@ -107,7 +107,7 @@ later_in flags s k v high e =
     ap (λ t. find (λ j. contains t j) (range_with_len (k + 1) (11 - (k + 1)))) (sym v) ∙ sym (least_later flags k high e) ∙ ap (λ t. find (λ j. contains t j) (range_with_len k (11 - k))) v
 
 -- where no flag is set, nothing is asked for
-unset : (n q : ℕ) → get_or (replicate n false) q false ≡ false
+pub unset : (n q : ℕ) → get_or (replicate n false) q false ≡ false
 unset n q = ⊎_elim (λ lt. get_or-replicate n q false false lt) (λ ge. get_or_past (replicate n false) q false (rw length-replicate ge)) (cases_lt q n)
 
 none_from : (flags : List Bool) → ((q : ℕ) → get_or flags q false ≡ false) → (n k : ℕ) → find (λ j. contains (requests_of flags) j) (range_with_len k n) ≡ None

@@ -6,6 +6,7 @@ use Rattle.cpu.specs.Codes.{Range, table, serves, rows_serving, row_of, bits, in
 use Rattle.cpu.specs.declared.instruction.Instruction.{Instruction}
 use Rattle.std.specs.Prelude.{unwrap_or}
 use Rattle.cpu.specs.Texts.{instruction_text, disassembly}
+use Rattle.cpu.specs.Next.{extra_after, extracode_after}
 use Rattle.cpu.proofs.RowLaws.{one_row}
 
 -- what passes is among what passes
@@ -40,12 +41,25 @@ row_bits extracode k = bits (row_of (row_at extracode k).instruction).operand
 abbrev pub row_text : Bool → ℕ → ℕ → List ℕ
 row_text extracode k operand = instruction_text (record { instruction = (row_at extracode k).instruction; operand = operand })
 
--- a word in the range of a row is shown as the row's instruction of its operand
-pub shown_by_row : (extracode : Bool) (k word operand : ℕ) → k < length (table extracode) → word < 2 ^ 15 → (row_at extracode k).least ≤ word → word ≤ (row_at extracode k).greatest
-    → word % 2 ^ row_bits extracode k ≡ operand → disassembly extracode word ≡ row_text extracode k operand
-unfolding code_of rows_serving
-shown_by_row extracode k word operand few high least greatest is =
+-- a word in the range of a row is the row's instruction
+pub instruction_by_row : (extracode : Bool) (k word : ℕ) → k < length (table extracode) → word < 2 ^ 15 → (row_at extracode k).least ≤ word → word ≤ (row_at extracode k).greatest
+    → instruction_of extracode word ≡ (row_at extracode k).instruction
+unfolding rows_serving
+instruction_by_row extracode k word few high least greatest =
     let lies : serves word (row_at extracode k) ≡ true = grind (arith, nat_tests) in
     let found : find (serves word) (table extracode) ≡ Some (row_at extracode k) = the_one (serves word) (table extracode) k no_range (one_row extracode word high) few lies in
-    let same : instruction_of extracode word ≡ (row_at extracode k).instruction = ap (λ (o : Option Range). (unwrap_or o no_range).instruction) found in
-    ap (λ (i : Instruction). instruction_text (record { instruction = i; operand = operand_of i word })) same ∙ ap (row_text extracode k) is
+    ap (λ (o : Option Range). (unwrap_or o no_range).instruction) found
+
+-- it is shown as the row's instruction of its operand
+pub shown_by_row : (extracode : Bool) (k word operand : ℕ) → k < length (table extracode) → word < 2 ^ 15 → (row_at extracode k).least ≤ word → word ≤ (row_at extracode k).greatest
+    → word % 2 ^ row_bits extracode k ≡ operand → disassembly extracode word ≡ row_text extracode k operand
+unfolding code_of
+shown_by_row extracode k word operand few high least greatest is =
+    ap (λ (i : Instruction). instruction_text (record { instruction = i; operand = operand_of i word })) (instruction_by_row extracode k word few high least greatest) ∙ ap (row_text extracode k) is
+
+-- and leaves extracode in force as the row's instruction does
+pub extracode_by_row : (extracode : Bool) (k word : ℕ) → k < length (table extracode) → word < 2 ^ 15 → (row_at extracode k).least ≤ word → word ≤ (row_at extracode k).greatest
+    → extracode_after extracode word ≡ extra_after (row_at extracode k).instruction extracode
+unfolding code_of
+extracode_by_row extracode k word few high least greatest =
+    ap (λ (i : Instruction). extra_after i extracode) (instruction_by_row extracode k word few high least greatest)

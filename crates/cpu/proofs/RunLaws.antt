@@ -86,7 +86,7 @@ cycles-carried s (Some counter) Minus = refl
 cycles-carried s (Some counter) ShiftedOut = refl
 
 -- the effect of an input is none on cycles
-cycles-effect : (s : State) (input : Input) → (input_effect s input).cycles ≡ s.cycles
+pub cycles-effect : (s : State) (input : Input) → (input_effect s input).cycles ≡ s.cycles
 unfolding counted received
 cycles-effect s (Count counter sequence) =
     let step = step_of sequence (count_of s counter) in

@@ -45,7 +45,7 @@ account-changes : (s : State) (cs : List Change) → account (changes s cs) ≡ 
 account-changes s [] = refl
 account-changes s (c ∷ cs) = account-changes (change s c) cs ∙ account-change s c
 
-account-after : (rope : Words) (s : State) (instruction : Instruction) (k : ℕ) → account (after rope s instruction k) ≡ account s
+pub account-after : (rope : Words) (s : State) (instruction : Instruction) (k : ℕ) → account (after rope s instruction k) ≡ account s
 unfolding after dxch
 account-after rope s Extend k = refl
 account-after rope s Edrupt k = refl

@@ -1,3 +1,4 @@
+pub mod ChannelLines
 pub mod Codes
 pub mod State
 pub mod Representation
@@ -8,6 +9,18 @@ pub mod Texts
 pub mod Run
 pub mod Additions
 pub mod Laws
+pub mod Interrupts
+pub mod Frames
+pub mod ByValue
+pub mod Links
+pub mod Trails
+pub mod NextStep
+pub mod Dependence
+pub mod Beside
+pub mod Chains
+pub mod Profiles
+pub mod Operands
+pub mod Asking
 pub use Rattle.space.specs.Cells
 pub use Rattle.rope.specs.Places as RopePlaces
 pub use Rattle.feed.specs.Added as FeedAdded

@@ -46,3 +46,11 @@ pub record IsMarked (flags : List Bool) (asks : Bool) (sum word : Option ℕ) (w
   pub unasked : asks ≡ false → find (λ k. set.contains (requests_of flags) k) (range_with_len 1 request_count) ≡ None
   pub no_sum : waits ≡ false → sum ≡ None
   pub no_word : waits ≡ false → word ≡ None
+
+-- how many cells there are: those of the erasable places, and those of the channels
+abbrev pub cell_count : ℕ
+cell_count = 0o5000
+
+-- the cells that are marked
+unfoldable pub marked_cells : List Bool → set.FinSet nat_cmp
+marked_cells marks = set.from_list (filter (λ c. slice_index_or marks c false) (range_with_len 0 cell_count))

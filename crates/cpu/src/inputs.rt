@@ -2,6 +2,7 @@
 
 ghost use Rattle.std.specs.Prelude.{◌≡◌, ◌≤◌, Some, None, true, false, if◌then◌else◌};
 ghost use Rattle.cpu.specs.Inputs.{step_of, is_overflow, is_shifted_out, asked_by, carried_by, stepped, carried, asked, counted, asked_on, received, take};
+ghost use Rattle.cpu.specs.Asking.{interrupt_asked};
 ghost use Rattle.cpu.specs.Representation.{HasRoom};
 ghost use Rattle.cpu.specs.Next.{most_cycles};
 
@@ -40,6 +41,20 @@ impl Machine {
             }
             Input::Word(channel, word) => self.receive(channel, word),
             Input::Interrupt(request) => self.ask(request),
+        }
+    }
+
+    /// The interrupt for which an input asks, where it is taken now.
+    pub fn interrupt_asked(&self, input: Input) -> Option<Interrupt>
+        ensures { result ≡ interrupt_asked self.now input }
+    {
+        match input {
+            Input::Count(counter, sequence) => {
+                let step = step_of(sequence, self.word(counter.place()));
+                asked_by(counter.asks(), &step)
+            }
+            Input::Word(channel, _) => asked_on(channel),
+            Input::Interrupt(interrupt) => Some(interrupt),
         }
     }
 
@@ -93,7 +108,7 @@ impl Machine {
 }
 
 /// The step that a sequence makes of a word.
-fn step_of(sequence: Sequence, word: Word) -> CounterStep
+pub(crate) fn step_of(sequence: Sequence, word: Word) -> CounterStep
     ensures { result ≡ step_of sequence word }
 {
     match sequence {
@@ -108,14 +123,14 @@ fn step_of(sequence: Sequence, word: Word) -> CounterStep
 }
 
 /// Whether plus or minus one has overflowed.
-fn is_overflow(carry: Carry) -> bool
+pub(crate) fn is_overflow(carry: Carry) -> bool
     ensures { result ≡ is_overflow carry }
 {
     carry == Carry::Plus || carry == Carry::Minus
 }
 
 /// The counter into which an overflow is carried.
-fn carried_by(asks: Asks) -> Option<Counter>
+pub(crate) fn carried_by(asks: Asks) -> Option<Counter>
     ensures { result ≡ carried_by asks }
 {
     match asks {

@@ -1,8 +1,11 @@
 //! The computer: its state, its instructions, its inputs, and one step.
 #![tactic(auto)]
 
+mod account;
 mod address;
 mod bits;
+mod cell_set;
+mod channel_lines;
 mod channels;
 mod disassembly;
 mod dispatch;
@@ -11,13 +14,25 @@ mod inputs;
 mod instruction;
 mod instructions;
 pub mod laws;
+pub mod link_laws;
 mod machine;
+mod next_step;
+mod operand;
 mod output;
 mod processor;
+mod spot;
+mod targets;
+mod trail;
 
+pub use account::Account;
+pub use cell_set::CellSet;
+pub use channel_lines::{channel_line, write_channel_line};
 pub use disassembly::{disassemble, extracode_after};
 pub use feed::AddFault;
 pub use feed::input::Input;
 pub use machine::Machine;
+pub use next_step::{Fetched, NextStep};
+pub use operand::{instruction_name, named_address};
 pub use output::Output;
 pub use processor::Processor;
+pub use spot::{Cell, Spot};

@@ -6,10 +6,22 @@ ghost use Rattle.feed.specs.Merged.{due};
 ghost use Rattle.cpu.specs.State.{State, FitsRun};
 ghost use Rattle.cpu.specs.Additions.{AddsInput, AreAlikeUpTo, plain_inputs, most_plain_inputs};
 ghost use Rattle.cpu.specs.Run.{run};
+ghost use Rattle.cpu.specs.declared.spot.Spot.{Spot};
+ghost use Rattle.cpu.specs.Links.{link, sources, targets, writes};
+ghost use Rattle.cpu.specs.Chains.{writes_some};
+ghost use Rattle.cpu.specs.NextStep.{next_step};
+ghost use Rattle.cpu.specs.Profiles.{account_of};
 ghost use Rattle.cpu.specs.Next.{next, instruction_word, most_cycles};
 
+use crate::account::Account;
+use crate::cell_set::CellSet;
 use crate::machine::Machine;
+use crate::next_step::{Fetched, NextStep};
 use crate::output::Output;
+use crate::spot::{Cell, Spot, is_among};
+use crate::targets::Targets;
+use crate::trail::Trail;
+use arrayvec::ArrayVec;
 use feed::input::Input;
 use feed::{AddFault, Feed};
 use rope::Rope;
@@ -138,6 +150,98 @@ impl Processor {
         ensures { result.now ≡ self.now.scenario.rope }
     {
         &self.rope
+    }
+
+    /// What the next step is.
+    #[tactic(auto, unfolding(crate::specs::NextStep::next_step))]
+    pub fn next_step(&self, machine: &Machine) -> NextStep
+        ensures { FitsRun self.now.scenario machine.now → result ≡ next_step self.now.scenario machine.now }
+    {
+        if let Some((input, _)) = self.due(machine) {
+            return NextStep::Takes(input);
+        }
+        if let Some(request) = machine.entry() {
+            return NextStep::Enters(request);
+        }
+        NextStep::Executes(Fetched {
+            place: machine.next_place(),
+            word: machine.instruction_word(&self.rope),
+            extra: machine.extra(),
+            waited: machine.waiting_word().is_some(),
+            added: machine.waiting_sum(),
+        })
+    }
+
+    /// To whom the cycles of the next step are put down.
+    #[inline(always)]
+    pub fn account(&self, machine: &Machine) -> Account
+        ensures { FitsRun self.now.scenario machine.now → result ≡ account_of self.now.scenario machine.now }
+    {
+        if self.due(machine).is_some() {
+            return Account::Input;
+        }
+        if machine.entry().is_some() {
+            return Account::Entry;
+        }
+        if machine.waiting_word().is_some() {
+            return Account::Waiting;
+        }
+        Account::Place(machine.next_place())
+    }
+
+    /// The cells that the next step writes, in the order of its writings; one that is written twice stands twice.
+    #[tactic(auto, using(crate::proofs::Trails::gathered_targets), unfolding(crate::specs::Links::targets, crate::specs::Links::link))]
+    pub fn targets(&self, machine: &Machine) -> ArrayVec<Cell, 10>
+        ensures { FitsRun self.now.scenario machine.now → result.items ≡ targets (link self.now.scenario machine.now) }
+    {
+        let mut targets = Targets::none();
+        if let Some((input, _)) = self.due(machine) {
+            targets.take(machine, input);
+        } else if let Some(request) = machine.entry() {
+            targets.enter(machine, &self.rope, request);
+        } else {
+            targets.execute(machine, &self.rope);
+        }
+        targets.into_cells()
+    }
+
+    /// Whether the next step writes a cell.
+    pub fn writes(&self, machine: &Machine, cell: Cell) -> bool
+        ensures { FitsRun self.now.scenario machine.now → result ≡ writes (link self.now.scenario machine.now) cell }
+    {
+        is_among(cell, self.targets(machine).as_slice())
+    }
+
+    /// Whether the next step writes one of some cells.
+    pub fn writes_some(&self, machine: &Machine, cells: &CellSet) -> bool
+        ensures { FitsRun self.now.scenario machine.now → result ≡ writes_some (link self.now.scenario machine.now) cells.now }
+    {
+        cells.has_any(self.targets(machine).as_slice())
+    }
+
+    /// From what comes what the next step leaves in a cell: spots at which the machine holds something, or fixed memory does. Where
+    /// the step does not write the cell, the cell itself.
+    #[tactic(auto, using(crate::proofs::Trails::followed_from), unfolding(crate::specs::Links::sources, crate::specs::Links::link))]
+    pub fn sources(&self, machine: &Machine, cell: Cell) -> ArrayVec<Spot, 6>
+        ensures { FitsRun self.now.scenario machine.now → result.items ≡ sources (link self.now.scenario machine.now) (Spot.Cell cell) }
+    {
+        let mut trail = Trail::new(cell);
+        if let Some((input, _)) = self.due(machine) {
+            trail.take(machine, input);
+        } else if let Some(request) = machine.entry() {
+            trail.enter(machine, &self.rope, request);
+        } else {
+            trail.execute(machine, &self.rope);
+        }
+        trail.into_from()
+    }
+
+    /// The input that is due for a machine, with its series.
+    fn due(&self, machine: &Machine) -> Option<(Input, Option<usize>)>
+        ensures { FitsRun self.now.scenario machine.now → result ≡ due self.now.scenario.inputs machine.now.taken machine.now.cycles }
+    {
+        self.feed
+            .peek(machine.taken(), machine.counts(), machine.cycles())
     }
 
     /// The word that a machine executes next, unless an interrupt is entered, and whether extracode is in force for it.

@@ -13,7 +13,7 @@ use Rattle.space.specs.Places.{place}
 use Rattle.cpu.proofs.ClockRun.{loop, loop_words, clock, added, after_0, twelve_and, two, start-held, goes-twelve, goes-fourteen}
 use Rattle.commands.specs.Commands.{request_of, forms}
 use Rattle.debugger.specs.Additions.{with_added}
-use Rattle.debugger.specs.ChannelLines.{channel_lines}
+use Rattle.cpu.specs.ChannelLines.{channel_lines}
 use Rattle.debugger.specs.History.{History, history}
 use Rattle.debugger.specs.Growth.{grow, lowest_hit}
 use Rattle.debugger.specs.Replies.{Desk, answer, reply, at_line}

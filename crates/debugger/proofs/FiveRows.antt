@@ -13,11 +13,12 @@ use Rattle.cpu.specs.Codes.{code_of, basic_rows, extracode_rows}
 use Rattle.cpu.specs.Texts.{instruction_text}
 use Rattle.cpu.specs.declared.output.Output.{Output}
 use Rattle.cpu.proofs.FiveRun.{five, five_words, after_0, moves, start-held, goes}
-use Rattle.yayul.specs.declared.values.Value.TheVariants.{Fixed}
-use Rattle.commands.specs.Commands.{SymbolTable, request_of, forms}
+use Rattle.symbols.specs.declared.values.Value.TheVariants.{Fixed}
+use Rattle.symbols.specs.Values.{SymbolTable}
+use Rattle.commands.specs.Commands.{request_of, forms}
 use Rattle.commands.specs.declared.command.Command.TheVariants.{Run, Tail}
 use Rattle.commands.specs.declared.command.Request.TheVariants.{Known}
-use Rattle.debugger.specs.ChannelLines.{channel_lines}
+use Rattle.cpu.specs.ChannelLines.{channel_lines}
 use Rattle.debugger.specs.History.{History, history}
 use Rattle.debugger.specs.Growth.{grow, lowest_hit}
 use Rattle.debugger.specs.Replies.{Desk, Reply, stands, says, refuses, line, answer, reply, at_line, registers_line, next_line, places_changed}

@@ -2,11 +2,13 @@ pub mod Breaking
 pub mod WholeReplies
 pub mod InputsAdded
 pub mod LineByLine
+pub mod PlainTalk
 pub mod Looking
 pub mod NewSteps
+pub mod Tellings
 pub mod Stepping
 mod Listed
 mod Scripts
 mod FiveRows
 mod ClockRows
-mod SourceRows
+mod ExtendedRows

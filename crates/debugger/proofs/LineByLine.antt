@@ -6,60 +6,60 @@ use Rattle.agc_text.specs.Lines.{lines, ended_lines}
 use Rattle.agc_text.proofs.LineLaws.{lines-none, ended_lines-ended, ended_lines-part}
 use Rattle.words.specs.Readings.{TakesAtMost}
 use Rattle.words.proofs.Texts.{append-then, beginning-after, beginning-longer, beginning-whole}
-use Rattle.commands.specs.Commands.{SymbolTable, request_of}
 use Rattle.commands.specs.Lines.{TakesLine, EndsNoLine, ReadsWithin}
 use Rattle.debugger.specs.Replies.{Desk, Reply}
-use Rattle.debugger.specs.Transcript.{ends, told, replies, first_desk, lines_read}
-use Rattle.debugger.specs.Sessions.{AllGranted, Setting, WritesReplies, BeginsReplies, EndsReading}
-use Rattle.debugger.specs.Executions.{awaiting, answered, Replied, ReplyBroken}
+use Rattle.debugger.specs.Transcript.{first_desk}
+use Rattle.debugger.specs.Sessions.{AllGranted}
+use Rattle.debugger.specs.Conversation.{Reading, Talk, to_asked, is_end, conversation, lines_heard, WritesTalk, BeginsTalk, EndsTalk}
+use Rattle.debugger.specs.Executions.{awaiting, Replied, ReplyBroken}
 use Rattle.debugger.proofs.NewSteps.{granted-append}
 
-replies-end : (symbols : SymbolTable) (d : Desk) (line : List ℕ) (more : List (List ℕ)) → ends (request_of symbols line) ≡ true → replies symbols d (line ∷ more) ≡ []
-replies-end symbols d line more h = rw h refl
+replies-end : (read : Reading) (d : Desk) (line : List ℕ) (more : List (List ℕ)) → is_end (read line) ≡ true → conversation read d (line ∷ more) ≡ []
+replies-end read d line more h = rw h refl
 
-replies-more : (symbols : SymbolTable) (d : Desk) (line : List ℕ) (more : List (List ℕ)) → ends (request_of symbols line) ≡ false
-    → replies symbols d (line ∷ more) ≡ (told symbols d line).text ++ replies symbols (told symbols d line).desk more
-replies-more symbols d line more h = rw h refl
+replies-more : (read : Reading) (d : Desk) (line : List ℕ) (more : List (List ℕ)) → is_end (read line) ≡ false
+    → conversation read d (line ∷ more) ≡ (to_asked (read line) d).text ++ conversation read (to_asked (read line) d).desk more
+replies-more read d line more h = rw h refl
 
-lines_read-end : (symbols : SymbolTable) (line : List ℕ) (more : List (List ℕ)) → ends (request_of symbols line) ≡ true → lines_read symbols (line ∷ more) ≡ line ∷ []
-unfolding lines_read
-lines_read-end symbols line more h = rw h refl
+lines_heard-end : (read : Reading) (line : List ℕ) (more : List (List ℕ)) → is_end (read line) ≡ true → lines_heard read (line ∷ more) ≡ line ∷ []
+unfolding lines_heard
+lines_heard-end read line more h = rw h refl
 
-pub lines_read-more : (symbols : SymbolTable) (line : List ℕ) (more : List (List ℕ)) → ends (request_of symbols line) ≡ false → lines_read symbols (line ∷ more) ≡ line ∷ lines_read symbols more
-unfolding lines_read
-lines_read-more symbols line more h = rw h refl
+pub lines_heard-more : (read : Reading) (line : List ℕ) (more : List (List ℕ)) → is_end (read line) ≡ false → lines_heard read (line ∷ more) ≡ line ∷ lines_heard read more
+unfolding lines_heard
+lines_heard-more read line more h = rw h refl
 
-lines_read-none : (symbols : SymbolTable) → lines_read symbols [] ≡ []
-unfolding lines_read
-lines_read-none symbols = refl
+lines_heard-none : (read : Reading) → lines_heard read [] ≡ []
+unfolding lines_heard
+lines_heard-none read = refl
 
 -- The lines that were taken off a text so far, of which the rest is left, and so many bytes of it may stand in lines.
-pub record Taken (symbols : SymbolTable) (whole : List ℕ) (most : ℕ) (rest : List ℕ) (now : ℕ) : Type 0 where
+pub record Taken (read : Reading) (whole : List ℕ) (most : ℕ) (rest : List ℕ) (now : ℕ) : Type 0 where
   pub done : List (List ℕ)
   pub all : lines (take most whole) ≡ done ++ lines (take now rest)
   pub bytes : 0 < now → (bytes : List ℕ) × (whole ≡ bytes ++ rest) × ((tail : List ℕ) → ended_lines (bytes ++ tail) ≡ done ++ ended_lines tail)
-  pub no_end : (more : List (List ℕ)) → lines_read symbols (done ++ more) ≡ done ++ lines_read symbols more
+  pub no_end : (more : List (List ℕ)) → lines_heard read (done ++ more) ≡ done ++ lines_heard read more
 
 -- what was answered and written for the lines so far, after which the session stands at a place
-pub record Answered (s : Setting) (done : List (List ℕ)) (at : Desk) (old new : List ℕ) : Type 0 where
+pub record Answered (s : Talk) (done : List (List ℕ)) (at : Desk) (old new : List ℕ) : Type 0 where
   pub answers : List Bool
   pub additions : List (Option ℕ)
   pub granted : s.may_refuse ≡ false → AllGranted answers
   pub text : List ℕ
   pub goes_on : (rest : List Bool) (later : List (Option ℕ)) (more : List (List ℕ))
-      → replies s.symbols (first_desk s.scenario (answers ++ rest) (additions ++ later)) (done ++ more) ≡ text ++ replies s.symbols (awaiting at rest later) more
+      → conversation s.read (first_desk s.scenario (answers ++ rest) (additions ++ later)) (done ++ more) ≡ text ++ conversation s.read (awaiting at rest later) more
   pub written : new ≡ old ++ text
 
-abbrev pub taken-none : (symbols : SymbolTable) (whole : List ℕ) (most : ℕ) → Taken symbols whole most whole most
-taken-none symbols whole most = record { done = []; all = refl; bytes = λ _. ([], refl, λ tail. refl); no_end = λ more. refl }
+abbrev pub taken-none : (read : Reading) (whole : List ℕ) (most : ℕ) → Taken read whole most whole most
+taken-none read whole most = record { done = []; all = refl; bytes = λ _. ([], refl, λ tail. refl); no_end = λ more. refl }
 
-pub answered-none : (s : Setting) (old : List ℕ) → Answered s [] (first_desk s.scenario [] []) old old
+pub answered-none : (s : Talk) (old : List ℕ) → Answered s [] (first_desk s.scenario [] []) old old
 answered-none s old = record { answers = []; additions = []; granted = λ _. tt; text = []; goes_on = λ rest later more. refl; written = sym (append-nil old) }
 
 -- one line more was taken, and the end isn't asked for
-abbrev pub taken-more : {symbols : SymbolTable} {whole : List ℕ} {most : ℕ} {rest : List ℕ} {now : ℕ} (r : Taken symbols whole most rest now) (line rest' : List ℕ) (now' : ℕ) → now' < now
-    → TakesLine rest now line rest' now' → ends (request_of symbols line) ≡ false → Taken symbols whole most rest' now'
-taken-more {symbols} {whole} {most} {rest} {now} r line rest' now' less t h = record {
+abbrev pub taken-more : {read : Reading} {whole : List ℕ} {most : ℕ} {rest : List ℕ} {now : ℕ} (r : Taken read whole most rest now) (line rest' : List ℕ) (now' : ℕ) → now' < now
+    → TakesLine rest now line rest' now' → is_end (read line) ≡ false → Taken read whole most rest' now'
+taken-more {read} {whole} {most} {rest} {now} r line rest' now' less t h = record {
   done = r.done ++ line ∷ [];
   all = r.all ∙ ap (λ (ls : List (List ℕ)). r.done ++ ls) t.lines ∙ sym (append_assoc r.done (line ∷ []) _);
   bytes = λ more. (let b = r.bytes (omega arith) in let e = t.ended more in (
@@ -68,38 +68,37 @@ taken-more {symbols} {whole} {most} {rest} {now} r line rest' now' less t h = re
     λ tail. ap ended_lines (ap (λ (x : List ℕ). x ++ tail) (append_assoc b.0 line (line_feed ∷ [])) ∙ append_assoc b.0 (line ++ line_feed ∷ []) tail ∙ ap (λ (x : List ℕ). b.0 ++ x) (append_assoc line (line_feed ∷ []) tail))
         ∙ b.2 (line ++ line_feed ∷ tail) ∙ ap (λ (x : List (List ℕ)). r.done ++ x) (ended_lines-ended line tail e.0) ∙ sym (append_assoc r.done (line ∷ []) (ended_lines tail)),
   ));
-  no_end = λ more. ap (lines_read symbols) (append_assoc r.done (line ∷ []) more) ∙ r.no_end (line ∷ more) ∙ ap (λ (x : List (List ℕ)). r.done ++ x) (lines_read-more symbols line more h) ∙ sym (append_assoc r.done (line ∷ []) (lines_read symbols more));
+  no_end = λ more. ap (lines_heard read) (append_assoc r.done (line ∷ []) more) ∙ r.no_end (line ∷ more) ∙ ap (λ (x : List (List ℕ)). r.done ++ x) (lines_heard-more read line more h) ∙ sym (append_assoc r.done (line ∷ []) (lines_heard read more));
 }
 
 -- and was answered
-pub answered-more : {s : Setting} {done : List (List ℕ)} {at : Desk} {old new : List ℕ} (to : Desk) (new' line : List ℕ)
-    → Answered s done at old new → ends (request_of s.symbols line) ≡ false → Replied s.may_refuse at (request_of s.symbols line) to new new' → Answered s (done ++ line ∷ []) to old new'
-unfolding told
+pub answered-more : {s : Talk} {done : List (List ℕ)} {at : Desk} {old new : List ℕ} (to : Desk) (new' line : List ℕ)
+    → Answered s done at old new → is_end (s.read line) ≡ false → Replied s.may_refuse (to_asked (s.read line)) at to new new' → Answered s (done ++ line ∷ []) to old new'
 answered-more {s} {done} {at} {old} {new} to new' line t h e = record {
   answers = t.answers ++ e.answers;
   additions = t.additions ++ e.additions;
   granted = λ m. granted-append t.answers e.answers (t.granted m) (e.granted m);
   text = t.text ++ e.text;
   goes_on = λ rest later more.
-      ap (λ (a : List Bool). replies s.symbols (first_desk s.scenario a ((t.additions ++ e.additions) ++ later)) ((done ++ line ∷ []) ++ more)) (append_assoc t.answers e.answers rest)
-      ∙ ap (λ (a : List (Option ℕ)). replies s.symbols (first_desk s.scenario (t.answers ++ (e.answers ++ rest)) a) ((done ++ line ∷ []) ++ more)) (append_assoc t.additions e.additions later)
-      ∙ ap (replies s.symbols (first_desk s.scenario (t.answers ++ (e.answers ++ rest)) (t.additions ++ (e.additions ++ later)))) (append_assoc done (line ∷ []) more)
+      ap (λ (a : List Bool). conversation s.read (first_desk s.scenario a ((t.additions ++ e.additions) ++ later)) ((done ++ line ∷ []) ++ more)) (append_assoc t.answers e.answers rest)
+      ∙ ap (λ (a : List (Option ℕ)). conversation s.read (first_desk s.scenario (t.answers ++ (e.answers ++ rest)) a) ((done ++ line ∷ []) ++ more)) (append_assoc t.additions e.additions later)
+      ∙ ap (conversation s.read (first_desk s.scenario (t.answers ++ (e.answers ++ rest)) (t.additions ++ (e.additions ++ later)))) (append_assoc done (line ∷ []) more)
       ∙ t.goes_on (e.answers ++ rest) (e.additions ++ later) (line ∷ more)
-      ∙ ap (λ (x : List ℕ). t.text ++ x) (replies-more s.symbols (awaiting at (e.answers ++ rest) (e.additions ++ later)) line more h ∙ ap (λ (r : Reply). r.text ++ replies s.symbols r.desk more) (e.brings rest later))
-      ∙ sym (append_assoc t.text e.text (replies s.symbols (awaiting to rest later) more));
+      ∙ ap (λ (x : List ℕ). t.text ++ x) (replies-more s.read (awaiting at (e.answers ++ rest) (e.additions ++ later)) line more h ∙ ap (λ (r : Reply). r.text ++ conversation s.read r.desk more) (e.brings rest later))
+      ∙ sym (append_assoc t.text e.text (conversation s.read (awaiting to rest later) more));
   written = append-then old new new' t.text e.text t.written e.written;
 }
 
-module _ (s : Setting) (whole : List ℕ) (most : ℕ) (rest : List ℕ) (now : ℕ) (at : Desk) (old new : List ℕ) (r : Taken s.symbols whole most rest now) (t : Answered s r.done at old new) where
+module _ (s : Talk) (whole : List ℕ) (most : ℕ) (rest : List ℕ) (now : ℕ) (at : Desk) (old new : List ℕ) (r : Taken s.read whole most rest now) (t : Answered s r.done at old new) where
   -- the replies to lines of which these are done and others are left
-  goes : (all more : List (List ℕ)) → all ≡ r.done ++ more → replies s.symbols (first_desk s.scenario t.answers t.additions) all ≡ t.text ++ replies s.symbols (awaiting at [] []) more
+  goes : (all more : List (List ℕ)) → all ≡ r.done ++ more → conversation s.read (first_desk s.scenario t.answers t.additions) all ≡ t.text ++ conversation s.read (awaiting at [] []) more
   goes all more e =
-      ap (λ (a : List Bool). replies s.symbols (first_desk s.scenario a t.additions) all) (sym (append-nil t.answers))
-      ∙ ap (λ (a : List (Option ℕ)). replies s.symbols (first_desk s.scenario (t.answers ++ []) a) all) (sym (append-nil t.additions))
-      ∙ ap (replies s.symbols (first_desk s.scenario (t.answers ++ []) (t.additions ++ []))) e ∙ t.goes_on [] [] more
+      ap (λ (a : List Bool). conversation s.read (first_desk s.scenario a t.additions) all) (sym (append-nil t.answers))
+      ∙ ap (λ (a : List (Option ℕ)). conversation s.read (first_desk s.scenario (t.answers ++ []) a) all) (sym (append-nil t.additions))
+      ∙ ap (conversation s.read (first_desk s.scenario (t.answers ++ []) (t.additions ++ []))) e ∙ t.goes_on [] [] more
 
   -- the replies to lines that end here
-  ended : (all more : List (List ℕ)) → all ≡ r.done ++ more → replies s.symbols (awaiting at [] []) more ≡ [] → WritesReplies s all old new
+  ended : (all more : List (List ℕ)) → all ≡ r.done ++ more → conversation s.read (awaiting at [] []) more ≡ [] → WritesTalk s all old new
   ended all more e none = record {
     answers = t.answers;
     additions = t.additions;
@@ -108,16 +107,16 @@ module _ (s : Setting) (whole : List ℕ) (most : ℕ) (rest : List ℕ) (now : 
   }
 
   -- no line is left
-  pub writes-end : take now rest ≡ [] → WritesReplies s (lines (take most whole)) old new
+  pub writes-end : take now rest ≡ [] → WritesTalk s (lines (take most whole)) old new
   writes-end e = ended (lines (take most whole)) [] (r.all ∙ ap (λ (x : List (List ℕ)). r.done ++ x) (lines-none (take now rest) (ap length e))) refl
 
   -- or the end is asked for
-  pub writes-quit : (line rest' : List ℕ) (now' : ℕ) → TakesLine rest now line rest' now' → ends (request_of s.symbols line) ≡ true → WritesReplies s (lines (take most whole)) old new
+  pub writes-quit : (line rest' : List ℕ) (now' : ℕ) → TakesLine rest now line rest' now' → is_end (s.read line) ≡ true → WritesTalk s (lines (take most whole)) old new
   writes-quit line rest' now' l h =
-      ended (lines (take most whole)) (line ∷ lines (take now' rest')) (r.all ∙ ap (λ (x : List (List ℕ)). r.done ++ x) l.lines) (replies-end s.symbols (awaiting at [] []) line (lines (take now' rest')) h)
+      ended (lines (take most whole)) (line ∷ lines (take now' rest')) (r.all ∙ ap (λ (x : List (List ℕ)). r.done ++ x) l.lines) (replies-end s.read (awaiting at [] []) line (lines (take now' rest')) h)
 
   -- a read failed
-  pub writes-read : (left : List ℕ) → 0 < now → EndsNoLine rest left → EndsReading s (record { before = whole; left = left }) old new
+  pub writes-read : (left : List ℕ) → 0 < now → EndsNoLine rest left → EndsTalk s (record { before = whole; left = left }) old new
   writes-read left more e =
       let b = r.bytes more in
       record {
@@ -127,25 +126,24 @@ module _ (s : Setting) (whole : List ℕ) (most : ℕ) (rest : List ℕ) (now : 
       }
 
   -- what was written could not be handed on
-  pub writes-flush : BeginsReplies s (lines (take most whole)) old new
+  pub writes-flush : BeginsTalk s (lines (take most whole)) old new
   writes-flush = record {
     answers = t.answers;
     additions = t.additions;
     granted = t.granted;
-    part = rw (goes (lines (take most whole)) (lines (take now rest)) r.all) (beginning-longer old new t.text (replies s.symbols (awaiting at [] []) (lines (take now rest))) (beginning-whole old new t.text t.written));
+    part = rw (goes (lines (take most whole)) (lines (take now rest)) r.all) (beginning-longer old new t.text (conversation s.read (awaiting at [] []) (lines (take now rest))) (beginning-whole old new t.text t.written));
   }
 
   -- a reply could not be written whole
-  pub writes-part : (line rest' new' : List ℕ) (now' : ℕ) → TakesLine rest now line rest' now' → ends (request_of s.symbols line) ≡ false
-      → ReplyBroken s.may_refuse at (request_of s.symbols line) new new' → BeginsReplies s (lines (take most whole)) old new'
-  unfolding told
+  pub writes-part : (line rest' new' : List ℕ) (now' : ℕ) → TakesLine rest now line rest' now' → is_end (s.read line) ≡ false
+      → ReplyBroken s.may_refuse (to_asked (s.read line)) at new new' → BeginsTalk s (lines (take most whole)) old new'
   writes-part line rest' new' now' l h e =
-      let reply = answered at (request_of s.symbols line) e.answers e.additions in
-      let after = replies s.symbols reply.desk (lines (take now' rest')) in
-      let whole_is : replies s.symbols (first_desk s.scenario (t.answers ++ e.answers) (t.additions ++ e.additions)) (lines (take most whole)) ≡ t.text ++ (reply.text ++ after) =
-      ap (replies s.symbols (first_desk s.scenario (t.answers ++ e.answers) (t.additions ++ e.additions))) (r.all ∙ ap (λ (x : List (List ℕ)). r.done ++ x) l.lines)
+      let reply = to_asked (s.read line) (awaiting at e.answers e.additions) in
+      let after = conversation s.read reply.desk (lines (take now' rest')) in
+      let whole_is : conversation s.read (first_desk s.scenario (t.answers ++ e.answers) (t.additions ++ e.additions)) (lines (take most whole)) ≡ t.text ++ (reply.text ++ after) =
+      ap (conversation s.read (first_desk s.scenario (t.answers ++ e.answers) (t.additions ++ e.additions))) (r.all ∙ ap (λ (x : List (List ℕ)). r.done ++ x) l.lines)
       ∙ t.goes_on e.answers e.additions (line ∷ lines (take now' rest'))
-      ∙ ap (λ (x : List ℕ). t.text ++ x) (replies-more s.symbols (awaiting at e.answers e.additions) line (lines (take now' rest')) h) in
+      ∙ ap (λ (x : List ℕ). t.text ++ x) (replies-more s.read (awaiting at e.answers e.additions) line (lines (take now' rest')) h) in
       record {
         answers = t.answers ++ e.answers;
         additions = t.additions ++ e.additions;
@@ -154,17 +152,17 @@ module _ (s : Setting) (whole : List ℕ) (most : ℕ) (rest : List ℕ) (now : 
       }
 
 -- how many lines were read
-pub count-end : {symbols : SymbolTable} {whole : List ℕ} {most : ℕ} {rest : List ℕ} {now : ℕ} (r : Taken symbols whole most rest now) → take now rest ≡ []
-    → length (lines_read symbols (lines (take most whole))) ≡ length r.done
-count-end {symbols} {rest = rest} {now = now} r e =
-    ap (λ (x : List (List ℕ)). length (lines_read symbols x)) (r.all ∙ ap (λ (x : List (List ℕ)). r.done ++ x) (lines-none (take now rest) (ap length e)))
-    ∙ ap length (r.no_end [] ∙ ap (λ (x : List (List ℕ)). r.done ++ x) (lines_read-none symbols) ∙ append-nil r.done)
+pub count-end : {read : Reading} {whole : List ℕ} {most : ℕ} {rest : List ℕ} {now : ℕ} (r : Taken read whole most rest now) → take now rest ≡ []
+    → length (lines_heard read (lines (take most whole))) ≡ length r.done
+count-end {read} {rest = rest} {now = now} r e =
+    ap (λ (x : List (List ℕ)). length (lines_heard read x)) (r.all ∙ ap (λ (x : List (List ℕ)). r.done ++ x) (lines-none (take now rest) (ap length e)))
+    ∙ ap length (r.no_end [] ∙ ap (λ (x : List (List ℕ)). r.done ++ x) (lines_heard-none read) ∙ append-nil r.done)
 
-pub count-quit : {symbols : SymbolTable} {whole : List ℕ} {most : ℕ} {rest : List ℕ} {now : ℕ} (r : Taken symbols whole most rest now) (line rest' : List ℕ) (now' : ℕ) → TakesLine rest now line rest' now' → ends (request_of symbols line) ≡ true
-    → length (lines_read symbols (lines (take most whole))) ≡ length r.done + 1
-count-quit {symbols} r line rest' now' t h =
-    ap (λ (x : List (List ℕ)). length (lines_read symbols x)) (r.all ∙ ap (λ (x : List (List ℕ)). r.done ++ x) t.lines)
-    ∙ ap length (r.no_end (line ∷ lines (take now' rest')) ∙ ap (λ (x : List (List ℕ)). r.done ++ x) (lines_read-end symbols line (lines (take now' rest')) h)) ∙ length-append r.done (line ∷ [])
+pub count-quit : {read : Reading} {whole : List ℕ} {most : ℕ} {rest : List ℕ} {now : ℕ} (r : Taken read whole most rest now) (line rest' : List ℕ) (now' : ℕ) → TakesLine rest now line rest' now' → is_end (read line) ≡ true
+    → length (lines_heard read (lines (take most whole))) ≡ length r.done + 1
+count-quit {read} r line rest' now' t h =
+    ap (λ (x : List (List ℕ)). length (lines_heard read x)) (r.all ∙ ap (λ (x : List (List ℕ)). r.done ++ x) t.lines)
+    ∙ ap length (r.no_end (line ∷ lines (take now' rest')) ∙ ap (λ (x : List (List ℕ)). r.done ++ x) (lines_heard-end read line (lines (take now' rest')) h)) ∙ length-append r.done (line ∷ [])
 
 -- what was read, and what was read then
 pub reads-more : (old now new : List ℕ) (before between after : ℕ) → ReadsWithin old now before between → ReadsWithin now new between after → ReadsWithin old new before after

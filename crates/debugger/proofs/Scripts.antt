@@ -1,7 +1,8 @@
 -- Scripts of commands over a history that is known.
 use Rattle.std.proofs.Common.{◌≡◌, ℕ, Bool, true, false, cond, List, [], ◌∷◌, ◌++◌, None, Some, ap, refl, ◌∙◌, if◌then◌else◌}
 use Rattle.std.specs.Prelude.{◌+◌, nat_lt, nat_le, length, codes, decimal}
-use Rattle.commands.specs.Commands.{SymbolTable, request_of}
+use Rattle.symbols.specs.Values.{SymbolTable}
+use Rattle.commands.specs.Commands.{request_of}
 use Rattle.commands.specs.declared.command.Breakpoint.{Breakpoint}
 use Rattle.commands.specs.declared.command.Command.TheVariants.{Step, Run, Back, Goto, Seek, Break, Clear, Registers, Memory, Channel, Last, Symbol, Changed, Tail, Add, Quit}
 use Rattle.commands.specs.declared.command.Request.{Request}

@@ -9,7 +9,7 @@ use Rattle.replay.specs.View.{SessionView}
 use Rattle.debugger.specs.History.{history}
 use Rattle.debugger.specs.Growth.{Growth, grow}
 use Rattle.debugger.specs.Replies.{Reply, says, after_steps, ending_line, at_line_of}
-use Rattle.debugger.specs.Executions.{Grown, GrowthBroken, desk, awaiting, answered, ReplyBroken, Executes}
+use Rattle.debugger.specs.Executions.{Grown, GrowthBroken, desk, awaiting, answered, to_request, ReplyBroken, Executes}
 use Rattle.debugger.specs.declared.ending.Ending.{Ending}
 
 -- a request makes up to so many steps, up to some breakpoints, and the position is told by how many there are then
@@ -20,7 +20,7 @@ MakesSteps s p bs request tried more place =
 
 -- the line of an output could not be written whole
 pub steps-broken : (may_refuse : Bool) (s : SessionView) (p : ℕ) (bs : List Breakpoint) (request : Request) (tried : List Breakpoint) (more : ℕ) (place : ℕ → ℕ) (old new : List ℕ)
-    → MakesSteps s p bs request tried more place → GrowthBroken may_refuse (history s.scenario) tried more s.n old new → ReplyBroken may_refuse (desk s p bs) request old new
+    → MakesSteps s p bs request tried more place → GrowthBroken may_refuse (history s.scenario) tried more s.n old new → ReplyBroken may_refuse (to_request request) (desk s p bs) old new
 steps-broken may_refuse s p bs request tried more place old new makes b =
     let g = grow (history s.scenario) tried more s.n b.answers in
     let after = ending_line g.ending ++ at_line_of (place g.steps) ((history s.scenario).after (place g.steps)) in

@@ -3,16 +3,27 @@ use Rattle.std.proofs.Common.{◌≡◌, Bool, List, [], ℕ, Option, Result, Ok
 use Rattle.words.specs.Devices.{Writes}
 use Rattle.words.specs.declared.device.WriteFailed.{WriteFailed}
 use Rattle.commands.specs.declared.command.Request.{Request}
-use Rattle.debugger.specs.Replies.{Desk, Reply}
-use Rattle.debugger.specs.Executions.{answered, Brings, BringsAdding, Executes}
+use Rattle.commands.specs.declared.extended.ExtendedRequest.{ExtendedRequest}
+use Rattle.debugger.specs.Conversation.{to_asked}
+use Rattle.debugger.specs.Replies.{Desk, Reply, says}
+use Rattle.debugger.specs.Executions.{awaiting, answered, to_request, Brings, BringsAdding, BringsAsked, Replies, Executes}
 
 -- the reply was written, or a beginning of it
+pub replies-text : (may_refuse : Bool) (reply : Desk → Reply) (from to : Desk) (old new text bytes : List ℕ) (result : Result (Unit {0}) WriteFailed)
+    → ((answers : List Bool) (additions : List (Option ℕ)) → reply (awaiting from answers additions) ≡ says text (awaiting to answers additions)) → bytes ≡ text → Writes old new bytes result → Replies may_refuse reply from to old new result
+replies-text may_refuse reply from to old new text bytes (Ok x) brings e w = record { answers = []; additions = []; granted = λ _. tt; text = text; brings = brings; written = rw e at w }
+replies-text may_refuse reply from to old new text bytes (Err failed) brings e w =
+    record { answers = []; additions = []; granted = λ _. tt; part = rw (ap (λ (r : Reply). r.text) (brings [] []), ← e) w }
+
+-- to a request
 pub executes-text : (may_refuse : Bool) (from to : Desk) (asked request : Request) (old new text bytes : List ℕ) (result : Result (Unit {0}) WriteFailed)
     → asked ≡ request → Brings from request text to → bytes ≡ text → Writes old new bytes result → Executes may_refuse from asked to old new result
-executes-text may_refuse from to asked request old new text bytes (Ok x) is brings e w =
-    rw is (record { answers = []; additions = []; granted = λ _. tt; text = text; brings = brings; written = rw e at w })
-executes-text may_refuse from to asked request old new text bytes (Err failed) is brings e w =
-    rw is (record { answers = []; additions = []; granted = λ _. tt; part = rw (ap (λ (r : Reply). r.text) (brings [] []), ← e) w })
+executes-text may_refuse from to asked request old new text bytes result is brings e w = rw is (replies-text may_refuse (to_request request) from to old new text bytes result brings e w)
+
+-- to what an extended session is asked for
+pub asked-text : (may_refuse : Bool) (from to : Desk) (asked request : ExtendedRequest) (old new text bytes : List ℕ) (result : Result (Unit {0}) WriteFailed)
+    → asked ≡ request → BringsAsked from request text to → bytes ≡ text → Writes old new bytes result → Replies may_refuse (to_asked asked) from to old new result
+asked-text may_refuse from to asked request old new text bytes result is brings e w = rw is (replies-text may_refuse (to_asked request) from to old new text bytes result brings e w)
 
 -- the reply to a request that may add an input
 pub executes-adding : (may_refuse : Bool) (from to : Desk) (asked request : Request) (old new text bytes : List ℕ) (result : Result (Unit {0}) WriteFailed)

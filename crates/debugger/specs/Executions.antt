@@ -10,6 +10,8 @@ use Rattle.debugger.specs.History.{History, history}
 use Rattle.debugger.specs.Growth.{grow}
 use Rattle.debugger.specs.Replies.{Desk, Reply, says, answer}
 use Rattle.debugger.specs.Sessions.{AllGranted}
+use Rattle.commands.specs.declared.extended.ExtendedRequest.{ExtendedRequest}
+use Rattle.debugger.specs.Conversation.{to_asked}
 use Rattle.debugger.specs.declared.ending.Ending.{Ending}
 
 -- steps were made, up to an ending, and the lines of their outputs written
@@ -43,6 +45,10 @@ awaiting d answers additions = record d { answers = answers; additions = additio
 abbrev pub answered : Desk → Request → List Bool → List (Option ℕ) → Reply
 answered d request answers additions = answer (history d.scenario) (awaiting d answers additions) request
 
+-- something that is asked for has this text as its reply, and leads from one place to the other
+abbrev pub BringsAsked : Desk → ExtendedRequest → List ℕ → Desk → Type 0
+BringsAsked from request text to = (answers : List Bool) (additions : List (Option ℕ)) → to_asked request (awaiting from answers additions) ≡ says text (awaiting to answers additions)
+
 -- a request has this text as its reply, and leads from one place to the other
 abbrev pub Brings : Desk → Request → List ℕ → Desk → Type 0
 Brings from request text to = (answers : List Bool) (additions : List (Option ℕ)) → answered from request answers additions ≡ says text (awaiting to answers additions)
@@ -52,25 +58,32 @@ pub record BringsAdding (from : Desk) (request : Request) (text : List ℕ) (to 
   pub additions : List (Option ℕ)
   pub brings : (answers : List Bool) (later : List (Option ℕ)) → answered from request answers (additions ++ later) ≡ says text (awaiting to answers later)
 
--- a request was answered: its reply was written
-pub record Replied (may_refuse : Bool) (from : Desk) (request : Request) (to : Desk) (old new : List ℕ) : Type 0 where
+-- what a request brings
+abbrev pub to_request : Request → Desk → Reply
+to_request request d = answer (history d.scenario) d request
+
+-- something was answered: its reply was written
+pub record Replied (may_refuse : Bool) (reply : Desk → Reply) (from to : Desk) (old new : List ℕ) : Type 0 where
   pub answers : List Bool
   pub additions : List (Option ℕ)
   pub granted : may_refuse ≡ false → AllGranted answers
   pub text : List ℕ
-  pub brings : (rest : List Bool) (later : List (Option ℕ)) → answered from request (answers ++ rest) (additions ++ later) ≡ says text (awaiting to rest later)
+  pub brings : (rest : List Bool) (later : List (Option ℕ)) → reply (awaiting from (answers ++ rest) (additions ++ later)) ≡ says text (awaiting to rest later)
   pub written : new ≡ old ++ text
 
 -- its reply could not be written whole
-pub record ReplyBroken (may_refuse : Bool) (from : Desk) (request : Request) (old new : List ℕ) : Type 0 where
+pub record ReplyBroken (may_refuse : Bool) (reply : Desk → Reply) (from : Desk) (old new : List ℕ) : Type 0 where
   pub answers : List Bool
   pub additions : List (Option ℕ)
   pub granted : may_refuse ≡ false → AllGranted answers
-  pub part : WritesBeginning old new (answered from request answers additions).text
+  pub part : WritesBeginning old new (reply (awaiting from answers additions)).text
+
+abbrev pub Replies : Bool → (Desk → Reply) → Desk → Desk → List ℕ → List ℕ → Result (Unit {0}) WriteFailed → Type 0
+Replies may_refuse reply from to old new (Ok x) = Replied may_refuse reply from to old new
+Replies may_refuse reply from to old new (Err failed) = ReplyBroken may_refuse reply from old new
 
 abbrev pub Executes : Bool → Desk → Request → Desk → List ℕ → List ℕ → Result (Unit {0}) WriteFailed → Type 0
-Executes may_refuse from request to old new (Ok x) = Replied may_refuse from request to old new
-Executes may_refuse from request to old new (Err failed) = ReplyBroken may_refuse from request old new
+Executes may_refuse from request to old new result = Replies may_refuse (to_request request) from to old new result
 
 -- what a look at earlier steps leaves: only the shown machine and the meter may change, and so many steps are executed at
 -- most

@@ -1,12 +1,11 @@
 -- Steps that are made for the first time.
-use Rattle.std.specs.Prelude.{ℕ, zero, suc, ◌+◌, ◌==◌, ◌&&◌, Bool, false, List, [], ◌∷◌, ◌++◌, drop, Option, None, Some, position, if◌then◌else◌}
+use Rattle.std.specs.Prelude.{ℕ, zero, suc, ◌+◌, ◌==◌, Bool, false, List, [], ◌∷◌, ◌++◌, drop, Option, None, Some, position, if◌then◌else◌}
 use Rattle.std.specs.Option.{option_map}
 use Rattle.words.specs.Numbers.{correct}
-use Rattle.space.specs.declared.place.Linear.{Linear}
-use Rattle.space.specs.declared.place.Linear.TheVariants.{Erasable, Fixed}
+use Rattle.space.specs.Places.{same_place}
 use Rattle.cpu.specs.declared.output.Output.{Output}
 use Rattle.replay.specs.Memory.{step_limit}
-use Rattle.debugger.specs.ChannelLines.{channel_line}
+use Rattle.cpu.specs.ChannelLines.{channel_line}
 use Rattle.debugger.specs.History.{Sight, History}
 use Rattle.commands.specs.declared.command.Breakpoint.{Breakpoint}
 use Rattle.commands.specs.declared.command.Breakpoint.TheVariants.{Place, Word, Channel}
@@ -20,13 +19,6 @@ word_seen seen p = correct (seen.reading p)
 -- the word on a channel
 abbrev pub channel_seen : Sight → ℕ → ℕ
 channel_seen seen c = correct (seen.channel c)
-
--- two places are one
-abbrev pub same_place : Linear → Linear → Bool
-same_place (Erasable p) (Erasable q) = p == q
-same_place (Erasable p) (Fixed bank offset) = false
-same_place (Fixed bank offset) (Erasable q) = false
-same_place (Fixed bank offset) (Fixed b o) = bank == b && offset == o
 
 -- a breakpoint holds
 abbrev pub holds : Sight → Breakpoint → Bool

@@ -1,8 +1,11 @@
 pub mod Additions
-pub mod ChannelLines
 pub mod History
 pub mod Growth
 pub mod Replies
+pub mod ExtendedReplies
 pub mod Transcript
 pub mod Sessions
+pub mod Conversation
+pub mod HandingOn
+pub mod Telling
 pub mod Executions

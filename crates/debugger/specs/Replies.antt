@@ -8,9 +8,9 @@ use Rattle.space.specs.declared.place.Linear.{Linear}
 use Rattle.space.specs.declared.place.Linear.TheVariants.{Erasable, Fixed}
 use Rattle.cpu.specs.declared.output.Output.{Output}
 use Rattle.cpu.specs.Texts.{disassembly}
-use Rattle.yayul.specs.Listing.{value_text}
-use Rattle.yayul.specs.declared.values.Value.{Value}
-use Rattle.debugger.specs.ChannelLines.{channel_lines}
+use Rattle.symbols.specs.Values.{value_text}
+use Rattle.symbols.specs.declared.values.Value.{Value}
+use Rattle.cpu.specs.ChannelLines.{channel_lines}
 use Rattle.cpu.specs.State.{Scenario}
 use Rattle.cpu.specs.Additions.{plain_inputs, most_plain_inputs}
 use Rattle.replay.specs.View.{greatest_cycle}

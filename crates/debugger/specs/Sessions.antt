@@ -3,7 +3,7 @@ use Rattle.std.specs.Prelude.{◌≡◌, ℕ, Bool, true, false, List, [], ◌�
 use Rattle.agc_text.specs.Lines.{ended_lines}
 use Rattle.words.specs.Devices.{WritesBeginning}
 use Rattle.cpu.specs.State.{Scenario}
-use Rattle.commands.specs.Commands.{SymbolTable}
+use Rattle.symbols.specs.Values.{SymbolTable}
 use Rattle.debugger.specs.Transcript.{replies, first_desk, command_lines}
 use Rattle.debugger.specs.declared.fault.DebugFault.{DebugFault}
 use Rattle.debugger.specs.declared.fault.DebugFault.TheVariants.{NoMemory, ReadFailed, WriteFailed}
@@ -69,3 +69,9 @@ has_write_failed (Ok x) = false
 has_write_failed (Err NoMemory) = false
 has_write_failed (Err ReadFailed) = false
 has_write_failed (Err WriteFailed) = true
+
+-- the number that a fault is told by
+abbrev pub number_of : DebugFault → ℕ
+number_of NoMemory = 2
+number_of ReadFailed = 6
+number_of WriteFailed = 7

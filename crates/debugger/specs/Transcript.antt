@@ -2,7 +2,8 @@
 use Rattle.std.specs.Prelude.{ℕ, Bool, true, false, List, [], ◌∷◌, ◌++◌, Option, take, if◌then◌else◌}
 use Rattle.agc_text.specs.Lines.{lines}
 use Rattle.cpu.specs.State.{Scenario}
-use Rattle.commands.specs.Commands.{SymbolTable, request_of}
+use Rattle.symbols.specs.Values.{SymbolTable}
+use Rattle.commands.specs.Commands.{request_of}
 use Rattle.commands.specs.declared.command.Command.TheVariants.{Quit}
 use Rattle.commands.specs.declared.command.Request.{Request}
 use Rattle.commands.specs.declared.command.Request.TheVariants.{Known}

@@ -19,13 +19,10 @@ impl Desk {
     pub(crate) fn new(alloc: Global) -> Result<Desk, AllocError>
         ensures { IfOk result (λ d. (d.position ≡ 0) × (d.breakpoints ≡ []) × (d.tail ≡ [])) }
     {
-        match Tail::new(alloc) {
-            Ok(tail) => Ok(Desk {
-                position: 0,
-                breakpoints: Breakpoints::new(),
-                tail,
-            }),
-            Err(refused) => Err(refused),
-        }
+        Ok(Desk {
+            position: 0,
+            breakpoints: Breakpoints::new(),
+            tail: Tail::new(alloc)?,
+        })
     }
 }

@@ -1,21 +1,25 @@
 //! New steps.
 
-ghost use Rattle.std.specs.Prelude.{◌≡◌, ◌+◌, ◌≤◌, ◌∷◌, ◌++◌, [], true, MatchOption};
+ghost use Rattle.std.specs.Prelude.{◌≡◌, ◌+◌, ◌*◌, ◌≤◌, ◌∷◌, ◌++◌, [], true, MatchOption, OnOk};
 ghost use Rattle.cpu.specs.Run.{outs};
 ghost use Rattle.words.specs.Devices.{Writes, failures_after};
 ghost use Rattle.debugger.specs.History.{history};
 ghost use Rattle.debugger.specs.Growth.{output_line};
 ghost use Rattle.debugger.specs.Replies.{last_of, tail_length};
 ghost use Rattle.debugger.specs.Executions.{Grows};
+ghost use Rattle.debugger.specs.HandingOn.{steps_left_after};
+ghost use Rattle.debugger.specs.Telling.{EndsAs};
 
 use crate::breakpoints::lowest_hit;
-use crate::channel_line::write_channel_line;
 use crate::ending::Ending;
 use crate::tail::Tail;
 use commands::Breakpoint;
-use cpu::Output;
-use replay::{Keeper, Refusal, Session};
+use cpu::{Machine, Output, write_channel_line};
+use replay::{Keeper, Refusal, Session, Stop, Watcher};
 use words::{Write, WriteFailed};
+
+/// The most steps that are made before the lines written so far are handed on.
+const STEPS_BETWEEN_FLUSHES: u32 = 1 << 20;
 
 /// Makes up to `more` steps, writes the line of each output, and stops after the first step at which a breakpoint holds.
 pub(crate) fn grow<K: Keeper, W: Write>(
@@ -30,32 +34,83 @@ pub(crate) fn grow<K: Keeper, W: Write>(
     ensures scenario { session.new.scenario ≡ session.old.scenario }
     ensures forward { session.old.n ≤ session.new.n }
     ensures most { session.new.n ≤ session.old.n + more }
-    ensures spends { session.new.meter + session.old.n ≤ session.old.meter + session.new.n }
+    ensures spends { session.new.meter + 2 * session.old.n ≤ session.old.meter + 2 * session.new.n }
     ensures growth { W.told ≡ true → Grows K.may_refuse (history session.old.scenario) breakpoints.now more session.old.n session.new.n (W.written out.old) (W.written out.new) result }
     ensures failures { W.failures out.new ≡ failures_after (W.failures out.old) result }
 {
-    let mut left = more;
-    while left > 0 {
-        match session.forward() {
-            Err(Refusal::StepLimit) => return Ok(Ending::Limit),
-            Err(Refusal::NoMemory) => return Ok(Ending::NoMemory),
-            Err(Refusal::NotYet) => unreachable!(),
-            Err(Refusal::TooEarly) => unreachable!(),
-            Err(Refusal::TooMany) => unreachable!(),
-            Ok(output) => match tell(tail, output, out) {
-                Err(failed) => return Err(failed),
-                Ok(()) => {}
-            },
+    let mut teller = Teller {
+        tail,
+        breakpoints,
+        out,
+        until_flush: STEPS_BETWEEN_FLUSHES,
+        hit: None,
+    };
+    match session.advance(more, &mut teller) {
+        Ok(stop) => ending_of(stop, teller.hit),
+        Err(Refusal::StepLimit) => Ok(Ending::Limit),
+        Err(Refusal::NoMemory) => Ok(Ending::NoMemory),
+        Err(_) => unreachable!(),
+    }
+}
+
+/// How steps end that the teller was told.
+fn ending_of(stop: Stop, hit: Option<u64>) -> Result<Ending, WriteFailed>
+    ensures { EndsAs stop hit result }
+{
+    match stop {
+        Stop::All => Ok(Ending::Reached),
+        Stop::Watcher => match hit {
+            Some(number) => Ok(Ending::Hit(number)),
+            None => Err(WriteFailed),
+        },
+        Stop::StepLimit => Ok(Ending::Limit),
+        Stop::NoMemory => Ok(Ending::NoMemory),
+    }
+}
+
+/// What writes the line of each output, hands the lines on as long steps go, and ends steps after the first at which a
+/// breakpoint holds or the writer has failed.
+#[derive(Drop)]
+struct Teller<'a, W: Write> {
+    tail: &'a mut Tail,
+    breakpoints: &'a [Breakpoint],
+    out: &'a mut W,
+
+    /// The steps that are left before the lines are handed on.
+    until_flush: u32,
+
+    /// Once the steps are ended: the number of the breakpoint, or none after a failure of the writer.
+    hit: Option<u64>,
+}
+
+impl<'a, W: Write> Watcher for Teller<'a, W> {
+    ghost use Rattle.debugger.specs.HandingOn.{HandsOn};
+    ghost use Rattle.debugger.specs.Telling.{Tells, Telling};
+
+    ghost sees = { λ old output machine ended new. (new.tail.ghost_name ≡ old.tail.ghost_name) × (new.out.ghost_name ≡ old.out.ghost_name) × (new.breakpoints ≡ old.breakpoints)
+        × Tells W.told old.breakpoints.now output machine ended new.hit (record { tail = old.tail.now; text = W.written old.out.now; failures = W.failures old.out.now }) (record { tail = new.tail.now; text = W.written new.out.now; failures = W.failures new.out.now })
+        × HandsOn W.told ended old.until_flush new.until_flush (W.handed_on new.out.now) (W.written new.out.now) };
+
+    #[inline(always)]
+    fn watch(&mut self, output: Option<Output>, machine: &Machine) -> bool {
+        if tell(self.tail, output, self.out).is_err()
+            || hand_on_in_time(&mut self.until_flush, self.out).is_err()
+        {
+            self.hit = None;
+            return true;
         }
-        match lowest_hit(breakpoints, session.present()) {
-            Some(number) => return Ok(Ending::Hit(number)),
-            None => left -= 1,
+        match lowest_hit(self.breakpoints, machine) {
+            Some(number) => {
+                self.hit = Some(number);
+                true
+            }
+            None => false,
         }
     }
-    Ok(Ending::Reached)
 }
 
 /// Keeps an output among the last ones, and writes its line.
+#[inline(always)]
 fn tell<W: Write>(tail: &mut Tail, output: Option<Output>, out: &mut W) -> Result<(), WriteFailed>
     ensures tail { MatchOption output (tail.new ≡ tail.old) (λ o. tail.new ≡ last_of tail_length (tail.old ++ o ∷ [])) }
     ensures written { W.told ≡ true → Writes (W.written out.old) (W.written out.new) (output_line output) result }
@@ -67,5 +122,34 @@ fn tell<W: Write>(tail: &mut Tail, output: Option<Output>, out: &mut W) -> Resul
             tail.push(output);
             write_channel_line(&output, out)
         }
+    }
+}
+
+/// Counts a step, and hands the lines on once so many were made.
+#[inline(always)]
+fn hand_on_in_time<W: Write>(until_flush: &mut u32, out: &mut W) -> Result<(), WriteFailed>
+    ensures counts { until_flush.new ≡ steps_left_after until_flush.old }
+    ensures written { W.told ≡ true → W.written out.new ≡ W.written out.old }
+    ensures handed_on { W.told ≡ true → until_flush.old ≤ 1 → OnOk result (W.handed_on out.new ≡ W.written out.new) }
+    ensures failures { W.failures out.new ≡ failures_after (W.failures out.old) result }
+{
+    if *until_flush > 1 {
+        *until_flush -= 1;
+        return Ok(());
+    }
+    *until_flush = STEPS_BETWEEN_FLUSHES;
+    hand_on(out)
+}
+
+/// Hands on the lines that a writer holds back. It stands apart, so that a step without it has none of its locals.
+#[inline(never)]
+fn hand_on<W: Write>(out: &mut W) -> Result<(), WriteFailed>
+    ensures written { W.told ≡ true → W.written out.new ≡ W.written out.old }
+    ensures handed_on { W.told ≡ true → OnOk result (W.handed_on out.new ≡ W.written out.new) }
+    ensures failures { W.failures out.new ≡ failures_after (W.failures out.old) result }
+{
+    match out.flush() {
+        Ok(()) => Ok(()),
+        Err(_) => Err(WriteFailed),
     }
 }

@@ -6,19 +6,19 @@
 
 mod adding;
 mod breakpoints;
-mod channel_line;
 mod desk;
 mod ending;
 mod executing;
+mod extended;
 mod fault;
 mod growing;
+mod manner;
 mod session;
 mod short;
 mod steps;
 mod tail;
 mod texts;
 
-pub use channel_line::write_channel_line;
 pub use ending::Ending;
 pub use fault::DebugFault;
-pub use session::debug_session;
+pub use session::{debug_session, extended_session};

@@ -1,18 +1,25 @@
 //! A session of commands.
 
-ghost use Rattle.std.specs.Prelude.{◌≡◌, ◌+◌, ◌*◌, ◌≤◌, true, length, OnOk, if◌then◌else◌};
+ghost use Rattle.std.specs.Prelude.{List, ℕ, ◌≡◌, ◌+◌, ◌*◌, ◌≤◌, true, length, OnOk, if◌then◌else◌};
 ghost use Rattle.words.specs.Devices.{one_more};
 ghost use Rattle.words.specs.Readings.{TakesAtMost};
-ghost use Rattle.debugger.specs.Transcript.{ends, command_lines, lines_read, most_command_bytes};
+ghost use Rattle.debugger.specs.Transcript.{command_lines, lines_read, most_command_bytes};
+ghost use Rattle.commands.specs.Lines.{kept};
+ghost use Rattle.commands.specs.Extended.{extended_request_of};
+ghost use Rattle.debugger.specs.Conversation.{Talks, reading, is_end, lines_heard};
 ghost use Rattle.debugger.specs.Sessions.{Debugs, has_read_failed, has_write_failed};
 
 use crate::desk::Desk;
 use crate::fault::DebugFault;
-use commands::{Command, CommandLine, DeviceFault, LineReader, Request, request_of};
+use crate::manner::Manner;
+use commands::{
+    Command, CommandLine, DeviceFault, ExtendedRequest, LineReader, Request, extended_request_of,
+    request_of,
+};
 use replay::{Keeper, Session};
 use std::alloc::Global;
+use symbols::Symbols;
 use words::{Read, Write};
-use yayul::Symbols;
 
 /// Reads commands up to `quit`, or to the end of their first 16,777,216 bytes, and writes the reply to each.
 ///
@@ -45,6 +52,53 @@ pub fn debug_session<K: Keeper, R: Read, W: Write>(
     // No more is read than counts.
     ensures read { R.told ≡ true → TakesAtMost most_command_bytes (R.left commands.old) (R.left commands.new) }
 {
+    converse(Manner::Plain, alloc, session, symbols, commands, out)
+}
+
+/// `debug_session` with more commands, and with refusals in words.
+pub fn extended_session<K: Keeper, R: Read, W: Write>(
+    alloc: Global,
+    session: &mut Session<K>,
+    symbols: &Symbols,
+    commands: &mut R,
+    out: &mut W,
+) -> Result<(), DebugFault>
+    requires { session.old.n ≡ 0 }
+    ensures answer { R.told ≡ true → W.told ≡ true →
+        Talks (record { may_refuse = K.may_refuse; read = extended_request_of symbols.now; scenario = session.old.scenario }) (record { before = R.left commands.old; left = R.left commands.new }) (W.written out.old) (W.written out.new) result }
+
+    // For each line that is read at most three times as many steps are executed as there are, besides those that are made.
+    ensures cost { R.told ≡ true → OnOk result
+        (session.new.meter ≤ session.old.meter + (3 * length (lines_heard (extended_request_of symbols.now) (command_lines (R.left commands.old))) + 1) * session.new.n) }
+
+    // E6 only where the reader has failed, E7 only where the writer has.
+    ensures reader { R.failures commands.new ≡ (if has_read_failed result then one_more (R.failures commands.old) else R.failures commands.old) }
+    ensures writer { W.failures out.new ≡ (if has_write_failed result then one_more (W.failures out.old) else W.failures out.old) }
+
+    // No more is read than counts.
+    ensures read { R.told ≡ true → TakesAtMost most_command_bytes (R.left commands.old) (R.left commands.new) }
+{
+    converse(Manner::Extended, alloc, session, symbols, commands, out)
+}
+
+/// A session of either manner.
+fn converse<K: Keeper, R: Read, W: Write>(
+    manner: Manner,
+    alloc: Global,
+    session: &mut Session<K>,
+    symbols: &Symbols,
+    commands: &mut R,
+    out: &mut W,
+) -> Result<(), DebugFault>
+    requires { session.old.n ≡ 0 }
+    ensures answer { R.told ≡ true → W.told ≡ true →
+        Talks (record { may_refuse = K.may_refuse; read = reading manner symbols.now; scenario = session.old.scenario }) (record { before = R.left commands.old; left = R.left commands.new }) (W.written out.old) (W.written out.new) result }
+    ensures cost { R.told ≡ true → OnOk result
+        (session.new.meter ≤ session.old.meter + (3 * length (lines_heard (reading manner symbols.now) (command_lines (R.left commands.old))) + 1) * session.new.n) }
+    ensures reader { R.failures commands.new ≡ (if has_read_failed result then one_more (R.failures commands.old) else R.failures commands.old) }
+    ensures writer { W.failures out.new ≡ (if has_write_failed result then one_more (W.failures out.old) else W.failures out.old) }
+    ensures read { R.told ≡ true → TakesAtMost most_command_bytes (R.left commands.old) (R.left commands.new) }
+{
     let mut desk = match Desk::new(alloc) {
         Ok(desk) => desk,
         Err(_) => return Err(DebugFault::NoMemory),
@@ -60,20 +114,34 @@ pub fn debug_session<K: Keeper, R: Read, W: Write>(
         if !some {
             return Ok(());
         }
-        let request = request_of(symbols, &line);
-        if ends(&request) {
+        let request = asked(manner, symbols, &line);
+        if is_end(&request) {
             return Ok(());
         }
-        match desk.answer(session, request, out) {
+        match desk.answer_asked(session, &request, out) {
             Ok(()) => {}
             Err(_) => return Err(DebugFault::WriteFailed),
         }
     }
 }
 
-/// Whether the end is asked for.
-fn ends(request: &Request) -> bool
-    ensures { result ≡ ends request.now }
+/// What a line asks for.
+#[tactic(auto, unfolding(crate::specs::Conversation::reading))]
+fn asked(manner: Manner, symbols: &Symbols, line: &CommandLine) -> ExtendedRequest
+    ensures { (bytes : List ℕ) → line.now ≡ kept bytes → result ≡ reading manner symbols.now bytes }
 {
-    matches!(request, Request::Known(Command::Quit))
+    match manner {
+        Manner::Plain => ExtendedRequest::Plain(request_of(symbols, line)),
+        Manner::Extended => extended_request_of(symbols, line),
+    }
+}
+
+/// Whether the end is asked for.
+fn is_end(request: &ExtendedRequest) -> bool
+    ensures { result ≡ is_end request.now }
+{
+    matches!(
+        request,
+        ExtendedRequest::Plain(Request::Known(Command::Quit))
+    )
 }

@@ -3,10 +3,9 @@
 ghost use Rattle.std.specs.Prelude.{◌≡◌, [], ◌∷◌, ◌++◌, IfOk, true};
 ghost use Rattle.debugger.specs.Replies.{last_of, tail_length, outputs_text};
 
-use crate::channel_line::channel_line;
 use arrayvec::ArrayVec;
 use circular_buffer::HeapCircularBuffer;
-use cpu::Output;
+use cpu::{Output, channel_line};
 use std::alloc::{AllocError, Global};
 use std::marker::Model;
 use words::{push_all, push_decimal};
@@ -43,10 +42,8 @@ impl Tail {
     pub(crate) fn new(alloc: Global) -> Result<Tail, AllocError>
         ensures { IfOk result (λ tail. tail ≡ []) }
     {
-        match HeapCircularBuffer::with_capacity(alloc, TAIL_LENGTH) {
-            Ok(ring) => Ok(Tail { ring }),
-            Err(refused) => Err(refused),
-        }
+        let ring = HeapCircularBuffer::with_capacity(alloc, TAIL_LENGTH)?;
+        Ok(Tail { ring })
     }
 
     /// One output more.

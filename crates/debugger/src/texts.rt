@@ -12,8 +12,8 @@ use crate::ending::Ending;
 use arrayvec::ArrayVec;
 use cpu::{Machine, Processor, disassemble};
 use space::numbers::Eras;
+use symbols::{Value, value_text};
 use words::{Word, push_all, push_decimal, push_octal};
-use yayul::{Value, value_text};
 
 /// The most bytes of a short reply.
 const TEXT: usize = 128;
@@ -78,9 +78,9 @@ fn push_at_line(text: &mut Text, position: u64, machine: &Machine)
 pub(crate) fn at_line(position: u64, machine: &Machine) -> Text
     ensures { result.items ≡ at_line position machine.now.cycles (correct (get machine.now.cells program_counter)) }
 {
-    let mut text = ArrayVec::new();
-    push_at_line(&mut text, position, machine);
-    text
+    let mut at = ArrayVec::new();
+    push_at_line(&mut at, position, machine);
+    at
 }
 
 /// The line of the breakpoint that holds, and the line of a position.

@@ -1,12 +1,10 @@
 //! Lines of commands, taken off readers.
 
-use commands::{Command, CommandLine, DeviceFault, LineReader, MOST_BYTES, Request, request_of};
+use commands::{CommandLine, DeviceFault, LineReader, MOST_BYTES};
 use std::io;
 use std::process::Abort;
-use std::test::Fail;
 use words::faulty::FaultyReader;
-use words::{Buffer, Read, Write};
-use yayul::assemble;
+use words::{Read, Write};
 
 /// A writer that takes all bytes, counts how often it is to hand them on, and may fail to.
 #[derive(Drop)]
@@ -32,6 +30,8 @@ impl Write for HoldsBack {
     ghost told = { false };
 
     ghost written = { λ _. [] };
+
+    ghost handed_on = { λ _. [] };
 
     ghost failures = { λ w. w.failures };
 
@@ -85,38 +85,6 @@ fn assert_line<R: Read, W: Write>(
     let mut line = CommandLine::empty();
     assert_eq!(rt; lines.next_line(reader, out, &mut line), Ok(true));
     assert_eq!(rt; line.text(), text);
-}
-
-#[test]
-fn lines_end_with_line_feeds(rt: HostRuntime) {
-    let mut text = b"step 1\n\n \nquit".as_slice();
-    let mut out = Buffer::new(rt.alloc());
-    let mut lines = LineReader::new();
-    for line in [b"step 1".as_slice(), b"", b" ", b"quit"] {
-        assert_line(&rt, &mut lines, &mut text, &mut out, Some(line));
-    }
-    let mut line = CommandLine::empty();
-    for _ in 0..2 {
-        assert_eq!(rt; lines.next_line(&mut text, &mut out, &mut line), Ok(false));
-    }
-    assert_eq!(rt; out.as_slice(), b"".as_slice());
-}
-
-#[test]
-fn long_lines_are_told(rt: HostRuntime) -> Result<(), std::alloc::AllocError> {
-    let mut text = vec![in rt.alloc(); b' '; 163]?;
-    assert!(rt; text.len() == 163);
-    text[80] = b'\n';
-    text[162] = b'\n';
-    let mut rest = text.as_slice();
-    let mut out = Buffer::new(rt.alloc());
-    let mut lines = LineReader::new();
-    let blank = [b' '; 80];
-    assert_line(&rt, &mut lines, &mut rest, &mut out, Some(blank.as_slice()));
-    assert_line(&rt, &mut lines, &mut rest, &mut out, None);
-    let mut line = CommandLine::empty();
-    assert_eq!(rt; lines.next_line(&mut rest, &mut out, &mut line), Ok(false));
-    Ok(())
 }
 
 /// The lines that were taken off up to the end or to a failed read, and whether a read failed.
@@ -194,15 +162,4 @@ fn failed_flush_reads_nothing(rt: HostRuntime) {
     let refused = LineReader::new().next_line(&mut text, &mut out, &mut line);
     assert_eq!(rt; refused, Err(DeviceFault::WriteFailed));
     assert_eq!(rt; text, b"step 1\n".as_slice());
-}
-
-#[test]
-fn lines_ask_for_commands(rt: HostRuntime) -> Result<(), Fail> {
-    let (_, symbols) = assemble(rt.alloc(), b"")?.split();
-    let asked = request_of(&symbols, &CommandLine::of(b" run 20 # on"));
-    assert!(rt; matches!(asked, Request::Known(Command::Run(20))));
-    let long = [b'#'; 81];
-    let asked = request_of(&symbols, &CommandLine::of(long.as_slice()));
-    assert!(rt; matches!(asked, Request::TooLong));
-    Ok(())
 }

@@ -2,15 +2,10 @@
 #![tactic(auto)]
 
 #[cfg(test)]
-mod assembly_tests;
-#[cfg(test)]
 mod command_tests;
-#[cfg(test)]
-mod debug_tests;
+pub mod counting;
 #[cfg(test)]
 mod device_tests;
-#[cfg(test)]
-mod image_tests;
 #[cfg(test)]
 mod memory_tests;
 #[cfg(test)]

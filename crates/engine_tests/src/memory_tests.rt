@@ -5,7 +5,7 @@ use cpu::{Input, Machine, Output, Processor};
 use debugger::debug_session;
 use feed::input::{Counter, Sequence};
 use feed::read;
-use replay::{Call, Keeper, Observer, Refusal, Session, SlotKeeper, VecKeeper};
+use replay::{Call, Keeper, Observer, Refusal, Session, SlotKeeper, Stop, VecKeeper, Watcher};
 use std::alloc::Global;
 use std::process::Abort;
 use std::test::Fail;
@@ -24,10 +24,20 @@ struct Refusals {
     count: u64,
 }
 
+impl Watcher for Refusals {
+    ghost sees = { λ old output machine ended new. Unit {0} };
+
+    fn watch(&mut self, _output: Option<Output>, _machine: &Machine) -> bool {
+        false
+    }
+}
+
 impl Observer for Refusals {
     ghost sees = { λ old told new. Unit {0} };
 
     fn went(&mut self, _output: Option<Output>) {}
+
+    fn advanced(&mut self, _k: u64, _stop: Stop) {}
 
     fn shown(&mut self, _t: u64, _machine: &Machine) {}
 

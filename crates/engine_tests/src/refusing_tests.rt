@@ -1,58 +1,14 @@
 //! Commands over a keeper that refuses each image once.
 
 use crate::sources::FIVE_PLUS_FIVE;
-use cpu::{Machine, Processor};
+use cpu::Processor;
 use debugger::debug_session;
 use feed::Feed;
-use replay::{Keeper, Refusal, Session, VecKeeper};
-use std::alloc::Global;
+use replay::{Session, VecKeeper};
 use std::test::Fail;
+use test_keepers::RefusingKeeper;
 use words::Buffer;
 use yayul::assemble;
-
-/// A keeper that refuses an image, hands the next one to another keeper, and so on.
-#[derive(Drop)]
-struct RefusingKeeper<K: Keeper> {
-    inner: K,
-    refused: bool,
-}
-
-impl<K: Keeper> Keeper for RefusingKeeper<K> {
-    ghost use Rattle.std.specs.Prelude.{true};
-
-    ghost images = { λ k. K.images k.inner };
-
-    ghost may_refuse = { true };
-
-    fn new(alloc: Global) -> Result<Self, Refusal> {
-        Ok(RefusingKeeper {
-            inner: K::new(alloc)?,
-            refused: false,
-        })
-    }
-
-    fn before(&self, t: u64) -> Option<(u64, &Machine)> {
-        self.inner.before(t)
-    }
-
-    fn keep(&mut self, step: u64, machine: &Machine) -> Result<(), Refusal> {
-        self.refused = !self.refused;
-        if self.refused {
-            return Err(Refusal::NoMemory);
-        }
-        self.inner.keep(step, machine)
-    }
-
-    fn remove(&mut self, step: u64) {
-        self.inner.remove(step);
-    }
-
-    fn count(&self) -> usize {
-        self.inner.count()
-    }
-
-    ghost rising = { λ k. K.rising k.inner };
-}
 
 #[test]
 fn refused_steps_are_told_and_made_again(rt: HostRuntime) -> Result<(), Fail> {

@@ -1,47 +1,37 @@
 //! What is wrong with a feed.
 
-ghost use Rattle.std.specs.Prelude.{◌≡◌};
-ghost use Rattle.feed.specs.Faults.{number_of, line_of};
+ghost use Rattle.std.specs.Prelude.{◌≡◌, ◌++◌, Some, codes, decimal};
+ghost use Rattle.feed.specs.Faults.{number_of, line_of, number_of_line, fault_text};
 
-use thiserror::Error;
+use std::fmt;
 
 /// Why no feed was read. Lines are counted from 1.
-#[derive(Clone, Copy, PartialEq, Eq, Debug, Drop, Error)]
+#[derive(Clone, Copy, PartialEq, Eq, Debug, Drop)]
 pub enum FeedFault {
     /// A growth of memory was refused.
-    #[error("E2")]
     NoMemory,
     /// A read failed.
-    #[error("E6")]
     ReadFailed,
     /// A line has no form of a line, is too long, or holds a byte that no line may hold.
-    #[error("E30 LINE {0}")]
     BadLine(u32),
     /// The cycle of an input is below that of the input before it.
-    #[error("E31 LINE {0}")]
     OutOfOrder(u32),
     /// More inputs than a feed may have.
-    #[error("E32")]
     TooMany,
     /// A counter does not take its sequence.
-    #[error("E33 LINE {0}")]
     WrongCounter(u32),
     /// More than 8,388,608 bytes.
-    #[error("E34")]
     TooLong,
     /// More series than a feed may have.
-    #[error("E35 LINE {0}")]
     TooManySeries(u32),
 }
 
 /// What is wrong with a line, whatever stands before it.
-#[derive(Clone, Copy, PartialEq, Eq, Debug, Drop, Error)]
+#[derive(Clone, Copy, PartialEq, Eq, Debug, Drop)]
 pub enum LineFault {
     /// The line has no form of a line, is too long, or holds a byte that no line may hold.
-    #[error("E30")]
     BadLine,
     /// A counter does not take its sequence.
-    #[error("E33")]
     WrongCounter,
 }
 
@@ -76,3 +66,39 @@ impl FeedFault {
         }
     }
 }
+
+impl fmt::Display for FeedFault {
+    ghost output = { λ fault. Some (fault_text fault) };
+
+    fn fmt<W: fmt::Write>(&self, f: &mut fmt::Formatter<W>) -> fmt::Result {
+        write!(f, "E{}", self.number())?;
+        if let Some(line) = self.line() {
+            write!(f, " LINE {line}")?;
+        }
+        Ok(())
+    }
+}
+
+impl std::error::Error for FeedFault {}
+
+impl LineFault {
+    /// The number that the fault is told by.
+    pub fn number(self) -> u8
+        ensures { result ≡ number_of_line self }
+    {
+        match self {
+            LineFault::BadLine => 30,
+            LineFault::WrongCounter => 33,
+        }
+    }
+}
+
+impl fmt::Display for LineFault {
+    ghost output = { λ fault. Some (codes "E" ++ decimal (number_of_line fault)) };
+
+    fn fmt<W: fmt::Write>(&self, f: &mut fmt::Formatter<W>) -> fmt::Result {
+        write!(f, "E{}", self.number())
+    }
+}
+
+impl std::error::Error for LineFault {}

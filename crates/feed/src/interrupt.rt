@@ -1,6 +1,7 @@
 //! Interrupts that are asked for.
 
 ghost use Rattle.std.specs.Prelude.{◌≡◌, ◌+◌, ◌-◌, ◌≤◌, ◌<◌};
+ghost use Rattle.std.specs.Option.{SomeIff};
 
 use std::marker::Model;
 
@@ -26,6 +27,17 @@ impl Model for Interrupt {
 }
 
 impl Interrupt {
+    /// The interrupt of this number, where there is one.
+    pub fn try_new(number: u8) -> Option<Interrupt>
+        ensures { SomeIff result ((1 ≤ number) × (number ≤ 10)) number }
+    {
+        if (1..=INTERRUPTS).contains(&number) {
+            Some(Interrupt { number })
+        } else {
+            None
+        }
+    }
+
     /// The interrupt of this number.
     pub fn new(number: u8) -> Interrupt
         requires low { 1 ≤ number }

@@ -10,7 +10,7 @@ ghost use Rattle.feed.specs.Order.{IsInOrder};
 
 use crate::entry::{Entry, Plain};
 use crate::input::Input;
-use crate::merge::{MOST_SERIES, next_of};
+use crate::merge::{MOST_SERIES, next_at, next_of};
 use crate::source::Source;
 use arrayvec::ArrayVec;
 use std::alloc::Global;
@@ -103,6 +103,21 @@ impl Feed {
         when_come(cycles, self.next(taken, counts))
     }
 
+    /// The same, while nothing is kept: `due` is the faster where a run goes on.
+    pub fn peek(
+        &self,
+        taken: usize,
+        counts: &[u32; MOST_SERIES],
+        cycles: u64,
+    ) -> Option<(Input, Option<usize>)>
+        ensures { Fits self.now taken counts.now → result ≡ due self.now taken cycles }
+    {
+        if self.is_none_due(taken, cycles) {
+            return None;
+        }
+        when_come(cycles, self.entry(taken, counts))
+    }
+
     /// Adds a plain input at a cycle, on a line after all others; `TooMany` where the most plain inputs stand.
     pub fn add(&mut self, cycle: u64, input: Input) -> Result<(), AddFault>
         ensures added { OnOk result (AddsLast self.old cycle input self.new) }
@@ -140,6 +155,17 @@ impl Feed {
             Some(entry) if taken == self.known => Some(entry),
             Some(_) => self.look(taken, counts),
             None => self.look(taken, counts),
+        }
+    }
+
+    // The same, while nothing is kept.
+    fn entry(&self, taken: usize, counts: &[u32; MOST_SERIES]) -> Option<Entry>
+        ensures { Fits self.now taken counts.now → slice_get self.now taken ≡ result }
+    {
+        match self.kept {
+            Some(entry) if taken == self.known => Some(entry),
+            Some(_) => next_at(&self.plain, &self.sources, taken, counts),
+            None => next_at(&self.plain, &self.sources, taken, counts),
         }
     }
 

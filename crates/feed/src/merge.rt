@@ -136,3 +136,22 @@ pub(crate) fn next_of(
     let known = looked.stand && passes(&looked.last, &looked.next);
     (looked.next, known)
 }
+
+// The next entry for a machine whose counts fit, by a look at each source that keeps nothing.
+pub(crate) fn next_at(
+    plain: &[Plain],
+    sources: &[Source],
+    taken: usize,
+    counts: &[u32; MOST_SERIES],
+) -> Option<Entry>
+    requires few { length sources.now ≤ 16 }
+    requires sources { AreSources plain.now sources.now }
+    ensures { Fits (merged plain.now sources.now) taken counts.now → slice_get (merged plain.now sources.now) taken ≡ result }
+{
+    let number = taken.saturating_sub(total(counts));
+    let mut next = plain_head(plain, number);
+    for index in 0..sources.len() {
+        next = earlier(next, sources[index].entry(index, counts[index]));
+    }
+    next
+}

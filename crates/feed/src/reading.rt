@@ -42,10 +42,8 @@ pub fn read<R: Read>(alloc: Global, reader: &mut R) -> Result<Feed, FeedFault>
         Err(ReadFault::ReadFailed) => return Err(FeedFault::ReadFailed),
         Err(ReadFault::TooLong) => return Err(FeedFault::TooLong),
     };
-    match inputs_in(alloc, &text) {
-        Ok(gathered) => Ok(Feed::new(gathered.plain, gathered.sources, gathered.line)),
-        Err(fault) => Err(fault),
-    }
+    let gathered = inputs_in(alloc, &text)?;
+    Ok(Feed::new(gathered.plain, gathered.sources, gathered.line))
 }
 
 // What the lines of a text give, up to the first fault.
@@ -60,10 +58,8 @@ fn inputs_in(alloc: Global, text: &[u8]) -> Result<Gathered, FeedFault>
     let mut gathered = Gathered::new(alloc);
     let mut rest = text;
     while let Some((first, following)) = next_line(rest) {
-        match gathered.take_line(first) {
-            Ok(()) => rest = following,
-            Err(fault) => return Err(fault),
-        }
+        gathered.take_line(first)?;
+        rest = following;
         gathered.line += 1;
     }
     Ok(gathered)

@@ -77,6 +77,13 @@ impl Source {
         };
         (last, next)
     }
+
+    // Entry `number`, where it stands, while nothing is kept.
+    pub(crate) fn entry(&self, index: usize, number: u32) -> Option<Entry>
+        ensures { result ≡ slice_get (entries_of index self.now) number }
+    {
+        series_entry(index, &self.rule, number, cycle_of(&self.rule, number))
+    }
 }
 
 // What stands in a place without a source.

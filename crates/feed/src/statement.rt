@@ -135,16 +135,13 @@ fn rule_in(text: &[u8]) -> Result<Rule, LineFault>
     else {
         return Err(LineFault::BadLine);
     };
-    match input_in(input) {
-        Ok(input) => Ok(Rule {
-            first,
-            num,
-            den,
-            count,
-            input,
-        }),
-        Err(fault) => Err(fault),
-    }
+    Ok(Rule {
+        first,
+        num,
+        den,
+        count,
+        input: input_in(input)?,
+    })
 }
 
 // A number that makes the cycles of a series.

@@ -247,16 +247,46 @@ fn bytes_read_ahead_are_the_same(rt: HostRuntime) -> Result<(), ReadFault> {
     Ok(())
 }
 
+/// A writer of the standard library that holds back what is written until it is flushed.
+#[derive(Drop)]
+struct Held<'a> {
+    held: Vec<u8>,
+    handed_on: &'a mut Vec<u8>,
+}
+
+impl<'a> io::Write for Held<'a> {
+    fn write(&mut self, buf: &[u8]) -> io::Result<usize> {
+        self.held.extend_from_slice(buf)?;
+        Ok(buf.len())
+    }
+
+    fn flush(&mut self) -> io::Result<()> {
+        self.handed_on.extend_from_slice(self.held.as_slice())?;
+        self.held.clear();
+        Ok(())
+    }
+}
+
 #[test]
 fn standard_devices(rt: HostRuntime) -> Result<(), ReadFault> {
     let mut reader = Std::new(b"hello".as_slice());
+    let mut part = [0; 2];
+    assert!(rt; matches!(reader.read(&mut part), Ok(2)));
+    assert_eq!(rt; part, *b"he");
     assert_eq!(rt;
         read_text(rt.alloc(), &mut reader, 5)?.as_slice(),
-        b"hello".as_slice()
+        b"llo".as_slice()
     );
-    let mut out = Std::new(Vec::<u8>::new(rt.alloc()));
+    let mut bytes = Vec::new(rt.alloc());
+    let mut out = Std::new(Held {
+        held: Vec::new(rt.alloc()),
+        handed_on: &mut bytes,
+    });
     assert_eq!(rt; write_all(&mut out, b"hello"), Ok(()));
     assert!(rt; out.flush().is_ok());
+    assert_eq!(rt; write_all(&mut out, b" and more"), Ok(()));
+    drop(out);
+    assert_eq!(rt; bytes.as_slice(), b"hello".as_slice());
     Ok(())
 }
 

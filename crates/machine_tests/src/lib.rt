@@ -1,13 +1,9 @@
-//! Tests of `feed` and `cpu`.
+//! Tests of `rope`, `feed` and `cpu`.
 #![tactic(auto)]
 
 #[cfg(test)]
 mod feed_tests;
 #[cfg(test)]
-mod input_tests;
+mod idle_tests;
 #[cfg(test)]
-mod instruction_tests;
-#[cfg(test)]
-mod programs;
-#[cfg(test)]
-mod series_tests;
+mod image_tests;

@@ -1,18 +1,24 @@
 -- Calls, one after the other.
-use Rattle.std.proofs.Common.{◌≡◌, ℕ, ◌+◌, ◌≤◌, Bool, Option, List, [], ◌∷◌, ◌++◌, map, append-nil, append_assoc, refl, sym, ◌∙◌, ap, arith}
+use Rattle.std.proofs.Common.{◌≡◌, ℕ, zero, suc, ◌+◌, ◌≤◌, Bool, Option, List, [], ◌∷◌, ◌++◌, map, append-nil, append_assoc, length, refl, sym, ◌∙◌, ap, arith}
 use Rattle.std.specs.Option.{option_to_list}
 use Rattle.cpu.specs.State.{State, Scenario}
 use Rattle.cpu.specs.FeedInput.{Input}
 use Rattle.cpu.specs.FeedEntry.{Entry}
 use Rattle.cpu.specs.Additions.{AreAlikeUpTo}
-use Rattle.cpu.specs.Run.{outs}
+use Rattle.std.specs.List.{flat_map}
+use Rattle.std.proofs.lemmas.Grind.{flat_map-append}
+use Rattle.cpu.specs.Run.{run, out, outs}
+use Rattle.replay.specs.Watched.{Watched, WatchedSteps, steps_after}
+use Rattle.replay.specs.Stops.{is_by_watcher, HasStopped}
+use Rattle.replay.proofs.WatchedLemmas.{length_steps_after, watched_steps}
 use Rattle.cpu.proofs.RunLaws.{outs-add-one}
 use Rattle.cpu.specs.declared.output.Output.{Output}
 use Rattle.replay.specs.declared.calls.Call.{Call}
-use Rattle.replay.specs.declared.calls.Call.TheVariants.{Forward, Show, WithPresent, SeekBack, Add}
-use Rattle.replay.specs.View.{SessionView, Stands, HasAdded}
-use Rattle.replay.specs.Calls.{Answer, Told, Answers, Saw, Leads, TimeTravel, HasGone, AddsAll, steps_of, outputs_of, added_by, steps_told, outputs_told, added_told}
-use Rattle.replay.specs.Calls.Answer.{Went, Shown, ShownBeside, Sought, Added, Refused}
+use Rattle.replay.specs.declared.calls.Call.TheVariants.{Forward, Advance, Show, WithPresent, SeekBack, Add}
+use Rattle.replay.specs.declared.stop.Stop.{Stop}
+use Rattle.replay.specs.View.{SessionView, Stands, HasAdvanced, HasAdded}
+use Rattle.replay.specs.Calls.{Answer, Told, Answers, Saw, Leads, TimeTravel, HasGone, HasGoneOn, AddsAll, steps_of, outputs_of, added_by, steps_told, outputs_told, added_told}
+use Rattle.replay.specs.Calls.Answer.{Went, Advanced, Shown, ShownBeside, Sought, Added, Refused}
 
 -- the same run
 alike_same : (scenario other : Scenario) (n : ℕ) → other ≡ scenario → AreAlikeUpTo scenario other n
@@ -60,6 +66,32 @@ keeps_went old output new h = record {
   outputs_are = rw (h.scenario, h.output, h.step) (outs-add-one old.scenario old.n);
 }
 
+-- what many steps put out
+abbrev put_out : List (Option Output × State) → List Output
+put_out steps = flat_map (λ s. option_to_list s.0) steps
+
+outs_over : (scenario : Scenario) (low m : ℕ) → outs scenario (low + m) ≡ outs scenario low ++ put_out (steps_after scenario low m)
+outs_over scenario low zero =
+    let e : low + 0 ≡ low = omega arith in
+    rw e (sym (append-nil (outs scenario low)))
+outs_over scenario low (suc m) =
+    let e : low + suc m ≡ low + m + 1 = omega arith in
+    let o = out scenario (low + m + 1) in
+    let before = steps_after scenario low m in
+    let last : Option Output × State = (o, run scenario (low + m + 1)) in
+    let one : put_out (last ∷ []) ≡ option_to_list o = append-nil (option_to_list o) in
+    ap (outs scenario) e ∙ outs-add-one scenario (low + m) ∙ ap (λ (xs : List Output). xs ++ option_to_list o) (outs_over scenario low m) ∙ append_assoc (outs scenario low) (put_out before) (option_to_list o)
+    ∙ ap (λ (xs : List Output). outs scenario low ++ xs) (ap (λ (ys : List Output). put_out before ++ ys) (sym one) ∙ sym (flat_map-append (λ (s : Option Output × State). option_to_list s.0) before (last ∷ [])))
+
+keeps_gone_on : (m : Bool) (old : SessionView) (k : ℕ) (steps : List (Option Output × State)) (stop : Stop) (new : SessionView) → HasGoneOn m old k steps stop new → Keeps old (length steps) (put_out steps) [] new
+keeps_gone_on m old k steps stop new h = record {
+  rope = ap (λ (q : Scenario). q.rope) h.advanced.scenario;
+  inputs = ap (λ (q : Scenario). q.inputs) h.advanced.scenario;
+  alike = alike_same old.scenario new.scenario old.n h.advanced.scenario;
+  steps_are = h.on;
+  outputs_are = ap (λ (q : Scenario). outs q new.n) h.advanced.scenario ∙ ap (outs old.scenario) h.on ∙ outs_over old.scenario old.n (length steps) ∙ ap (λ (ss : List (Option Output × State)). outs old.scenario old.n ++ put_out ss) (sym h.steps_are);
+}
+
 keeps_added : (old : SessionView) (cycle : ℕ) (input : Input) (new : SessionView) → HasAdded old cycle input new → Keeps old 0 [] ((cycle, input) ∷ []) new
 keeps_added old cycle input new h =
     let n_is = ap (λ (q : SessionView). q.n) h.same in
@@ -73,30 +105,42 @@ keeps_added old cycle input new h =
 
 keeps_answer : (m : Bool) (r : State → Bool → Type 0) (old : SessionView) (call : Call) (answer : Answer) (new : SessionView) → Answers m r old call answer new → Keeps old (steps_of answer) (outputs_of answer) (added_by call answer) new
 keeps_answer m r old Forward (Went output) new h = keeps_went old output new h
+keeps_answer m r old Forward (Advanced steps stop) new h = elim h [ ]
 keeps_answer m r old Forward (Shown state) new h = elim h [ ]
 keeps_answer m r old Forward (ShownBeside state present scenario) new h = elim h [ ]
 keeps_answer m r old Forward (Sought found) new h = elim h [ ]
 keeps_answer m r old Forward Added new h = elim h [ ]
 keeps_answer m r old Forward (Refused refusal) new h = keeps_refused old new h.1
+keeps_answer m r old (Advance k) (Went output) new h = elim h [ ]
+keeps_answer m r old (Advance k) (Advanced steps stop) new h = keeps_gone_on m old k steps stop new h
+keeps_answer m r old (Advance k) (Shown state) new h = elim h [ ]
+keeps_answer m r old (Advance k) (ShownBeside state present scenario) new h = elim h [ ]
+keeps_answer m r old (Advance k) (Sought found) new h = elim h [ ]
+keeps_answer m r old (Advance k) Added new h = elim h [ ]
+keeps_answer m r old (Advance k) (Refused refusal) new h = keeps_refused old new h.1
 keeps_answer m r old (Show t) (Went output) new h = elim h [ ]
+keeps_answer m r old (Show t) (Advanced steps stop) new h = elim h [ ]
 keeps_answer m r old (Show t) (Shown state) new h = keeps_same old new h.2.same
 keeps_answer m r old (Show t) (ShownBeside state present scenario) new h = elim h [ ]
 keeps_answer m r old (Show t) (Sought found) new h = elim h [ ]
 keeps_answer m r old (Show t) Added new h = elim h [ ]
 keeps_answer m r old (Show t) (Refused refusal) new h = keeps_refused old new h.1
 keeps_answer m r old (WithPresent t) (Went output) new h = elim h [ ]
+keeps_answer m r old (WithPresent t) (Advanced steps stop) new h = elim h [ ]
 keeps_answer m r old (WithPresent t) (Shown state) new h = elim h [ ]
 keeps_answer m r old (WithPresent t) (ShownBeside state present scenario) new h = keeps_same old new h.4.same
 keeps_answer m r old (WithPresent t) (Sought found) new h = elim h [ ]
 keeps_answer m r old (WithPresent t) Added new h = elim h [ ]
 keeps_answer m r old (WithPresent t) (Refused refusal) new h = keeps_refused old new h.1
 keeps_answer m r old (SeekBack p) (Went output) new h = elim h [ ]
+keeps_answer m r old (SeekBack p) (Advanced steps stop) new h = elim h [ ]
 keeps_answer m r old (SeekBack p) (Shown state) new h = elim h [ ]
 keeps_answer m r old (SeekBack p) (ShownBeside state present scenario) new h = elim h [ ]
 keeps_answer m r old (SeekBack p) (Sought found) new h = keeps_same old new h.1.same
 keeps_answer m r old (SeekBack p) Added new h = elim h [ ]
 keeps_answer m r old (SeekBack p) (Refused refusal) new h = keeps_refused old new h.1
 keeps_answer m r old (Add cycle input) (Went output) new h = elim h [ ]
+keeps_answer m r old (Add cycle input) (Advanced steps stop) new h = elim h [ ]
 keeps_answer m r old (Add cycle input) (Shown state) new h = elim h [ ]
 keeps_answer m r old (Add cycle input) (ShownBeside state present scenario) new h = elim h [ ]
 keeps_answer m r old (Add cycle input) (Sought found) new h = elim h [ ]
@@ -116,6 +160,17 @@ keeps_told : (m : Bool) (r : State → Bool → Type 0) (old : SessionView) (es 
 keeps_told m r old [] new h = keeps_refused old new h
 keeps_told m r old (e ∷ es) new h =
     keeps_then old h.0 new (steps_of e.1) (steps_told es) (outputs_of e.1) (outputs_told es) (added_by e.0 e.1) (added_told es) (keeps_answer m r old e.0 e.1 h.0 h.1) (keeps_told m r h.0 es new h.2)
+
+-- many steps that were watched
+pub gone_on : {O : Type 0} (watches : O → Option Output → State → Bool → O → Type 0) (m : Bool) (old : SessionView) (k : ℕ) (stop : Stop) (new : SessionView) (before after : O)
+    → Watched watches old.scenario old.n new.n (is_by_watcher stop) before after → HasStopped m old.n k new.n stop → HasAdvanced old new
+    → (steps : List (Option Output × State)) × WatchedSteps watches before steps (is_by_watcher stop) after × HasGoneOn m old k steps stop new
+gone_on watches m old k stop new before after (i, reached, watched) stopped advanced =
+    let count : length (steps_after old.scenario old.n i) ≡ i = length_steps_after old.scenario old.n i in (
+      steps_after old.scenario old.n i,
+      watched_steps watches old.scenario old.n i (is_by_watcher stop) before after watched,
+      record { on = omega (arith, reached, count); steps_are = ap (λ (j : ℕ). steps_after old.scenario old.n j) (sym count); stopped = stopped; advanced = advanced },
+    )
 
 -- one call more
 pub Leads-push : (m : Bool) (r : State → Bool → Type 0) (old : SessionView) (es : List Told) (mid : SessionView) (e : Told) (new : SessionView) → Leads m r old es mid → Answers m r mid e.0 e.1 new → Leads m r old (es ++ e ∷ []) new

@@ -58,16 +58,19 @@ unfolding reach
 few n [] rises past sparse = omega arith
 few n (a ∷ r) rises past sparse = omega (arith, reaches n a r rises past sparse)
 
--- so few machines are held
-pub Fits-staying : (n : ℕ) (kept : List ℕ) → Rises kept → AreStaying n n kept → Fits (length kept + 2) n
+-- so few machines are held, where all that is kept stays
+pub Fits-part : (n : ℕ) (kept : List ℕ) → Rises kept → ((c : ℕ) → Contains kept c → (c < n) × Stays n c) → Fits (length kept + 2) n
 unfolding Fits
-Fits-staying n kept rises staying =
+Fits-part n kept rises staying =
     let m = length kept in
-    let past : (c : ℕ) → Contains kept c → c < n = λ c h. ((staying c).0 h).0 in
-    let stays : (c : ℕ) → Contains kept c → Stays n c = λ c h. ((staying c).0 h).1 in
+    let past : (c : ℕ) → Contains kept c → c < n = λ c h. (staying c h).0 in
+    let stays : (c : ℕ) → Contains kept c → Stays n c = λ c h. (staying c h).1 in
     let sparse : Sparse n kept = λ a b c ha hb hc ab bc. stays_sparse n a b c (stays a ha) (stays b hb) (stays c hc) ab bc (past c hc) in
     let power : 2 ^ half m ≤ n + 1 = omega (arith, few n kept rises past sparse, power-reach m) in
     omega (arith, floorlog-greatest (n + 1) (half m) power, double-half m)
+
+pub Fits-staying : (n : ℕ) (kept : List ℕ) → Rises kept → AreStaying n n kept → Fits (length kept + 2) n
+Fits-staying n kept rises staying = Fits-part n kept rises (λ c h. (staying c).0 h)
 
 -- and there is room for one image more
 pub Fits-room : (n held : ℕ) → n ≤ step_limit → Fits held n → held ≤ 80

@@ -1,11 +1,11 @@
-use Rattle.std.proofs.Common.{◌≡◌, ℕ, zero, suc, ◌+◌, ◌^◌, ◌<◌, ◌≤◌, Bool, true, false, cond, Option, Some, None, IfSome, inl, inr, refl, sym, ap, arith}
+use Rattle.std.proofs.Common.{◌≡◌, ℕ, zero, suc, ◌+◌, ◌-◌, ◌^◌, ◌<◌, ◌≤◌, Bool, true, false, cond, Option, Some, None, IfSome, inl, inr, refl, sym, ap, arith}
 use Rattle.std.proofs.lemmas.Bool.{cases_lt, cases_eq}
 use Rattle.std.specs.Option.{IfNone}
 use Rattle.std.specs.List.{Contains}
 use Rattle.cpu.specs.State.{State, Scenario}
 use Rattle.replay.specs.Images.{steps}
 use Rattle.replay.specs.View.{SessionView, IsSound}
-use Rattle.replay.specs.LastHit.{last_hit, IsLastHit, HasSought}
+use Rattle.replay.specs.LastHit.{last_hit, first_hit, IsLastHit, HasSought, HasSearched}
 use Rattle.replay.proofs.StayingLemmas.{stays_covers}
 use Rattle.replay.proofs.SessionLemmas.{shown_sound}
 
@@ -71,3 +71,26 @@ has_sought old s p (Some t) scenario shown meter is sound early same metered lea
       found = omega (arith, c.3);
       none = tt;
     })
+
+-- a step is the first at which hit holds
+pub first_here : (hit : ℕ → Bool) (from count : ℕ) → 0 < count → hit from ≡ true → first_hit hit from count ≡ Some from
+first_here hit from zero some here = absurd (omega arith)
+first_here hit from (suc count) some here = rw here refl
+
+-- or it is sought among those after it
+pub first_later : (hit : ℕ → Bool) (from high : ℕ) → from < high → hit from ≡ false → first_hit hit from (high - from) ≡ first_hit hit (from + 1) (high - (from + 1))
+first_later hit from high below not_here =
+    let left : high - from ≡ suc (high - (from + 1)) = omega arith in
+    rw (left, not_here) refl
+
+pub first_none : (hit : ℕ → Bool) (from high : ℕ) → high ≤ from → first_hit hit from (high - from) ≡ None
+first_none hit from high past = let left : high - from ≡ 0 = omega arith in rw left refl
+
+-- what a search on leaves
+pub has_searched : (old s : SessionView) (scenario : Scenario) (shown : State) (meter : ℕ) → s ≡ old → scenario ≡ s.scenario → s.meter ≤ meter → meter ≤ s.meter + s.n
+    → HasSearched old (record { scenario = scenario; meter = meter; images = s.images; present = s.present; shown = shown; n = s.n })
+has_searched old s scenario shown meter is same least most = rw (← is) (record {
+  same = ap (λ (q : Scenario). let m : SessionView = record { scenario = q; meter = meter; images = s.images; present = s.present; shown = shown; n = s.n } in m) same;
+  least = least;
+  most = most;
+})

@@ -3,6 +3,7 @@ pub mod FewImages
 pub mod ThinningLemmas
 pub mod SessionLemmas
 pub mod LastHitLemmas
+pub mod WhyLemmas
 pub mod SlotLemmas
 pub mod AddLemmas
 pub mod CallLemmas
@@ -10,3 +11,8 @@ pub mod StepLemmas
 pub mod FloorlogLemmas
 pub mod StayingLemmas
 pub mod MarkLemmas
+pub mod WatchedLemmas
+pub mod SettlingLemmas
+pub mod AdvanceLemmas
+pub mod StridingLemmas
+pub mod OneList

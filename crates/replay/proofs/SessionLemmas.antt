@@ -14,12 +14,12 @@ use Rattle.replay.specs.Images.{Image, IsRising, steps}
 use Rattle.replay.specs.Memory.{Fits, step_limit}
 use Rattle.replay.specs.Spacing.{AreStaying}
 use Rattle.std.proofs.Math.Nat.{one-dvd}
-use Rattle.replay.specs.View.{SessionView, Stands, AreOfRun, IsSound, HasShown}
+use Rattle.replay.specs.View.{SessionView, Stands, AreOfRun, AreImages, IsSound, HasShown}
 use Rattle.replay.proofs.FewImages.{Rises, Fits-staying, Fits-start}
 use Rattle.replay.proofs.StepLemmas.{contains_none, contains_push_cases}
 use Rattle.replay.proofs.StayingLemmas.{stays_covers}
 
-Rises-steps : (images : List Image) → IsRising images → Rises (steps images)
+pub Rises-steps : (images : List Image) → IsRising images → Rises (steps images)
 Rises-steps [] h = tt
 Rises-steps (a ∷ []) h = tt
 Rises-steps (a ∷ b ∷ r) h = (h 0 1 a (omega arith) (omega arith), Rises-steps (b ∷ r) (λ i j d ij in_range. h (suc i) (suc j) d (omega arith) (omega arith)))
@@ -45,6 +45,10 @@ starts_sound scenario images meter e metered =
       metered = metered;
     })
 
+-- the images of a session
+pub images_of : (s : SessionView) → IsSound s → IsRising s.images → AreImages s.scenario s.n s.images
+images_of s sound rising = record { rising = rising; staying = sound.staying; of_run = sound.of_run }
+
 -- with the image of step n the kept steps are those below n + 1 that stayed at step n
 pub staying_after : (n : ℕ) (images kept : List Image) (s : State) → AreStaying n n (steps images) → kept ≡ images ++ (n, s) ∷ [] → AreStaying (n + 1) (n + 1 - 1) (steps kept)
 staying_after n images kept s staying e c =
@@ -60,7 +64,7 @@ staying_after n images kept s staying e c =
       ],
     )
 
-of_run_after : (scenario : Scenario) (n : ℕ) (images kept thinned : List Image) (s : State) → AreOfRun scenario images → s ≡ run scenario n → kept ≡ images ++ (n, s) ∷ [] → ((i : Image) → Contains thinned i → Contains kept i) → AreOfRun scenario thinned
+pub of_run_after : (scenario : Scenario) (n : ℕ) (images kept thinned : List Image) (s : State) → AreOfRun scenario images → s ≡ run scenario n → kept ≡ images ++ (n, s) ∷ [] → ((i : Image) → Contains thinned i → Contains kept i) → AreOfRun scenario thinned
 of_run_after scenario n images kept thinned s of_run is e part k d below =
     let all : AreOfRun scenario kept = rw e (All-push (λ (i : Image). i.1 ≡ run scenario i.0) images (n, s) of_run is) in
     let i = get_or thinned k d in

@@ -1,6 +1,6 @@
 -- At which steps images are kept.
 use Rattle.std.specs.Int.{◌∣◌}
-use Rattle.std.specs.Prelude.{◌↔◌, ℕ, suc, ◌+◌, ◌*◌, ◌^◌, ◌<◌, ◌≤◌, List, Contains}
+use Rattle.std.specs.Prelude.{◌≡◌, ◌↔◌, ℕ, suc, ◌+◌, ◌*◌, ◌^◌, ◌<◌, ◌≤◌, List, Contains}
 
 -- the image of step c stays at step n: n is less than three times a power of two after c of which c is a multiple
 abbrev pub Stays : ℕ → ℕ → Type 0
@@ -20,3 +20,8 @@ pub record IsPrevious (kept : List ℕ) (t older : ℕ) : Type 0 where
   pub kept_too : Contains kept older
   pub before : older < t
   pub greatest : (x : ℕ) → Contains kept x → x < t → x ≤ older
+
+-- gap is a power of two of which step c is a multiple or not, and which is great enough for the image of c to stay at step n
+pub record IsNeeded (n c gap : ℕ) : Type 0 where
+  pub power : (v : ℕ) × (gap ≡ 2 ^ v)
+  pub enough : n + 2 ≤ c + 3 * gap

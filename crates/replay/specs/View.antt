@@ -1,11 +1,11 @@
 -- What a session is, and what its calls leave.
-use Rattle.std.specs.Prelude.{◌≡◌, ℕ, ◌+◌, ◌-◌, ◌<◌, ◌≤◌, ◌^◌, List, length, All, min}
+use Rattle.std.specs.Prelude.{◌≡◌, ℕ, ◌+◌, ◌-◌, ◌*◌, ◌<◌, ◌≤◌, ◌^◌, List, length, All, min}
 use Rattle.cpu.specs.State.{State, Scenario}
 use Rattle.cpu.specs.Run.{run}
 use Rattle.cpu.specs.FeedInput.{Input}
 use Rattle.cpu.specs.FeedAdded.{AddsLast}
 use Rattle.cpu.specs.Additions.{AreAlikeUpTo}
-use Rattle.replay.specs.Images.{Image, steps}
+use Rattle.replay.specs.Images.{Image, IsRising, steps}
 use Rattle.replay.specs.Memory.{Fits, step_limit}
 use Rattle.replay.specs.Spacing.{AreStaying}
 
@@ -27,6 +27,10 @@ held s = length s.images + 2
 abbrev pub counted : ℕ → ℕ
 counted meter = min (meter + 1) (2 ^ 128 - 1)
 
+-- a meter after so many steps more
+abbrev pub counted_by : ℕ → ℕ → ℕ
+counted_by m meter = min (meter + m) (2 ^ 128 - 1)
+
 -- what holds of a session whenever a call has returned: the present machine is the reference run's after n steps, and few
 -- machines are held
 pub record Stands (s : SessionView) : Type 0 where
@@ -37,6 +41,12 @@ pub record Stands (s : SessionView) : Type 0 where
 -- each image is the state of the run at its step
 abbrev pub AreOfRun : Scenario → List Image → Type 0
 AreOfRun scenario images = All (λ i. i.1 ≡ run scenario i.0) images
+
+-- the images of a run at step n: in order, those that stay there, each the state of the run at its step
+pub record AreImages (scenario : Scenario) (n : ℕ) (images : List Image) : Type 0 where
+  pub rising : IsRising images
+  pub staying : AreStaying n n (steps images)
+  pub of_run : AreOfRun scenario images
 
 -- what every session keeps
 pub record IsSound (s : SessionView) : Type 0 where
@@ -53,6 +63,18 @@ pub record HasShown (old : SessionView) (t : ℕ) (new : SessionView) : Type 0 w
   pub unchanged : old.n ≤ t → new ≡ old
   pub least : old.meter ≤ new.meter
   pub cheap : t < old.n → new.meter + t < old.meter + old.n
+
+-- what a call that went from step old.n to step new.n leaves: each of its steps is executed, at most twice as many are, and at
+-- most 65,536 more
+pub record HasAdvanced (old : SessionView) (new : SessionView) : Type 0 where
+  pub stands : Stands new
+  pub on : old.n ≤ new.n
+  pub scenario : new.scenario ≡ old.scenario
+  pub shown : new.shown ≡ old.shown
+  pub images : AreImages new.scenario new.n new.images
+  pub least : counted_by (new.n - old.n) old.meter ≤ new.meter
+  pub twice : new.meter + 2 * old.n ≤ old.meter + 2 * new.n
+  pub once : new.meter + old.n ≤ old.meter + new.n + 2 ^ 16
 
 -- the last cycle at which an input may be added
 abbrev pub greatest_cycle : ℕ

@@ -22,6 +22,10 @@ pub trait Keeper: Drop {
         ensures empty { IfOk result (λ keeper. images keeper ≡ []) }
         ensures refused { OnErr result (result ≡ Err Refusal.NoMemory) };
 
+    /// Tells whether `keep` may refuse.
+    fn can_refuse() -> bool
+        ensures { result ≡ may_refuse };
+
     /// The image of greatest step at most `t`, or none.
     fn before(&self, t: u64) -> Option<(u64, &Machine)>
         ensures { MatchOption result (All (λ i. t < i.0) (images self.now)) (λ found. IsLatest (images self.now) t (found.0, found.1.now)) };

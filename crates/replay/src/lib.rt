@@ -13,18 +13,27 @@
 
 mod calls;
 mod keeper;
+pub mod laws;
 mod refusal;
 mod restoring;
 mod searching;
+mod searching_on;
 mod session;
+mod settling;
 mod slot_keeper;
 mod stepping;
+mod stop;
 mod thinning;
+mod travelling;
 mod vec_keeper;
+mod watching;
+mod writers;
 
 pub use calls::{Call, Observer, follow};
 pub use keeper::Keeper;
 pub use refusal::Refusal;
 pub use session::{STEP_LIMIT, Session};
 pub use slot_keeper::SlotKeeper;
+pub use stop::Stop;
 pub use vec_keeper::VecKeeper;
+pub use watching::Watcher;

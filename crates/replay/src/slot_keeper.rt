@@ -90,6 +90,10 @@ impl Keeper for SlotKeeper {
         })
     }
 
+    fn can_refuse() -> bool {
+        false
+    }
+
     fn before(&self, t: u64) -> Option<(u64, &Machine)> {
         for place in (0..self.marks.len()).rev() {
             let (step, slot) = self.marks.as_slice()[place];

@@ -27,6 +27,10 @@ impl Keeper for VecKeeper {
         })
     }
 
+    fn can_refuse() -> bool {
+        true
+    }
+
     fn before(&self, t: u64) -> Option<(u64, &Machine)> {
         for place in (0..self.images.len()).rev() {
             let (step, machine) = &self.images[place];

@@ -1,3 +1,6 @@
+pub mod DumpLaws
+pub mod FormLaws
+pub mod FormRows
 pub mod ImageLaws
 pub mod PlaceLaws
 pub mod ReadSteps

@@ -1,4 +1,7 @@
+pub mod Dumps
 pub mod Faults
+pub mod FormSteps
+pub mod Forms
 pub mod Image
 pub mod Laws
 pub mod Places

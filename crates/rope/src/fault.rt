@@ -1,30 +1,24 @@
 //! Why a rope can't be made.
 
-ghost use Rattle.std.specs.Prelude.{◌≡◌};
+ghost use Rattle.std.specs.Prelude.{◌≡◌, ◌++◌, Some, codes, decimal};
 ghost use Rattle.rope.specs.Faults.{number_of};
 
-use thiserror::Error;
+use std::fmt;
 
 /// Why a rope can't be made.
-#[derive(Clone, Copy, PartialEq, Eq, Debug, Drop, Error)]
+#[derive(Clone, Copy, PartialEq, Eq, Debug, Drop)]
 pub enum RopeFault {
     /// There was no memory for it.
-    #[error("E2")]
     NoMemory,
     /// An image ends before its 73,728 bytes.
-    #[error("E3")]
     Short,
     /// A byte stands after the 73,728 of an image.
-    #[error("E4")]
     Long,
     /// In an image of version 1 the low byte of a word, at this place among its bytes, is odd.
-    #[error("E5")]
     LowBit(u32),
     /// In an image of version 2 the two bytes of a word, the low one at this place, have an even number of one bits.
-    #[error("E5")]
     BadParity(u32),
     /// A read failed.
-    #[error("E6")]
     ReadFailed,
 }
 
@@ -42,3 +36,13 @@ impl RopeFault {
         }
     }
 }
+
+impl fmt::Display for RopeFault {
+    ghost output = { λ fault. Some (codes "E" ++ decimal (number_of fault)) };
+
+    fn fmt<W: fmt::Write>(&self, f: &mut fmt::Formatter<W>) -> fmt::Result {
+        write!(f, "E{}", self.number())
+    }
+}
+
+impl std::error::Error for RopeFault {}

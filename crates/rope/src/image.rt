@@ -24,10 +24,7 @@ impl Rope {
         ensures failures { W.failures out.new ≡ failures_after (W.failures out.old) result }
     {
         for entry in 0..ENTRIES {
-            match self.write_bank(entry, out, version) {
-                Ok(()) => {}
-                Err(failed) => return Err(failed),
-            }
+            self.write_bank(entry, out, version)?;
         }
         Ok(())
     }

@@ -27,21 +27,14 @@ impl Rope {
         ensures full { IfOk result (λ rope. IsFull rope) }
         ensures failures { R.failures reader.new ≡ (if has_read_failed result then one_more (R.failures reader.old) else R.failures reader.old) }
     {
-        let mut rope = match Rope::empty(alloc) {
-            Ok(rope) => rope,
-            Err(fault) => return Err(fault),
-        };
+        let mut rope = Rope::empty(alloc)?;
         let mut position = 0;
         while position < PLACES {
-            match rope.read_on(reader, position, version) {
-                Ok(next) => position = next,
-                Err(fault) => return Err(fault),
-            }
+            position = rope.read_on(reader, position, version)?;
         }
-        match next_byte(reader) {
-            Ok(None) => Ok(rope),
-            Ok(Some(_)) => Err(RopeFault::Long),
-            Err(fault) => Err(fault),
+        match next_byte(reader)? {
+            None => Ok(rope),
+            Some(_) => Err(RopeFault::Long),
         }
     }
 
@@ -63,13 +56,9 @@ impl Rope {
         if count > 0 {
             return Ok(position + count);
         }
-        match read_word(reader, position, version) {
-            Ok(word) => {
-                self.set_slot(bank_at(position), offset_at(position), word);
-                Ok(position + 1)
-            }
-            Err(fault) => Err(fault),
-        }
+        let word = read_word(reader, position, version)?;
+        self.set_slot(bank_at(position), offset_at(position), word);
+        Ok(position + 1)
     }
 
     // Takes the words that stand ready at a position and after it in its bank, if all their bytes spell words, and answers
@@ -123,13 +112,12 @@ fn read_word<R: Read>(reader: &mut R, position: usize, version: Version) -> Resu
     ensures word { R.told ≡ true → TakesWord version position (R.left reader.old) (R.left reader.new) result }
     ensures failures { R.failures reader.new ≡ (if has_read_failed result then one_more (R.failures reader.old) else R.failures reader.old) }
 {
-    match next_pair(reader) {
-        Ok(Some(pair)) => match version.word_of(pair[0], pair[1]) {
-            Some(word) => Ok(word),
-            None => Err(version.fault_at(2 * position as u32 + 1)),
-        },
-        Ok(None) => Err(RopeFault::Short),
-        Err(fault) => Err(fault),
+    let Some(pair) = next_pair(reader)? else {
+        return Err(RopeFault::Short);
+    };
+    match version.word_of(pair[0], pair[1]) {
+        Some(word) => Ok(word),
+        None => Err(version.fault_at(2 * position as u32 + 1)),
     }
 }
 
@@ -142,10 +130,9 @@ fn next_pair<R: Read>(reader: &mut R) -> Result<Option<[u8; 2]>, RopeFault>
     let mut pair = [0; 2];
     match reader.read(&mut pair) {
         Ok(0) => Ok(None),
-        Ok(1) => match next_byte(reader) {
-            Ok(Some(low)) => Ok(Some([pair[0], low])),
-            Ok(None) => Ok(None),
-            Err(fault) => Err(fault),
+        Ok(1) => match next_byte(reader)? {
+            Some(low) => Ok(Some([pair[0], low])),
+            None => Ok(None),
         },
         Ok(_) => Ok(Some(pair)),
         Err(_) => Err(RopeFault::ReadFailed),

@@ -37,7 +37,7 @@ impl Version {
 
     // Whether two bytes spell a word.
     #[tactic(auto, using(crate::proofs::Spellings::ones_of_pair))]
-    fn spells_word(self, high: u8, low: u8) -> bool
+    pub(crate) fn spells_word(self, high: u8, low: u8) -> bool
         ensures { result ≡ spells_word self high low }
     {
         match self {

@@ -2,8 +2,6 @@
 #![tactic(auto)]
 
 #[cfg(test)]
-mod additions;
-#[cfg(test)]
 mod calls;
 #[cfg(test)]
 mod machines;
@@ -11,8 +9,6 @@ mod machines;
 mod memory;
 #[cfg(test)]
 mod opening;
-#[cfg(test)]
-mod programs;
 #[cfg(test)]
 mod refusing;
 #[cfg(test)]

@@ -9,7 +9,6 @@ use space::store::changed;
 use std::alloc::Global;
 use std::test::Fail;
 use words::Word;
-use yayul::assemble;
 
 /// Five plus five, from address 04000 on: CA FIVE, AD FIVE, EXTEND, WRITE 10, TCF 4000, and the five.
 pub(crate) const FIVE_PLUS_FIVE: [u16; 6] = [0o34005, 0o64005, 0o00006, 0o01010, 0o14000, 0o00005];
@@ -73,12 +72,6 @@ pub(crate) fn five_plus_five(alloc: Global) -> Result<Processor, Fail> {
     Ok(Processor::new(rope_of(alloc, &FIVE_PLUS_FIVE)?, Feed::empty(alloc)))
 }
 
-/// A processor that jumps in place, with the inputs of a feed.
-pub(crate) fn jump_in_place(alloc: Global, feed: &[u8]) -> Result<Processor, Fail> {
-    let mut inputs = feed;
-    Ok(Processor::new(rope_of(alloc, &[0o14000])?, read(alloc, &mut inputs)?))
-}
-
 /// The number after this one in a generator's sequence.
 pub(crate) fn next_number(state: u32) -> u32 {
     state.wrapping_mul(1_664_525).wrapping_add(1_013_904_223)
@@ -94,29 +87,6 @@ pub(crate) fn everything(alloc: Global, seed: u32) -> Result<Processor, Fail> {
     }
     let mut inputs = INPUTS;
     Ok(Processor::new(rope_of(alloc, &words)?, read(alloc, &mut inputs)?))
-}
-
-/// A processor of the program of a source, with inputs of all kinds.
-pub(crate) fn program_of(alloc: Global, source: &[u8]) -> Result<Processor, Fail> {
-    let (rope, _) = assemble(alloc, source)?.split();
-    let mut inputs = INPUTS;
-    Ok(Processor::new(rope, read(alloc, &mut inputs)?))
-}
-
-/// A source that allows interrupts and then fills a bank with words from a generator.
-pub(crate) fn bank_of_words(alloc: Global, seed: u32) -> Result<Vec<u8>, Fail> {
-    let mut text = Vec::new(alloc);
-    text.extend_from_slice(b" SETLOC 4000\n RELINT\n")?;
-    let mut state = seed;
-    for _ in 1..1024 {
-        state = next_number(state);
-        text.extend_from_slice(b" OCT ")?;
-        for place in 0..5u32 {
-            text.push(b"01234567"[((state >> (28 - 3 * place)) & 7) as usize])?;
-        }
-        text.push(b'\n')?;
-    }
-    Ok(text)
 }
 
 /// Whether two machines read the same everywhere, and would execute the same word next.

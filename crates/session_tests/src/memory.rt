@@ -4,9 +4,28 @@ ghost use Rattle.std.specs.Prelude.{◌≤◌, ◌<◌, IsSome};
 ghost use Rattle.replay.specs.Memory.{step_limit};
 
 use crate::machines::{expect, five_plus_five, next_number};
-use cpu::Output;
-use replay::{STEP_LIMIT, Session, SlotKeeper};
+use cpu::{Machine, Output};
+use replay::{STEP_LIMIT, Session, SlotKeeper, Watcher};
 use std::test::Fail;
+
+/// Counts steps and their outputs.
+#[derive(Drop)]
+struct Counter {
+    steps: u64,
+    outputs: u64,
+}
+
+impl Watcher for Counter {
+    ghost sees = { λ old output machine ended new. Unit {0} };
+
+    fn watch(&mut self, output: Option<Output>, _machine: &Machine) -> bool {
+        self.steps = self.steps.wrapping_add(1);
+        if output.is_some() {
+            self.outputs = self.outputs.wrapping_add(1);
+        }
+        false
+    }
+}
 
 /// The cycles after `t` steps.
 fn cycles_after(session: &mut Session<SlotKeeper>, t: u64) -> u64
@@ -19,27 +38,42 @@ fn cycles_after(session: &mut Session<SlotKeeper>, t: u64) -> u64
 }
 
 /// Goes a step, which over slots is never refused below the limit.
-fn gone(session: &mut Session<SlotKeeper>) -> Option<Output>
+fn go(session: &mut Session<SlotKeeper>, counter: &mut Counter)
     requires { session.old.n < step_limit }
 {
     match session.forward() {
-        Ok(output) => output,
+        Ok(output) => {
+            counter.watch(output, session.present());
+        }
         Err(_) => unreachable!(),
     }
 }
 
-/// Of 100,000 calls to go on, to show a step and to search, none is refused: it is proved that none can be, since the
-/// branches of a refusal are unreachable. Five plus five makes 5 steps in 8 cycles, and puts a word out in the fourth.
+/// Goes many steps, of which over slots the first is never refused below the limit.
+fn go_on(session: &mut Session<SlotKeeper>, k: u64, counter: &mut Counter)
+    requires { session.old.n < step_limit }
+{
+    match session.advance(k, counter) {
+        Ok(_) => {}
+        Err(_) => unreachable!(),
+    }
+}
+
+/// Of 100,000 calls to go a step or many, to show a step and to search, none is refused: it is proved that none can be, since
+/// the branches of a refusal are unreachable. Five plus five makes 5 steps in 8 cycles, and puts a word out in the fourth.
 #[test]
 fn calls_take_no_memory(rt: HostRuntime) -> Result<(), Fail> {
     let alloc = rt.alloc();
     let mut session = Session::<SlotKeeper>::open(alloc, five_plus_five(alloc)?)?;
+    let mut counter = Counter {
+        steps: 0,
+        outputs: 0,
+    };
     let mut state = 12u32;
-    let (mut forwards, mut outputs) = (0u64, 0u64);
     for _ in 0..100_000 {
         state = next_number(state);
         let n = session.steps();
-        let t = u64::from(state >> 8) % (n + 1);
+        let t = n.saturating_sub(u64::from(state >> 8) % 5_000);
         match state >> 30 {
             0 => {
                 let cycles = (t / 5)
@@ -55,18 +89,15 @@ fn calls_take_no_memory(rt: HostRuntime) -> Result<(), Fail> {
                     "the step found",
                 )?;
             }
-            _ => {
-                if n < STEP_LIMIT && gone(&mut session).is_some() {
-                    outputs = outputs.wrapping_add(1);
-                }
-                forwards = forwards.wrapping_add(1);
-            }
+            2 if n < STEP_LIMIT => go(&mut session, &mut counter),
+            3 if n < STEP_LIMIT => go_on(&mut session, u64::from(state >> 8) % 200, &mut counter),
+            _ => {}
         }
-        expect(session.steps() == forwards, "steps")?;
+        expect(session.steps() == counter.steps, "steps")?;
     }
-    expect(forwards > 49_000, "half of the calls go on")?;
+    expect(counter.steps > 2_000_000, "some millions of steps")?;
     expect(
-        outputs == forwards.wrapping_add(1) / 5,
+        counter.outputs == counter.steps.wrapping_add(1) / 5,
         "an output for each fourth step of five",
     )
 }

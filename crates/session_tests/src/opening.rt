@@ -23,6 +23,10 @@ impl<K: Keeper> Keeper for NoKeeper<K> {
         Err(Refusal::NoMemory)
     }
 
+    fn can_refuse() -> bool {
+        true
+    }
+
     fn before(&self, t: u64) -> Option<(u64, &Machine)> {
         self.inner.before(t)
     }

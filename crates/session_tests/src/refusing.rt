@@ -5,50 +5,7 @@ use cpu::Machine;
 use replay::{Keeper, Refusal, Session, SlotKeeper, VecKeeper};
 use std::alloc::Global;
 use std::test::Fail;
-
-/// A keeper that refuses each image when it is first handed over, and hands it to another keeper the next time.
-#[derive(Drop)]
-struct RefusingKeeper<K: Keeper> {
-    inner: K,
-    refused: bool,
-}
-
-impl<K: Keeper> Keeper for RefusingKeeper<K> {
-    ghost use Rattle.std.specs.Prelude.{true};
-
-    ghost images = { λ k. K.images k.inner };
-
-    ghost may_refuse = { true };
-
-    fn new(alloc: Global) -> Result<Self, Refusal> {
-        Ok(RefusingKeeper {
-            inner: K::new(alloc)?,
-            refused: false,
-        })
-    }
-
-    fn before(&self, t: u64) -> Option<(u64, &Machine)> {
-        self.inner.before(t)
-    }
-
-    fn keep(&mut self, step: u64, machine: &Machine) -> Result<(), Refusal> {
-        self.refused = !self.refused;
-        if self.refused {
-            return Err(Refusal::NoMemory);
-        }
-        self.inner.keep(step, machine)
-    }
-
-    fn remove(&mut self, step: u64) {
-        self.inner.remove(step);
-    }
-
-    fn count(&self) -> usize {
-        self.inner.count()
-    }
-
-    ghost rising = { λ k. K.rising k.inner };
-}
+use test_keepers::RefusingKeeper;
 
 /// Where an image is refused, all is as before, and the same call with memory goes a step.
 fn refusals_change_nothing<K: Keeper>(alloc: Global) -> Result<(), Fail> {

@@ -55,29 +55,6 @@ fn machines_held_at_first(rt: HostRuntime) -> Result<(), Fail> {
     Ok(())
 }
 
-/// Each step forward answers what it answers in a session that shows nothing, also after step 0 was shown.
-fn shows_the_start_before_each_step<K: Keeper>(alloc: Global) -> Result<(), Fail> {
-    let mut plain = Session::<K>::open(alloc, five_plus_five(alloc)?)?;
-    let mut session = Session::<K>::open(alloc, five_plus_five(alloc)?)?;
-    let mut outputs = 0u64;
-    for _ in 0..23 {
-        let shown = session.show(0)?;
-        expect(shown.cycles() == 0, "the start")?;
-        let output = session.forward()?;
-        expect(output == plain.forward()?, "the output")?;
-        if output.is_some() {
-            outputs = outputs.wrapping_add(1);
-        }
-    }
-    expect(outputs == 4, "an output for each fourth step of five")
-}
-
-#[test]
-fn forward_after_start_was_shown(rt: HostRuntime) -> Result<(), Fail> {
-    shows_the_start_before_each_step::<SlotKeeper>(rt.alloc())?;
-    shows_the_start_before_each_step::<VecKeeper>(rt.alloc())
-}
-
 /// What it costs, in a session of 7 steps, to show steps 6, 3 and 0, and the cycles there.
 fn goes_back_and_forth<K: Keeper>(alloc: Global) -> Result<(), Fail> {
     let mut session = Session::<K>::open(alloc, five_plus_five(alloc)?)?;

@@ -39,6 +39,13 @@ unfoldable pub sup_of : Linear → Bool
 sup_of (Erasable p) = false
 sup_of (Fixed bank offset) = nat_le 0o40 bank
 
+-- two places are one
+abbrev pub same_place : Linear → Linear → Bool
+same_place (Erasable p) (Erasable q) = p == q
+same_place (Erasable p) (Fixed bank offset) = false
+same_place (Fixed bank offset) (Erasable q) = false
+same_place (Fixed bank offset) (Fixed b o) = bank == b && offset == o
+
 -- a place in erasable memory
 abbrev pub IsErasable : Linear → Type 0
 IsErasable (Erasable p) = Unit {0}

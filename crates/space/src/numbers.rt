@@ -49,17 +49,8 @@ impl Eras {
     /// Where a program saves A in an interrupt.
     pub const ARUPT: Eras = Eras { place: 0o10 };
 
-    /// Where a program saves L in an interrupt.
-    pub const LRUPT: Eras = Eras { place: 0o11 };
-
-    /// Where a program saves Q in an interrupt.
-    pub const QRUPT: Eras = Eras { place: 0o12 };
-
     /// The address to which an interrupt returns.
     pub const ZRUPT: Eras = Eras { place: 0o15 };
-
-    /// Where a program saves BB in an interrupt.
-    pub const BBRUPT: Eras = Eras { place: 0o16 };
 
     /// The instruction with which an interrupted program goes on.
     pub const BRUPT: Eras = Eras { place: 0o17 };

@@ -4,4 +4,5 @@ pub mod Texts
 pub mod Readings
 pub mod Digits
 pub mod Turns
+pub mod Shifts
 pub mod Values

@@ -7,11 +7,11 @@ use Rattle.std.proofs.lemmas.Nat.Bits.{bit_at-suc, bit_at_cat_low, bit_at_above}
 use Rattle.words.specs.Edits.{cyr, cyl, sr, edop}
 use Rattle.words.specs.Laws.{CyclesRight, CyclesLeft, ShiftsRight, TakesUpperBits}
 
-bit_of_half : (n i : ℕ) → bit_at (n / 2) i ≡ bit_at n (i + 1)
+pub bit_of_half : (n i : ℕ) → bit_at (n / 2) i ≡ bit_at n (i + 1)
 bit_of_half n i = rw add-one (sym (bit_at-suc n i))
 
 -- the bits below k are those of the remainder
-bit_of_low : (n k i : ℕ) → i < k → bit_at (n % 2 ^ k) i ≡ bit_at n i
+pub bit_of_low : (n k i : ℕ) → i < k → bit_at (n % 2 ^ k) i ≡ bit_at n i
 bit_of_low n k i h =
     let split : n ≡ n / 2 ^ k * 2 ^ k + n % 2 ^ k = omega arith in
     sym (ap (λ (m : ℕ). bit_at m i) split ∙ bit_at_cat_low (n / 2 ^ k) k (n % 2 ^ k) i h)

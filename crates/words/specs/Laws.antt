@@ -1,13 +1,15 @@
 -- What the formulas come to.
-use Rattle.std.specs.Prelude.{◌≡◌, ◌≢◌, ℕ, ◌+◌, ◌-◌, ◌%◌, ◌^◌, ◌<◌, min, nat_lt, if◌then◌else◌, ℤ, pos, ◌+ℤ◌, ◌-ℤ◌, ◌*ℤ◌, int_lt, unsigned_abs}
+use Rattle.std.specs.Prelude.{◌≡◌, ◌≢◌, ℕ, ◌+◌, ◌-◌, ◌*◌, ◌%◌, ◌^◌, ◌<◌, ◌≤◌, min, nat_lt, nat_eq, if◌then◌else◌, Bool, true, false, List, [], ◌∷◌, ◌++◌, replicate, ℤ, pos, ◌+ℤ◌, ◌-ℤ◌, ◌*ℤ◌, int_lt, unsigned_abs}
 use Rattle.std.specs.Int.{bit_at}
 use Rattle.words.specs.declared.wide.Overflow.{Overflow}
 use Rattle.words.specs.declared.wide.Overflow.TheVariants as overflow
+use Rattle.words.specs.declared.counters.Carry.{Carry}
 use Rattle.words.specs.declared.counters.Carry.TheVariants as carry
+use Rattle.words.specs.declared.counters.CounterStep.{CounterStep}
 use Rattle.words.specs.Numbers.{value, value_wide, neg, neg_wide, sum, extend, correct, dabs, modular_difference}
 use Rattle.words.specs.Signs.{over}
 use Rattle.words.specs.Edits.{cyr, cyl, sr, edop}
-use Rattle.words.specs.Counters.{pinc, minc, dinc}
+use Rattle.words.specs.Counters.{pinc, minc, dinc, shinc, shanc}
 use Rattle.words.specs.Products.{product, quotient, dividend, dividend_is_minus, is_minus, magnitude, differ}
 
 -- the complement of a word has the opposite value
@@ -73,17 +75,70 @@ ShiftsRight w = (i : ℕ) → i < 15 → bit_at (sr w) i ≡ bit_at w (min (i + 
 abbrev pub TakesUpperBits : ℕ → Type 0
 TakesUpperBits w = (i : ℕ) → bit_at (edop w) i ≡ (if nat_lt i 7 then bit_at w (i + 7) else 0)
 
--- plus one by the value, where nothing is carried out
-abbrev pub AddsOne : ℕ → Type 0
-AddsOne w = (pinc w).carry ≡ carry.No → value (pinc w).word ≡ value w +ℤ pos 1
+-- what a carry is worth in the word from which it comes: 2^14 by its sign
+abbrev pub worth : Carry → ℤ
+worth carry.No = pos 0
+worth carry.Plus = pos (2 ^ 14)
+worth carry.Minus = pos 0 -ℤ pos (2 ^ 14)
+worth carry.ShiftedOut = pos 0
 
--- minus one by the value, where nothing is carried out
-abbrev pub TakesOne : ℕ → Type 0
-TakesOne w = (minc w).carry ≡ carry.No → value (minc w).word ≡ value w -ℤ pos 1
+-- plus one by the value: the word and the carry make the sum. Only the greatest word carries, and begins again at +0; -1 comes to -0.
+pub record AddsOne (w : ℕ) : Type 0 where
+  pub sum : value (pinc w).word +ℤ worth (pinc w).carry ≡ value w +ℤ pos 1
+  pub carry : (pinc w).carry ≡ (if nat_eq w (2 ^ 14 - 1) then carry.Plus else carry.No)
+  pub again : w ≡ 2 ^ 14 - 1 → (pinc w).word ≡ 0
+  pub to_zero : w ≡ neg 1 → (pinc w).word ≡ neg 0
 
--- one nearer to zero by the value
-abbrev pub NearsZero : ℕ → Type 0
-NearsZero w = magnitude (dinc w).word ≡ magnitude w - 1
+-- minus one by the value: the word and the carry make the difference. Only the least word carries, and begins again at -0; +1 comes to -0.
+pub record TakesOne (w : ℕ) : Type 0 where
+  pub difference : value (minc w).word +ℤ worth (minc w).carry ≡ value w -ℤ pos 1
+  pub carry : (minc w).carry ≡ (if nat_eq w (neg (2 ^ 14 - 1)) then carry.Minus else carry.No)
+  pub again : w ≡ neg (2 ^ 14 - 1) → (minc w).word ≡ neg 0
+  pub to_zero : w ≡ 1 → (minc w).word ≡ neg 0
+
+-- one nearer to zero by the value: the magnitude is one less, but not below 0, and the sign stays, but a zero is +0. Nothing is carried.
+pub record NearsZero (w : ℕ) : Type 0 where
+  pub less : magnitude (dinc w).word ≡ magnitude w - 1
+  pub sign : 1 < magnitude w → is_minus (dinc w).word ≡ is_minus w
+  pub zero : magnitude w ≤ 1 → (dinc w).word ≡ 0
+  pub carry : (dinc w).carry ≡ carry.No
+
+-- a bit shifted into a word: SHINC for 0, SHANC for 1
+abbrev pub shifted : ℕ → Bool → CounterStep
+shifted w false = shinc w
+shifted w true = shanc w
+
+-- 0 or 1
+abbrev pub bit : Bool → ℕ
+bit false = 0
+bit true = 1
+
+-- the bits move up by one place, the new bit is the last, and the one that was the first is carried out where it is a one
+pub record ShiftsIn (w : ℕ) (b : Bool) : Type 0 where
+  pub up : (i : ℕ) → i < 14 → bit_at (shifted w b).word (i + 1) ≡ bit_at w i
+  pub last : bit_at (shifted w b).word 0 ≡ bit b
+  pub first : (shifted w b).carry ≡ (if nat_eq (bit_at w 14) 1 then carry.ShiftedOut else carry.No)
+
+-- the word after bits are shifted in, one after another
+abbrev pub shifted_in : ℕ → List Bool → ℕ
+shifted_in w [] = w
+shifted_in w (b ∷ bs) = shifted_in (shifted w b).word bs
+
+-- what is carried out meanwhile
+abbrev pub shifted_out : ℕ → List Bool → List Carry
+shifted_out w [] = []
+shifted_out w (b ∷ bs) = (shifted w b).carry ∷ shifted_out (shifted w b).word bs
+
+-- the number that bits make, the first the highest, before which a number stands
+abbrev pub number_after : ℕ → List Bool → ℕ
+number_after n [] = n
+number_after n (b ∷ bs) = number_after (2 * n + bit b) bs
+
+-- Fifteen bits that are shifted in are the word, whatever stood there. Where a one and then they are shifted into an empty word, as the uplink sends them, a one is
+-- shifted out with the last bit, and not before.
+pub record TakesWordIn (w : ℕ) (bits : List Bool) : Type 0 where
+  pub word : shifted_in w bits ≡ number_after 0 bits
+  pub full : shifted_out 0 (true ∷ bits) ≡ replicate 15 carry.No ++ carry.ShiftedOut ∷ []
 
 -- the halves of a product make the product of the values
 abbrev pub MakesProduct : ℕ → ℕ → Type 0

@@ -1,6 +1,7 @@
 pub mod Numbers
 pub mod Signs
 pub mod Edits
+pub mod Faults
 pub mod Counters
 pub mod Products
 pub mod BitSums

@@ -1,11 +1,10 @@
 //! Readers and writers whose contracts see bytes and failures.
 
-ghost use Rattle.std.specs.Prelude.{◌≡◌, ℕ, ◌<◌, ◌≤◌, Bool, true, List, [], ◌++◌, Ok, IfOk, OnErr, length, take, drop, if◌then◌else◌};
+ghost use Rattle.std.specs.Prelude.{◌≡◌, ℕ, ◌<◌, ◌≤◌, Bool, true, List, [], ◌++◌, Some, codes, Ok, IfOk, OnOk, OnErr, length, take, drop, if◌then◌else◌};
 ghost use Rattle.std.specs.Io.{ReadsAtMost, WritesAtMost};
 ghost use Rattle.words.specs.Devices.{failures_after, failures_after_write, Writes};
 
-use std::io;
-use thiserror::Error;
+use std::{fmt, io};
 
 /// A reader. Where it tells its bytes, contracts see those that it has left; they see its count of failures always.
 pub trait Read {
@@ -46,13 +45,17 @@ pub trait Read {
     }
 }
 
-/// A writer. Where it tells its bytes, contracts see those that were written; they see its count of failures always.
+/// A writer. Where it tells its bytes, contracts see those that were written and those of them that were handed on; they see
+/// its count of failures always.
 pub trait Write {
-    /// Whether `written` is told.
+    /// Whether `written` and `handed_on` are told.
     ghost told: { Bool };
 
     /// The bytes that were written.
     ghost written: { Self → List ℕ };
+
+    /// The bytes that are held back no longer: all that were written, once a flush has succeeded.
+    ghost handed_on: { Self → List ℕ };
 
     /// How many calls failed, as far as 128 bits go. A write that takes none of some bytes has failed too.
     ghost failures: { Self → ℕ };
@@ -64,20 +67,26 @@ pub trait Write {
         ensures err { told ≡ true → OnErr result (written self.new ≡ written self.old) }
         ensures failures { failures self.new ≡ failures_after_write (failures self.old) result buf.now };
 
-    /// Hands on what the writer still holds back of the bytes that were written. A writer that holds none back keeps this
-    /// body.
+    /// Hands on what the writer still holds back of the bytes that were written.
     fn flush(&mut self) -> io::Result<()>
         ensures written { told ≡ true → written self.new ≡ written self.old }
-        ensures failures { failures self.new ≡ failures_after (failures self.old) result }
-    {
-        Ok(())
-    }
+        ensures handed_on { told ≡ true → OnOk result (handed_on self.new ≡ written self.new) }
+        ensures failures { failures self.new ≡ failures_after (failures self.old) result };
 }
 
 /// A writer failed, or took none of some bytes.
-#[derive(Clone, Copy, PartialEq, Eq, Debug, Drop, Error)]
-#[error("E7")]
+#[derive(Clone, Copy, PartialEq, Eq, Debug, Drop)]
 pub struct WriteFailed;
+
+impl fmt::Display for WriteFailed {
+    ghost output = { λ _. Some (codes "E7") };
+
+    fn fmt<W: fmt::Write>(&self, f: &mut fmt::Formatter<W>) -> fmt::Result {
+        write!(f, "E7")
+    }
+}
+
+impl std::error::Error for WriteFailed {}
 
 /// Writes the whole of a text. `WriteFailed` where a write failed or took no byte: then a beginning of it was written.
 pub fn write_all<W: Write>(out: &mut W, text: &[u8]) -> Result<(), WriteFailed>

@@ -152,6 +152,8 @@ impl Write for FaultyWriter {
 
     ghost written = { λ w. w.written };
 
+    ghost handed_on = { λ w. w.written };
+
     ghost failures = { λ w. w.failures };
 
     /// Writes one byte of some, or is in trouble.
@@ -181,5 +183,13 @@ impl Write for FaultyWriter {
                 Err(io::Error::from(io::ErrorKind::OutOfMemory))
             }
         }
+    }
+
+    /// Holds nothing back, and is in no trouble.
+    fn flush(&mut self) -> io::Result<()>
+        ensures same { self.new ≡ self.old }
+        ensures failures { self.new.failures ≡ failures_after self.old.failures result }
+    {
+        Ok(())
     }
 }

@@ -1,11 +1,11 @@
 //! Laws of the arithmetic. Each is the contract of a call that does nothing: what the formulas of words come to.
 
-ghost use Rattle.std.specs.Prelude.{◌≡◌, true};
+ghost use Rattle.std.specs.Prelude.{◌≡◌, true, length};
 ghost use Rattle.words.specs.Numbers.{neg, neg_wide, sum, extend, correct};
 ghost use Rattle.words.specs.Edits.{cyr, cyl};
 ghost use Rattle.words.specs.Counters.{pcdu, mcdu};
 ghost use Rattle.words.specs.Products.{quotient_fits};
-ghost use Rattle.words.specs.Laws.{IsOpposite, IsOppositeWide, KeepsValue, IsExtension, AddsValues, OverflowsByValue, DiminishesMagnitude, TurnsTo, CyclesRight, CyclesLeft, ShiftsRight, TakesUpperBits, AddsOne, TakesOne, NearsZero, MakesProduct, Divides};
+ghost use Rattle.words.specs.Laws.{IsOpposite, IsOppositeWide, KeepsValue, IsExtension, AddsValues, OverflowsByValue, DiminishesMagnitude, TurnsTo, CyclesRight, CyclesLeft, ShiftsRight, TakesUpperBits, AddsOne, TakesOne, NearsZero, ShiftsIn, TakesWordIn, MakesProduct, Divides};
 
 use super::wide::Wide;
 use super::word::Word;
@@ -75,11 +75,21 @@ pub fn shifts(w: Word)
     ensures upper { TakesUpperBits w }
 {}
 
-/// The counter steps by the value: plus one, minus one, one nearer to zero.
+/// The counter steps by the value: plus one, minus one, one nearer to zero, with what is carried out and which zero comes.
 pub fn counter_values(w: Word)
     ensures plus { AddsOne w }
     ensures minus { TakesOne w }
     ensures nearer { NearsZero w }
+{}
+
+/// A bit that is shifted in is the last of the word, the others move up, and the first goes out.
+pub fn bit_is_shifted_in(w: Word, bit: bool)
+    ensures { ShiftsIn w bit }
+{}
+
+/// Fifteen bits that are shifted in are the word; of a one and fifteen bits that are shifted into an empty word the last alone shifts a one out.
+pub fn word_is_shifted_in(w: Word, bits: &[bool])
+    ensures { length bits.now ≡ 15 → TakesWordIn w bits.now }
 {}
 
 /// Plus one and minus one modulo 2^15 undo each other.

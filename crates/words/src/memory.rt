@@ -75,6 +75,8 @@ impl Write for Buffer {
 
     ghost written = { λ b. b.written };
 
+    ghost handed_on = { λ b. b.written };
+
     ghost failures = { λ b. b.failures };
 
     fn write(&mut self, buf: &[u8]) -> io::Result<usize> {
@@ -85,5 +87,10 @@ impl Write for Buffer {
                 Err(io::Error::from(refused))
             }
         }
+    }
+
+    /// Holds nothing back.
+    fn flush(&mut self) -> io::Result<()> {
+        Ok(())
     }
 }

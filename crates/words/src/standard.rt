@@ -58,6 +58,8 @@ impl<T: io::Write> Write for Std<T> {
 
     ghost written = { λ _. [] };
 
+    ghost handed_on = { λ _. [] };
+
     ghost failures = { λ s. s };
 
     fn write(&mut self, buf: &[u8]) -> io::Result<usize> {

@@ -1,26 +1,47 @@
 //! Whole texts from readers.
 
-ghost use Rattle.std.specs.Prelude.{◌≡◌, ℕ, ◌+◌, ◌≤◌, [], true, IfOk, IfErr, length, if◌then◌else◌};
+ghost use Rattle.std.specs.Prelude.{◌≡◌, ℕ, ◌+◌, ◌≤◌, ◌++◌, [], Some, true, codes, decimal, IfOk, IfErr, length, if◌then◌else◌};
 ghost use Rattle.words.specs.Devices.{one_more};
+ghost use Rattle.words.specs.Faults.{number_of_no_text};
 ghost use Rattle.words.specs.Readings.{FaultTakes, has_read_failed, ReadsOnto};
 
 use super::device::Read;
 use std::alloc::Global;
-use thiserror::Error;
+use std::fmt;
 
 /// Why no text was read.
-#[derive(Clone, Copy, PartialEq, Eq, Debug, Drop, Error)]
+#[derive(Clone, Copy, PartialEq, Eq, Debug, Drop)]
 pub enum ReadFault {
     /// A growth was refused.
-    #[error("E2")]
     NoMemory,
     /// A read failed.
-    #[error("E6")]
     ReadFailed,
     /// More bytes stand than the limit allows; told once one more is read.
-    #[error("E34")]
     TooLong,
 }
+
+impl ReadFault {
+    /// The number that the fault is told by.
+    pub fn number(self) -> u8
+        ensures { result ≡ number_of_no_text self }
+    {
+        match self {
+            ReadFault::NoMemory => 2,
+            ReadFault::ReadFailed => 6,
+            ReadFault::TooLong => 34,
+        }
+    }
+}
+
+impl fmt::Display for ReadFault {
+    ghost output = { λ fault. Some (codes "E" ++ decimal (number_of_no_text fault)) };
+
+    fn fmt<W: fmt::Write>(&self, f: &mut fmt::Formatter<W>) -> fmt::Result {
+        write!(f, "E{}", self.number())
+    }
+}
+
+impl std::error::Error for ReadFault {}
 
 /// The most bytes of a text that is read whole.
 pub const MOST_BYTES: usize = 8_388_608;

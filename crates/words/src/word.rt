@@ -1,13 +1,14 @@
 //! Words of 15 bits in ones' complement.
 
-ghost use Rattle.std.specs.Prelude.{◌≡◌, ◌%◌, ◌<◌, ◌^◌, OkIff};
+ghost use Rattle.std.specs.Prelude.{◌≡◌, ◌%◌, ◌<◌, ◌^◌, ◌++◌, Some, OkIff, codes, decimal};
+ghost use Rattle.words.specs.Faults.{number_of_no_word};
 ghost use Rattle.words.specs.Numbers.{value, neg, extend, modular_difference};
 ghost use Rattle.words.specs.BitSums.{and_sum, or_sum, xor_sum};
 ghost use Rattle.words.specs.Products.{is_minus, magnitude, signed};
 
 use super::wide::Wide;
+use std::fmt;
 use std::marker::Model;
-use thiserror::Error;
 
 /// Fifteen bits in ones' complement, bit 15 the sign: +0 is 00000, -0 is 77777.
 #[derive(Clone, Copy, PartialEq, Eq, Debug, Drop)]
@@ -28,12 +29,32 @@ impl Model for Word {
 }
 
 /// Why a number is no word.
-#[derive(Debug, Drop, Error)]
+#[derive(Debug, Drop)]
 pub enum WordFault {
     /// The number is above 77777.
-    #[error("E1")]
     OutOfWord,
 }
+
+impl WordFault {
+    /// The number that the fault is told by.
+    pub fn number(&self) -> u8
+        ensures { result ≡ number_of_no_word self.now }
+    {
+        match self {
+            WordFault::OutOfWord => 1,
+        }
+    }
+}
+
+impl fmt::Display for WordFault {
+    ghost output = { λ fault. Some (codes "E" ++ decimal (number_of_no_word fault)) };
+
+    fn fmt<W: fmt::Write>(&self, f: &mut fmt::Formatter<W>) -> fmt::Result {
+        write!(f, "E{}", self.number())
+    }
+}
+
+impl std::error::Error for WordFault {}
 
 pub(crate) const GREATEST_WORD: u16 = 0o77777;
 

@@ -1,6 +1,11 @@
+mod Answering
+mod Extracodes
 mod Feeds
-mod Imaging
+mod Opening
 mod OperatorTexts
-mod Preparing
 mod RunSteps
-pub mod Opening
+mod SourceRows
+mod TracedSteps
+mod Written
+mod Profiles
+pub mod Telling

@@ -14,28 +14,28 @@ use Rattle.yayul.specs.Layout.{and_then}
 use Rattle.yayul.specs.Operators.{operators}
 use Rattle.yayul.specs.Words.{accepted, address_of, address_below}
 use Rattle.yayul.specs.declared.faults.FaultKind.{FaultKind}
-use Rattle.yayul.specs.declared.values.Value.TheVariants.{Num}
+use Rattle.yayul.specs.Language.{Num}
 use Rattle.workshop.specs.Laws.{shown_as, is_own, IsShown, AreShown}
 
 -- what a field holds: the number, the one after it, the address of a fixed place, or a channel
-data Kind : Type 0 where
+pub data Kind : Type 0 where
   Number Pair Far Channel : Kind
 
 -- what a field of a kind holds of a number, if it takes it
-abbrev field : Kind → ℕ → ℕ → Result ℕ FaultKind
+abbrev pub field : Kind → ℕ → ℕ → Result ℕ FaultKind
 field Number size n = address_below size (Num n)
 field Pair size n = and_then (λ address. Ok ((address + 1) % size)) (address_below size (Num n))
 field Far size n = and_then (accepted (λ a. leb 0o2000 a)) (address_of (Num n))
 field Channel size n = accepted (λ channel. ltb channel size) n
 
-abbrev Holds : Kind → ℕ → ℕ → ℕ → Type 0
+abbrev pub Holds : Kind → ℕ → ℕ → ℕ → Type 0
 Holds Number size n f = (n < size) × (f ≡ n)
 Holds Pair size n f = (n < size) × (f ≡ (n + 1) % size)
 Holds Far size n f = ((0o2000 ≤ n) × (n < 0o10000)) × (f ≡ n)
 Holds Channel size n f = (n < size) × (f ≡ n)
 
 -- what leads on from a value has a value to lead on from
-then_ok : {A B : Type 0} (g : A → Result B FaultKind) (r : Result A FaultKind) (y : B) → and_then g r ≡ Ok y → (x : A) × ((r ≡ Ok x) × (g x ≡ Ok y))
+pub then_ok : {A B : Type 0} (g : A → Result B FaultKind) (r : Result A FaultKind) (y : B) → and_then g r ≡ Ok y → (x : A) × ((r ≡ Ok x) × (g x ≡ Ok y))
 then_ok g (Ok x) y e = (x, (refl, e))
 then_ok g (Err kind) y e = absurd (cc)
 
@@ -61,7 +61,7 @@ below_ok size n f e =
     let lt : h.0 < size = ltb-true _ _ t.0 in
     (omega arith, t.1 ∙ a.1)
 
-field_ok : (kind : Kind) (size n f : ℕ) → field kind size n ≡ Ok f → Holds kind size n f
+pub field_ok : (kind : Kind) (size n f : ℕ) → field kind size n ≡ Ok f → Holds kind size n f
 field_ok Number size n f e = below_ok size n f e
 field_ok Pair size n f e =
     let h = then_ok {A = ℕ} {B = ℕ} (λ a. Ok ((a + 1) % size)) (address_below size (Num n)) f e in
@@ -79,47 +79,47 @@ field_ok Channel size n f e =
     (ltb-true _ _ t.0, t.1)
 
 -- how many digits a number has, and how a field is shown: in a pair by the address before
-abbrev digits : Kind → ℕ
+abbrev pub digits : Kind → ℕ
 digits Channel = 3
 digits Number = 4
 digits Pair = 4
 digits Far = 4
 
-abbrev shown_field : Kind → ℕ → ℕ → List ℕ
+abbrev pub shown_field : Kind → ℕ → ℕ → List ℕ
 shown_field Number size f = octal_text 4 f
 shown_field Pair size f = octal_text 4 (first_of (size - 1) f)
 shown_field Far size f = octal_text 4 f
 shown_field Channel size f = octal_text 3 f
 
 -- from where on and up to where fields lie
-abbrev field_from : Kind → ℕ
+abbrev pub field_from : Kind → ℕ
 field_from Far = 0o2000
 field_from Number = 0
 field_from Pair = 0
 field_from Channel = 0
 
-abbrev field_to : Kind → ℕ → ℕ
+abbrev pub field_to : Kind → ℕ → ℕ
 field_to Far size = 0o10000
 field_to Number size = size
 field_to Pair size = size
 field_to Channel size = size
 
 -- the fields of a code lie in one row, and are the row's operands
-record Suits (extracode : Bool) (k least size : ℕ) (kind : Kind) : Type 0 where
-  few : k < length (table extracode)
-  low : (row_at extracode k).least ≤ least + field_from kind
-  high : least + field_to kind size ≤ (row_at extracode k).greatest + 1
-  room : field_to kind size ≤ 2 ^ row_bits extracode k
-  whole : least / 2 ^ row_bits extracode k * 2 ^ row_bits extracode k ≡ least
-  most : (row_at extracode k).greatest < 2 ^ 15
+pub record Suits (extracode : Bool) (k least size : ℕ) (kind : Kind) : Type 0 where
+  pub few : k < length (table extracode)
+  pub low : (row_at extracode k).least ≤ least + field_from kind
+  pub high : least + field_to kind size ≤ (row_at extracode k).greatest + 1
+  pub room : field_to kind size ≤ 2 ^ row_bits extracode k
+  pub whole : least / 2 ^ row_bits extracode k * 2 ^ row_bits extracode k ≡ least
+  pub most : (row_at extracode k).greatest < 2 ^ 15
 
-abbrev suits : Bool → ℕ → ℕ → ℕ → Kind → Bool
+abbrev pub suits : Bool → ℕ → ℕ → ℕ → Kind → Bool
 suits extracode k least size kind =
     let r = row_at extracode k in
     ltb k (length (table extracode)) && (leb r.least (least + field_from kind) && (leb (least + field_to kind size) (r.greatest + 1)
     && (leb (field_to kind size) (2 ^ row_bits extracode k) && (eqb (least / 2 ^ row_bits extracode k * 2 ^ row_bits extracode k) least && ltb r.greatest (2 ^ 15)))))
 
-if_suits : (extracode : Bool) (k least size : ℕ) (kind : Kind) → suits extracode k least size kind ≡ true → Suits extracode k least size kind
+pub if_suits : (extracode : Bool) (k least size : ℕ) (kind : Kind) → suits extracode k least size kind ≡ true → Suits extracode k least size kind
 if_suits extracode k least size kind e =
     let a = and_parts _ _ e in
     let b = and_parts _ _ a.1 in
@@ -168,10 +168,10 @@ number_text name extracode k least size n f Channel s texts (lt, is) =
     field_text name extracode k least size f Channel s (omega arith) (omega arith) texts ∙ ap (λ (m : ℕ). name ++ codes " " ++ octal_text 3 m) is
 
 -- a code gives a word of a number: its least word and a field
-abbrev Gives : Kind → ℕ → ℕ → ℕ → ℕ → Type 0
+abbrev pub Gives : Kind → ℕ → ℕ → ℕ → ℕ → Type 0
 Gives kind least size n word = and_then (λ f. Ok ((least + f) ∷ [])) (field kind size n) ≡ Ok (word ∷ [])
 
-given_text : (name : List ℕ) (extracode : Bool) (k least size n word : ℕ) (kind : Kind) → Suits extracode k least size kind
+pub given_text : (name : List ℕ) (extracode : Bool) (k least size n word : ℕ) (kind : Kind) → Suits extracode k least size kind
     → ((m : ℕ) → row_text extracode k m ≡ name ++ codes " " ++ shown_field kind size m)
     → Gives kind least size n word → disassembly extracode word ≡ name ++ codes " " ++ octal_text (digits kind) n
 given_text name extracode k least size n word kind s texts e =
@@ -180,10 +180,10 @@ given_text name extracode k least size n word kind s texts e =
     rw is (number_text name extracode k least size n h.0 kind s texts (field_ok kind size n h.0 h.1.0))
 
 -- where a basic code may stand, and where an extracode may
-abbrev basic_stands : Bool → Bool
+abbrev pub basic_stands : Bool → Bool
 basic_stands extracode = not extracode
 
-abbrev extra_stands : Bool → Bool
+abbrev pub extra_stands : Bool → Bool
 extra_stands extracode = extracode
 
 numbered_basic : (name : List ℕ) (k least size : ℕ) (kind : Kind) → suits false k least size kind ≡ true
@@ -236,11 +236,11 @@ gives_none : (text : List ℕ) → IsShown text (λ extracode word. ⊥) (λ ext
 gives_none text = record { alone = λ extracode word no. absurd no; with_number = λ extracode n word no own. absurd no }
 
 -- a word that is none with a name of its own
-no_own : (own word : ℕ) → is_own false own ≡ true → is_own false word ≡ false → word ≡ own → ⊥
+pub no_own : (own word : ℕ) → is_own false own ≡ true → is_own false word ≡ false → word ≡ own → ⊥
 no_own own word yes' no' e = absurd (let same : is_own false word ≡ is_own false own = ap (is_own false) e in cc)
 
 -- TC stands in three rows, between words with names of their own
-tc_text : (n word : ℕ) → n < 0o10000 → word ≡ n → is_own false word ≡ false → disassembly false word ≡ codes "TC" ++ codes " " ++ octal_text 4 n
+pub tc_text : (n word : ℕ) → n < 0o10000 → word ≡ n → is_own false word ≡ false → disassembly false word ≡ codes "TC" ++ codes " " ++ octal_text 4 n
 unfolding basic_rows instruction_text
 tc_text n word lt is own =
     let relint = no_own 3 word refl own in
@@ -255,7 +255,7 @@ tc_text n word lt is own =
     ]
 
 -- INDEX in two, around RESUME
-index_text : (n word : ℕ) → n < 0o2000 → word ≡ 0o50000 + n → is_own false word ≡ false → disassembly false word ≡ codes "INDEX" ++ codes " " ++ octal_text 4 n
+pub index_text : (n word : ℕ) → n < 0o2000 → word ≡ 0o50000 + n → is_own false word ≡ false → disassembly false word ≡ codes "INDEX" ++ codes " " ++ octal_text 4 n
 unfolding basic_rows instruction_text
 index_text n word lt is own =
     let resume = no_own 0o50017 word refl own in
@@ -264,7 +264,7 @@ index_text n word lt is own =
       | inr more ↦ (let above : 0o50020 ≤ word = omega (arith, resume) in shown_by_row false 16 word n (omega arith) (omega arith) (omega arith) (omega arith) (omega arith))
     ]
 
-number_ok : (least size n word : ℕ) → Gives Number least size n word → (n < size) × (word ≡ least + n)
+pub number_ok : (least size n word : ℕ) → Gives Number least size n word → (n < size) × (word ≡ least + n)
 number_ok least size n word e =
     let h = then_ok {A = ℕ} {B = List ℕ} (λ f. Ok ((least + f) ∷ [])) (field Number size n) (word ∷ []) e in
     let b : (n < size) × (h.0 ≡ n) = below_ok size n h.0 h.1.0 in
@@ -300,7 +300,7 @@ index size basic extra = record { alone = λ extracode word no. absurd no; with_
 
 -- one after another
 infixr 5 ◌&◌
-◌&◌ : {A B : Type 0} → A → B → A × B
+pub ◌&◌ : {A B : Type 0} → A → B → A × B
 a & b = (a, b)
 
 pub are_shown : AreShown

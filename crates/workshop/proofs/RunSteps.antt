@@ -1,5 +1,5 @@
 -- A run, step by step.
-use Rattle.std.proofs.Common.{◌≡◌, ℕ, ◌+◌, ◌^◌, ◌<◌, ◌≤◌, List, [], ◌++◌, length, Option, Some, None, refl, sym, ap, ◌∙◌, arith, append-nil, length-append, subst}
+use Rattle.std.proofs.Common.{◌≡◌, ℕ, ◌+◌, ◌^◌, ◌<◌, ◌≤◌, Bool, true, List, [], ◌++◌, length, Option, Some, None, refl, sym, ap, ◌∙◌, arith, append-nil, length-append, subst}
 use Rattle.std.proofs.lemmas.List.Concat.{flat_map-append}
 use Rattle.std.specs.Option.{option_to_list}
 use Rattle.words.specs.Devices.{WritesBeginning}
@@ -10,9 +10,8 @@ use Rattle.cpu.specs.Next.{next}
 use Rattle.cpu.specs.Run.{run, outs}
 use Rattle.cpu.proofs.RunLaws.{run-add-one, out-add-one, outs-zero, outs-add-one, cycles-run}
 use Rattle.cpu.proofs.TakenLaws.{run-fits}
-use Rattle.debugger.specs.ChannelLines.{channel_line, channel_lines}
-use Rattle.workshop.specs.Runs.{BreaksOff}
-use Rattle.workshop.specs.Steps.{outputs_after}
+use Rattle.cpu.specs.ChannelLines.{channel_line, channel_lines}
+use Rattle.workshop.specs.Runs.{BreaksOff, outputs_after}
 
 pub lines_of_none : channel_lines (option_to_list None) ≡ []
 unfolding channel_lines
@@ -76,3 +75,43 @@ breaks_off scenario steps n s a b c h e p r =
       within = omega (arith, h);
       written = rw (lines_more scenario n) (beginning-after a b c _ _ p here);
     }
+
+-- a run that ends after step n, where its lines could not be handed on
+pub breaks_off_after : (scenario : Scenario) (steps n : ℕ) (a b c : List ℕ) → n ≤ steps → b ≡ a ++ channel_lines (outs scenario n) → c ≡ b → BreaksOff scenario steps a c
+breaks_off_after scenario steps n a b c h p e =
+    record {
+      made = n;
+      within = h;
+      written =
+          record {
+            part = channel_lines (outs scenario n);
+            beginning = record { rest = []; whole = sym (append-nil (channel_lines (outs scenario n))) };
+            appended = e ∙ p;
+          };
+    }
+
+-- where a run stands after n steps: its machine, what is written besides what was old, and how many lines that is
+pub record Stands (told : Bool) (scenario : Scenario) (n : ℕ) (machine : State) (old new : List ℕ) (lines : ℕ) : Type 0 where
+  pub state : machine ≡ run scenario n
+  pub written : told ≡ true → new ≡ old ++ channel_lines (outs scenario n)
+  pub outputs : lines ≡ length (outs scenario n)
+
+pub stands_at_start : (told : Bool) (scenario : Scenario) (s : State) (a : List ℕ) → s ≡ run scenario 0 → Stands told scenario 0 s a a 0
+stands_at_start told scenario s a e =
+    record { state = e; written = λ _. start_writes scenario a; outputs = rw (outs-zero scenario) refl }
+
+pub stands_after_step : (told : Bool) (scenario now : Scenario) (n : ℕ) (s t : State) (a b c : List ℕ) (k j : ℕ) → now ≡ scenario → Stands told scenario n s a b k
+    → t ≡ (next now s).0 → (told ≡ true → c ≡ b ++ channel_lines (outputs_after now s)) → j ≡ length (outputs_after now s) → Stands told scenario (n + 1) t a c (k + j)
+stands_after_step told scenario now n s t a b c k j same before e w q =
+    record {
+      state = state_more scenario n s t before.state (subst (λ (u : Scenario). t ≡ (next u s).0) same e);
+      written = λ is_told.
+          lines_after scenario n s a b c before.state (before.written is_told) (subst (λ (u : Scenario). c ≡ b ++ channel_lines (outputs_after u s)) same (w is_told));
+      outputs = outputs_more scenario n s k j before.state before.outputs (subst (λ (u : Scenario). j ≡ length (outputs_after u s)) same q);
+    }
+
+pub stands_breaks_off : (told : Bool) (scenario now : Scenario) (steps n : ℕ) (s : State) (a b c : List ℕ) (k : ℕ) → n < steps → now ≡ scenario → Stands told scenario n s a b k
+    → told ≡ true → WritesBeginning b c (channel_lines (outputs_after now s)) → BreaksOff scenario steps a c
+stands_breaks_off told scenario now steps n s a b c k h same before is_told r =
+    breaks_off scenario steps n s a b c h before.state (before.written is_told)
+    (subst (λ (u : Scenario). WritesBeginning b c (channel_lines (outputs_after u s))) same r)

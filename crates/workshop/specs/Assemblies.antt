@@ -1,48 +1,39 @@
 -- What the engine that assembles answers, and what it has then written: the image to one writer, then the listing to another.
-use Rattle.std.specs.Prelude.{◌≡◌, ℕ, ◌⊎◌, List, ◌++◌, Result, Ok, Err, IsOkAnd}
-use Rattle.words.specs.Devices.{WritesBeginning}
+use Rattle.std.specs.Prelude.{◌≡◌, Result, Ok, Err}
 use Rattle.rope.specs.Image.{image}
 use Rattle.rope.specs.declared.spelling.Version.{Version}
 use Rattle.yayul.specs.Program.{Program}
 use Rattle.yayul.specs.Listing.{listing}
 use Rattle.workshop.specs.declared.fault.WorkshopFault.{WorkshopFault}
-use Rattle.workshop.specs.declared.fault.WorkshopFault.TheVariants.{NoMemory, ReadFailed, WriteFailed, Source, Feed, Rope, TooLong}
+use Rattle.workshop.specs.Failures.{Reader, Writer}
 use Rattle.workshop.specs.Inputs.{assembled}
+use Rattle.workshop.specs.Loading.{Reads, ReadsText}
+use Rattle.workshop.specs.Ropes.{WritesText}
 
--- what two writers hold
-pub record Pages : Type 0 where
-  pub image : List ℕ
-  pub listing : List ℕ
+-- what an engine that assembles has
+pub record Assembling : Type 0 where
+  pub source : Reader
+  pub image : Writer
+  pub listing : Writer
 
--- the whole image and the whole listing are written
-abbrev pub WritesBoth : Version → Program → Pages → Pages → Type 0
-WritesBoth version p old new = (new.image ≡ old.image ++ image version p.rope) × (new.listing ≡ old.listing ++ listing p)
+-- where the image was written the listing is, and after a failed write nothing of it
+abbrev pub ListsThen : Program → Result (Unit {0}) WorkshopFault → Writer → Writer → Result (Unit {0}) WorkshopFault → Type 0
+ListsThen p (Ok x) before after result = WritesText (listing p) before after result
+ListsThen p (Err fault) before after result = (result ≡ Err fault) × (after ≡ before)
 
--- a beginning of the image is written and nothing of the listing, or the whole image and a beginning of the listing
-abbrev pub WritesPart : Version → Program → Pages → Pages → Type 0
-WritesPart version p old new =
-    (WritesBeginning old.image new.image (image version p.rope) × (new.listing ≡ old.listing))
-    ⊎ ((new.image ≡ old.image ++ image version p.rope) × WritesBeginning old.listing new.listing (listing p))
+-- the image of a program is written, and then its listing
+pub record WritesProgram (version : Version) (p : Program) (before after : Assembling) (result : Result (Unit {0}) WorkshopFault) : Type 0 where
+  pub imaged : Result (Unit {0}) WorkshopFault
+  pub writes : WritesText (image version p.rope) before.image after.image imaged
+  pub next : ListsThen p imaged before.listing after.listing result
 
--- the program of a source is written, or the fault of the source is told and nothing is written. That memory ran out or a
--- read failed says nothing of the source, and nothing is written
-abbrev pub Assembles : Version → List ℕ → Pages → Pages → Result (Unit {0}) WorkshopFault → Type 0
-Assembles version source old new (Ok x) = IsOkAnd (assembled source) (λ p. WritesBoth version p old new)
-Assembles version source old new (Err NoMemory) = new ≡ old
-Assembles version source old new (Err ReadFailed) = new ≡ old
-Assembles version source old new (Err WriteFailed) = IsOkAnd (assembled source) (λ p. WritesPart version p old new)
-Assembles version source old new (Err (Source fault)) = (assembled source ≡ Err (Source fault)) × (new ≡ old)
-Assembles version source old new (Err (Feed fault)) = ⊥
-Assembles version source old new (Err (Rope fault)) = ⊥
-Assembles version source old new (Err TooLong) = (assembled source ≡ Err TooLong) × (new ≡ old)
+-- where a source was assembled its program is written, and after a fault nothing
+abbrev pub AssemblesThen : Version → Result Program WorkshopFault → Assembling → Assembling → Result (Unit {0}) WorkshopFault → Type 0
+AssemblesThen version (Ok p) before after result = WritesProgram version p before after result
+AssemblesThen version (Err fault) before after result = (result ≡ Err fault) × (after.image ≡ before.image) × (after.listing ≡ before.listing)
 
--- what is written of a program ends whole, or by a failed write
-abbrev pub WritesProgram : Version → Program → Pages → Pages → Result (Unit {0}) WorkshopFault → Type 0
-WritesProgram version p old new (Ok x) = WritesBoth version p old new
-WritesProgram version p old new (Err NoMemory) = ⊥
-WritesProgram version p old new (Err ReadFailed) = ⊥
-WritesProgram version p old new (Err WriteFailed) = WritesPart version p old new
-WritesProgram version p old new (Err (Source fault)) = ⊥
-WritesProgram version p old new (Err (Feed fault)) = ⊥
-WritesProgram version p old new (Err (Rope fault)) = ⊥
-WritesProgram version p old new (Err TooLong) = ⊥
+-- a source is read, and what was read decides what is written
+pub record Assembles (version : Version) (before after : Assembling) (result : Result (Unit {0}) WorkshopFault) : Type 0 where
+  pub program : Result Program WorkshopFault
+  pub reads : Reads (λ old new. ReadsText (assembled old) old new) before.source after.source program
+  pub next : AssemblesThen version program before after result

@@ -1,55 +1,110 @@
--- What the engine of the debugger answers, and what it has then written.
-use Rattle.std.specs.Prelude.{◌≡◌, ◌⊎◌, ℕ, Bool, false, List, [], Result, Ok, Err, IsOkAnd}
+-- What sessions over a program are opened, what the engine of the debugger answers, and what it has then written.
+use Rattle.std.specs.Prelude.{◌≡◌, ℕ, ◌+◌, ◌*◌, ◌≤◌, Bool, true, false, List, [], length, Result, Ok, Err, OnOk}
+use Rattle.words.specs.Readings.{TakesAtMost}
 use Rattle.cpu.specs.State.{State, start}
-use Rattle.debugger.specs.Transcript.{command_lines}
-use Rattle.debugger.specs.Sessions.{Setting, Commands, WritesReplies, BeginsReplies, EndsReading}
+use Rattle.debugger.specs.Transcript.{command_lines, lines_read, most_command_bytes}
+use Rattle.commands.specs.Extended.{extended_request_of}
+use Rattle.debugger.specs.Conversation.{Talk, Talks, lines_heard}
+use Rattle.debugger.specs.Sessions.{Setting, Debugs}
+use Rattle.debugger.specs.declared.fault.DebugFault.{DebugFault}
 use Rattle.replay.specs.Calls.{Told, Saw, TimeTravel}
 use Rattle.replay.specs.View.{SessionView}
 use Rattle.replay.specs.declared.calls.Call.{Call}
+use Rattle.workshop.specs.declared.debugging.Opened.{Opened}
 use Rattle.workshop.specs.declared.fault.WorkshopFault.{WorkshopFault}
-use Rattle.workshop.specs.declared.fault.WorkshopFault.TheVariants.{NoMemory, ReadFailed, WriteFailed, Source, Feed, Rope, TooLong}
+use Rattle.workshop.specs.declared.fault.WorkshopFault.TheVariants.{NoMemory}
+use Rattle.workshop.specs.Faults.{of_debug_fault}
 use Rattle.workshop.specs.declared.inputs.Loaded.{Loaded}
-use Rattle.workshop.specs.Inputs.{prepared, scenario_of}
+use Rattle.workshop.specs.declared.origin.Origin.{Origin}
+use Rattle.workshop.specs.declared.origin.Origin.TheVariants.{Source}
+use Rattle.workshop.specs.Failures.{Reader, Writer, has_read_failed, has_write_failed, failures_if}
+use Rattle.workshop.specs.Inputs.{scenario_of}
+use Rattle.workshop.specs.Loading.{Files, Loads}
 
 -- the session over a program and inputs that has made no step
 abbrev pub opened : Loaded → SessionView
 opened l = record { scenario = scenario_of l; meter = 0; images = []; present = start; shown = start; n = 0 }
 
--- what its commands are answered over: no step is refused for memory
-abbrev pub setting_of : Loaded → Setting
-setting_of l = record { may_refuse = false; symbols = l.program.symbols; scenario = scenario_of l }
+-- where a program and a feed were read a session over them is opened, unless memory ran out
+abbrev pub OpensThen : Result Loaded WorkshopFault → Result Opened WorkshopFault → Type 0
+OpensThen (Ok l) (Ok o) = (o.session ≡ opened l) × (o.symbols ≡ l.symbols)
+OpensThen (Ok l) (Err fault) = fault ≡ NoMemory
+OpensThen (Err fault) result = result ≡ Err fault
 
--- what answering the commands of a session comes to: the transcript is written; nothing where memory ran out; the replies to
--- the whole lines before a failed read; a beginning of the transcript after a failed write
-abbrev pub AnswersCommands : Setting → Commands → List ℕ → List ℕ → Result (Unit {0}) WorkshopFault → Type 0
-AnswersCommands s commands old new (Ok x) = WritesReplies s (command_lines commands.before) old new
-AnswersCommands s commands old new (Err NoMemory) = new ≡ old
-AnswersCommands s commands old new (Err ReadFailed) = EndsReading s commands old new
-AnswersCommands s commands old new (Err WriteFailed) = BeginsReplies s (command_lines commands.before) old new
-AnswersCommands s commands old new (Err (Source fault)) = ⊥
-AnswersCommands s commands old new (Err (Feed fault)) = ⊥
-AnswersCommands s commands old new (Err (Rope fault)) = ⊥
-AnswersCommands s commands old new (Err TooLong) = ⊥
+-- a program and a feed are read, and what was read decides what is opened
+pub record Opens (from : Origin) (before after : Files) (result : Result Opened WorkshopFault) : Type 0 where
+  pub loaded : Result Loaded WorkshopFault
+  pub loads : Loads from before after loaded
+  pub next : OpensThen loaded result
 
--- what the engine is given: the source, the feed, and the commands, of which some are left at its end
+-- how a session of commands has ended, as an engine tells it
+abbrev pub of_debugging : Result (Unit {0}) DebugFault → Result (Unit {0}) WorkshopFault
+of_debugging (Ok x) = Ok x
+of_debugging (Err fault) = Err (of_debug_fault fault)
+
+-- what a session that was opened is over: no step is refused for memory
+abbrev pub setting_of : Opened → Setting
+setting_of o = record { may_refuse = false; symbols = o.symbols; scenario = o.session.scenario }
+
+-- what an engine of commands has
 pub record Debugging : Type 0 where
-  pub source : List ℕ
-  pub feed : List ℕ
-  pub commands : Commands
+  pub files : Files
+  pub commands : Reader
+  pub out : Writer
 
--- the answer: the transcript is written, or a fault of the source or the feed is told and nothing is written. After a failed
--- write it is a beginning of the transcript; after a failed read of the commands the replies to the whole lines before, and
--- after one of the source or the feed nothing; nor where memory ran out
-abbrev pub DebugAnswers : Debugging → List ℕ → List ℕ → Result (Unit {0}) WorkshopFault → Type 0
-DebugAnswers d old new (Ok x) = IsOkAnd (prepared d.source d.feed) (λ l. WritesReplies (setting_of l) (command_lines d.commands.before) old new)
-DebugAnswers d old new (Err NoMemory) = new ≡ old
-DebugAnswers d old new (Err ReadFailed) =
-    (new ≡ old) ⊎ IsOkAnd (prepared d.source d.feed) (λ l. EndsReading (setting_of l) d.commands old new)
-DebugAnswers d old new (Err WriteFailed) = IsOkAnd (prepared d.source d.feed) (λ l. BeginsReplies (setting_of l) (command_lines d.commands.before) old new)
-DebugAnswers d old new (Err (Source fault)) = (prepared d.source d.feed ≡ Err (Source fault)) × (new ≡ old)
-DebugAnswers d old new (Err (Feed fault)) = (prepared d.source d.feed ≡ Err (Feed fault)) × (new ≡ old)
-DebugAnswers d old new (Err (Rope fault)) = ⊥
-DebugAnswers d old new (Err TooLong) = (prepared d.source d.feed ≡ Err TooLong) × (new ≡ old)
+-- the commands are answered over a session that was opened, which leaves another: the transcript is written where the commands
+-- and what is written are told, and at most three times as many steps are executed for each line as there are, besides those that
+-- are made; and the reader of the commands or the writer has failed exactly where that is answered
+pub record AnswersCommands (o : Opened) (before after : Debugging) (result : Result (Unit {0}) WorkshopFault) : Type 0 where
+  pub ended : Result (Unit {0}) DebugFault
+  pub session : SessionView
+  pub gives : result ≡ of_debugging ended
+  pub replies : before.commands.told ≡ true → before.out.told ≡ true →
+      Debugs (setting_of o) (record { before = before.commands.left; left = after.commands.left }) before.out.written after.out.written ended
+  pub cost : before.commands.told ≡ true → OnOk result
+      (session.meter ≤ o.session.meter + (3 * length (lines_read o.symbols (command_lines before.commands.left)) + 1) * session.n)
+  pub reader : after.commands.failures ≡ failures_if (has_read_failed result) before.commands.failures
+  pub writer : after.out.failures ≡ failures_if (has_write_failed result) before.out.failures
+  pub read : before.commands.told ≡ true → TakesAtMost most_command_bytes before.commands.left after.commands.left
+
+-- where a session was opened its commands are answered, and after a fault none is read and nothing written
+abbrev pub DebugsThen : Result Opened WorkshopFault → Debugging → Debugging → Result (Unit {0}) WorkshopFault → Type 0
+DebugsThen (Ok o) before after result = AnswersCommands o before after result
+DebugsThen (Err fault) before after result = (result ≡ Err fault) × (after.commands ≡ before.commands) × (after.out ≡ before.out)
+
+-- a session is opened, and what was opened decides what is debugged
+pub record DebugsProgram (from : Origin) (before after : Debugging) (result : Result (Unit {0}) WorkshopFault) : Type 0 where
+  pub opened : Result Opened WorkshopFault
+  pub opens : Opens from before.files after.files opened
+  pub next : DebugsThen opened before after result
+
+-- what an extended session that was opened is over
+abbrev pub talk_of : Opened → Talk
+talk_of o = record { may_refuse = false; read = extended_request_of o.symbols; scenario = o.session.scenario }
+
+-- the lines of an extended session are answered over a session that was opened, as commands are
+pub record AnswersExtended (o : Opened) (before after : Debugging) (result : Result (Unit {0}) WorkshopFault) : Type 0 where
+  pub ended : Result (Unit {0}) DebugFault
+  pub session : SessionView
+  pub gives : result ≡ of_debugging ended
+  pub replies : before.commands.told ≡ true → before.out.told ≡ true →
+      Talks (talk_of o) (record { before = before.commands.left; left = after.commands.left }) before.out.written after.out.written ended
+  pub cost : before.commands.told ≡ true → OnOk result
+      (session.meter ≤ o.session.meter + (3 * length (lines_heard (extended_request_of o.symbols) (command_lines before.commands.left)) + 1) * session.n)
+  pub reader : after.commands.failures ≡ failures_if (has_read_failed result) before.commands.failures
+  pub writer : after.out.failures ≡ failures_if (has_write_failed result) before.out.failures
+  pub read : before.commands.told ≡ true → TakesAtMost most_command_bytes before.commands.left after.commands.left
+
+-- where a session was opened its lines are answered, and after a fault none is read and nothing written
+abbrev pub DebugsExtendedThen : Result Opened WorkshopFault → Debugging → Debugging → Result (Unit {0}) WorkshopFault → Type 0
+DebugsExtendedThen (Ok o) before after result = AnswersExtended o before after result
+DebugsExtendedThen (Err fault) before after result = (result ≡ Err fault) × (after.commands ≡ before.commands) × (after.out ≡ before.out)
+
+-- a session is opened, and what was opened decides what is debugged
+pub record DebugsExtended (from : Origin) (before after : Debugging) (result : Result (Unit {0}) WorkshopFault) : Type 0 where
+  pub opened : Result Opened WorkshopFault
+  pub opens : Opens from before.files after.files opened
+  pub next : DebugsExtendedThen opened before after result
 
 -- the time-travel theorem, of the program of a source over the inputs of a feed: of a list of calls of a session over them
 -- that begins at the start, an observer saw some events, each call with its answer, and the session came to step n
@@ -59,3 +114,14 @@ pub record Travels {O : Type 0} (l : Loaded) (sees : O → Told → O → Type 0
   pub saw : Saw sees old events new
   pub travel : TimeTravel false returns (opened l) calls events session
   pub steps : n ≡ session.n
+
+-- a session is opened over the program of a source; where none is, the observer is as it was, and why is answered
+abbrev pub FollowsThen : {O : Type 0} → Result Opened WorkshopFault → O → O → Result ℕ WorkshopFault → Type 0
+FollowsThen (Ok o) old new (Ok n) = Unit {0}
+FollowsThen (Ok o) old new (Err fault) = ⊥
+FollowsThen (Err fault) old new result = (result ≡ Err fault) × (new ≡ old)
+
+pub record Follows {O : Type 0} (before after : Files) (old new : O) (result : Result ℕ WorkshopFault) : Type 0 where
+  pub opened : Result Opened WorkshopFault
+  pub opens : Opens Source before after opened
+  pub next : FollowsThen opened old new result

@@ -1,5 +1,5 @@
 -- The faults of an engine, and how they are told.
-use Rattle.std.specs.Prelude.{ℕ, ◌==◌, if◌then◌else◌, List, [], ◌++◌, codes, decimal, Option, None, Some}
+use Rattle.std.specs.Prelude.{ℕ, ◌==◌, if◌then◌else◌, List, ◌++◌, codes, decimal, Option, None, Some}
 use Rattle.yayul.specs.declared.faults.Fault.{Fault}
 use Rattle.yayul.specs.Program.{no_memory}
 use Rattle.feed.specs.Faults as feed
@@ -8,8 +8,41 @@ use Rattle.feed.specs.declared.fault.FeedFault.TheVariants as feed_fault
 use Rattle.rope.specs.Faults as rope
 use Rattle.rope.specs.declared.fault.RopeFault.{RopeFault}
 use Rattle.rope.specs.declared.fault.RopeFault.TheVariants as rope_fault
+use Rattle.debugger.specs.declared.fault.DebugFault.{DebugFault}
+use Rattle.debugger.specs.declared.fault.DebugFault.TheVariants as debug_fault
+use Rattle.words.specs.declared.text.ReadFault.{ReadFault}
+use Rattle.words.specs.declared.text.ReadFault.TheVariants as read_fault
 use Rattle.workshop.specs.declared.fault.WorkshopFault.{WorkshopFault}
 use Rattle.workshop.specs.declared.fault.WorkshopFault.TheVariants.{NoMemory, ReadFailed, WriteFailed, Source, Feed, Rope, TooLong}
+
+-- a fault of a text that is read whole, as an engine tells it
+abbrev pub of_read_fault : ReadFault → WorkshopFault
+of_read_fault read_fault.NoMemory = NoMemory
+of_read_fault read_fault.ReadFailed = ReadFailed
+of_read_fault read_fault.TooLong = TooLong
+
+-- a fault of a source, as an engine tells it
+abbrev pub of_source_fault : Fault → WorkshopFault
+of_source_fault fault = if fault.number == no_memory.number then NoMemory else Source fault
+
+-- a fault of a feed, as an engine tells it
+abbrev pub of_feed_fault : FeedFault → WorkshopFault
+of_feed_fault feed_fault.NoMemory = NoMemory
+of_feed_fault feed_fault.ReadFailed = ReadFailed
+of_feed_fault feed_fault.TooLong = TooLong
+of_feed_fault fault = Feed fault
+
+-- a fault of an image, as an engine tells it
+abbrev pub of_rope_fault : RopeFault → WorkshopFault
+of_rope_fault rope_fault.NoMemory = NoMemory
+of_rope_fault rope_fault.ReadFailed = ReadFailed
+of_rope_fault fault = Rope fault
+
+-- what ends a session of commands early, as an engine tells it
+abbrev pub of_debug_fault : DebugFault → WorkshopFault
+of_debug_fault debug_fault.NoMemory = NoMemory
+of_debug_fault debug_fault.ReadFailed = ReadFailed
+of_debug_fault debug_fault.WriteFailed = WriteFailed
 
 -- the number that a fault is told by
 abbrev pub number_of : WorkshopFault → ℕ
@@ -27,22 +60,13 @@ source_line_of fault = if fault.line == 0 then None else Some fault.line
 
 -- the line that a fault stands on
 abbrev pub line_of : WorkshopFault → Option ℕ
-line_of NoMemory = None
-line_of ReadFailed = None
-line_of WriteFailed = None
 line_of (Source fault) = source_line_of fault
 line_of (Feed fault) = feed.line_of fault
-line_of (Rope fault) = None
-line_of TooLong = None
-
--- how a line is told
-abbrev pub line_text : Option ℕ → List ℕ
-line_text None = []
-line_text (Some line) = codes " LINE " ++ decimal line
+line_of _ = None
 
 -- the line of text that tells a fault
 abbrev pub fault_text : WorkshopFault → List ℕ
-fault_text fault = codes "agcws: E" ++ decimal (number_of fault) ++ line_text (line_of fault) ++ codes "\n"
+fault_text fault = codes "agcws: E" ++ decimal (number_of fault) ++ feed.line_text (line_of fault) ++ codes "\n"
 
 -- the exit status of a program whose input is refused
 abbrev pub input_refused : ℕ

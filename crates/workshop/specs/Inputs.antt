@@ -1,14 +1,17 @@
--- What an engine makes of its source and its feed.
-use Rattle.std.specs.Prelude.{ℕ, nat_lt, if◌then◌else◌, List, length, Result, Ok, Err}
+-- What an engine makes of a source and of a feed.
+use Rattle.std.specs.Prelude.{ℕ, nat_lt, if◌then◌else◌, List, [], length, Result, Ok, Err}
+use Rattle.symbols.specs.Values.{SymbolTable}
 use Rattle.yayul.specs.Program.{Program, program}
 use Rattle.yayul.specs.declared.faults.Fault.{Fault}
 use Rattle.feed.specs.Feed.{inputs, most_bytes}
 use Rattle.feed.specs.declared.fault.FeedFault.{FeedFault}
-use Rattle.feed.specs.declared.fault.FeedFault.TheVariants as feed_fault
 use Rattle.feed.specs.declared.entry.Entry.{Entry}
+use Rattle.rope.specs.Places.{Words}
+use Rattle.rope.specs.declared.fault.RopeFault.{RopeFault}
 use Rattle.cpu.specs.State.{Scenario}
 use Rattle.workshop.specs.declared.fault.WorkshopFault.{WorkshopFault}
-use Rattle.workshop.specs.declared.fault.WorkshopFault.TheVariants.{NoMemory, ReadFailed, Source, Feed, TooLong}
+use Rattle.workshop.specs.declared.fault.WorkshopFault.TheVariants.{Source, TooLong}
+use Rattle.workshop.specs.Faults.{of_feed_fault, of_rope_fault}
 use Rattle.workshop.specs.declared.inputs.Loaded.{Loaded}
 
 -- a program, or a fault of the source
@@ -20,31 +23,35 @@ of_source (Err fault) = Err (Source fault)
 abbrev pub assembled : List ℕ → Result Program WorkshopFault
 assembled source = if nat_lt most_bytes (length source) then Err TooLong else of_source (program source)
 
--- a fault of the feed, as an engine tells it
-abbrev pub of_feed_fault : FeedFault → WorkshopFault
-of_feed_fault feed_fault.NoMemory = NoMemory
-of_feed_fault feed_fault.ReadFailed = ReadFailed
-of_feed_fault (feed_fault.BadLine line) = Feed (feed_fault.BadLine line)
-of_feed_fault (feed_fault.OutOfOrder line) = Feed (feed_fault.OutOfOrder line)
-of_feed_fault feed_fault.TooMany = Feed feed_fault.TooMany
-of_feed_fault (feed_fault.WrongCounter line) = Feed (feed_fault.WrongCounter line)
-of_feed_fault feed_fault.TooLong = TooLong
-of_feed_fault (feed_fault.TooManySeries line) = Feed (feed_fault.TooManySeries line)
+-- inputs, or a fault of the feed
+abbrev pub of_feed : Result (List Entry) FeedFault → Result (List Entry) WorkshopFault
+of_feed (Ok is) = Ok is
+of_feed (Err fault) = Err (of_feed_fault fault)
 
--- a program and inputs, or a fault of the feed
-abbrev pub of_feed : Program → Result (List Entry) FeedFault → Result Loaded WorkshopFault
-of_feed p (Ok is) = Ok (record { program = p; feed = is })
-of_feed p (Err fault) = Err (of_feed_fault fault)
+-- a program as it runs: its words in their places, and its symbols
+abbrev pub Code : Type 0
+Code = Words × SymbolTable
 
--- a program and the inputs of a feed, or its fault
-abbrev pub with_feed : List ℕ → Result Program WorkshopFault → Result Loaded WorkshopFault
-with_feed feed (Err fault) = Err fault
-with_feed feed (Ok p) = of_feed p (inputs feed)
+-- what a source gives
+abbrev pub code_of : Result Program WorkshopFault → Result Code WorkshopFault
+code_of (Ok p) = Ok (p.rope, p.symbols)
+code_of (Err fault) = Err fault
 
--- the program of a source and the inputs of a feed, or the first fault: those of the source come before those of the feed
+-- what an image gives: its words, without symbols
+abbrev pub imaged : Result Words RopeFault → Result Code WorkshopFault
+imaged (Ok words) = Ok (words, [])
+imaged (Err fault) = Err (of_rope_fault fault)
+
+-- a program and inputs, or the first fault: that of the program comes before that of the feed
+abbrev pub loaded : Result Code WorkshopFault → Result (List Entry) WorkshopFault → Result Loaded WorkshopFault
+loaded (Err fault) inputs = Err fault
+loaded (Ok code) (Err fault) = Err fault
+loaded (Ok code) (Ok is) = Ok (record { rope = code.0; symbols = code.1; feed = is })
+
+-- the program of a source and the inputs of a feed, or the first fault
 unfoldable pub prepared : List ℕ → List ℕ → Result Loaded WorkshopFault
-prepared source feed = with_feed feed (assembled source)
+prepared source feed = loaded (code_of (assembled source)) (of_feed (inputs feed))
 
 -- what runs
 abbrev pub scenario_of : Loaded → Scenario
-scenario_of l = record { rope = l.program.rope; inputs = l.feed }
+scenario_of l = record { rope = l.rope; inputs = l.feed }

@@ -1,10 +1,11 @@
 -- What joins assembler and machine: how the machine reads the words that the assembler makes.
-use Rattle.std.specs.Prelude.{◌≡◌, ℕ, ◌==◌, ◌&&◌, not, Bool, false, List, [], ◌∷◌, ◌++◌, codes, unwrap_or}
+use Rattle.std.specs.Prelude.{◌≡◌, ◌⊎◌, MatchOption, slice_get, ◌<◌, ◌^◌, nat_le, ℕ, ◌==◌, ◌&&◌, not, Bool, false, List, [], ◌∷◌, ◌++◌, codes, unwrap_or}
 use Rattle.std.specs.List.{AllByRecursion, list_any}
 use Rattle.words.specs.Numerals.{octal_text}
 use Rattle.agc_text.specs.Tables.{value_in}
+use Rattle.cpu.specs.Next.{extracode_after}
 use Rattle.cpu.specs.Texts.{disassembly}
-use Rattle.yayul.specs.Laws.{instructions, GivesAlone, GivesWith, operand_digits}
+use Rattle.yayul.specs.Laws.{instructions, GivesAlone, GivesWith, operand_digits, LeavesExtracode}
 
 -- the other names of instructions, each with the name or with the whole text by which its words are shown
 abbrev pub spellings : List (List ℕ × List ℕ)
@@ -51,3 +52,37 @@ pub record IsShown (text : List ℕ) (GivesAlone : Bool → ℕ → Type 0) (Giv
 -- Each operator of an instruction is shown so.
 abbrev pub AreShown : Type 0
 AreShown = AllByRecursion (λ row. IsShown (shown_as row.0) (GivesAlone row.1) (GivesWith row.1) (operand_digits row.1)) instructions
+
+-- ## Extracode
+-- after a word of an operator extracode is in force for the machine as it is for the assembler on the next line that gives words
+pub record IsAgreedAfter (GivesAlone : Bool → ℕ → Type 0) (GivesWith : Bool → ℕ → ℕ → Type 0) (LeavesExtracode : Bool → Bool → Type 0) : Type 0 where
+  pub alone : (extracode : Bool) (word : ℕ) → GivesAlone extracode word → LeavesExtracode extracode (extracode_after extracode word)
+  pub with_number : (extracode : Bool) (n word : ℕ) → GivesWith extracode n word → is_own extracode word ≡ false → LeavesExtracode extracode (extracode_after extracode word)
+
+-- It is so after each operator of an instruction, where it stands as its row asks. (The word of TC 6 is that of EXTEND, and so stands apart.)
+abbrev pub AreAgreed : Type 0
+AreAgreed = AllByRecursion (λ row. IsAgreedAfter (GivesAlone row.1) (GivesWith row.1) (LeavesExtracode row.1)) instructions
+
+-- ## Written as it is shown
+-- a word is shown by a name, and an operator of this name gives it alone; or by the name and a number, and the operator gives it of the number
+pub record IsGivenWith (extracode : Bool) (word : ℕ) (name : List ℕ) (GivesWith : Bool → ℕ → ℕ → Type 0) (digits : ℕ) : Type 0 where
+  pub number : ℕ
+  pub shown : disassembly extracode word ≡ name ++ codes " " ++ octal_text digits number
+  pub gives : GivesWith extracode number word
+
+abbrev pub IsGiven : Bool → ℕ → List ℕ → (Bool → ℕ → Type 0) → (Bool → ℕ → ℕ → Type 0) → ℕ → Type 0
+IsGiven extracode word name GivesAlone GivesWith digits =
+    ((disassembly extracode word ≡ name) × GivesAlone extracode word) ⊎ IsGivenWith extracode word name GivesWith digits
+
+-- a row of the assembler's operators gives a word as it is shown
+pub record IsWritten (extracode : Bool) (word : ℕ) : Type 0 where
+  pub row : ℕ
+  pub by : MatchOption (slice_get instructions row) ⊥ (λ r. IsGiven extracode word r.0 (GivesAlone r.1) (GivesWith r.1) (operand_digits r.1))
+
+-- the words of EDRUPT, which has no operator
+abbrev pub is_edrupt : Bool → ℕ → Bool
+is_edrupt extracode word = extracode && nat_le 0o7000 word && nat_le word 0o7777
+
+-- Each word, under extracode or not, but EDRUPT's.
+abbrev pub AreWritten : Type 0
+AreWritten = (extracode : Bool) (word : ℕ) → word < 2 ^ 15 → is_edrupt extracode word ≡ false → IsWritten extracode word

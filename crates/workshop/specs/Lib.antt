@@ -1,12 +1,12 @@
 pub mod Assemblies
+pub mod Covers
 pub mod Debugging
 pub mod Failures
 pub mod Faults
-pub mod Images
 pub mod Inputs
 pub mod Laws
-pub mod Refusals
+pub mod Loading
 pub mod Ropes
 pub mod Runs
-pub mod Steps
-pub mod Upgrades
+pub mod Traces
+pub mod Progress

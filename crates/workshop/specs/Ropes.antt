@@ -1,47 +1,88 @@
--- What the engines answer that show images as text, and what they have then written.
-use Rattle.std.specs.Prelude.{◌≡◌, ℕ, List, ◌++◌, length, Result, Ok, Err}
-use Rattle.words.specs.Devices.{WritesBeginning}
+-- What the engines answer that read images, and what they have then written.
+use Rattle.std.specs.Prelude.{◌≡◌, ℕ, true, List, ◌++◌, length, Result, Ok, Err, IfOk, if◌then◌else◌}
+use Rattle.words.specs.Devices.{WritesBeginning, one_more}
 use Rattle.rope.specs.Places.{Words}
-use Rattle.rope.specs.Reading.{ReadsImage}
+use Rattle.rope.specs.Dumps.{ReadsDump}
+use Rattle.rope.specs.Reading.{ReadsImage, has_read_failed}
 use Rattle.rope.specs.declared.spelling.Version.{Version}
 use Rattle.rope.specs.declared.fault.RopeFault.{RopeFault}
 use Rattle.audit.specs.Differences.{differing, differences}
+use Rattle.audit.specs.Parities.{wrong, parities}
 use Rattle.workshop.specs.declared.fault.WorkshopFault.{WorkshopFault}
 use Rattle.workshop.specs.declared.fault.WorkshopFault.TheVariants.{WriteFailed}
-use Rattle.workshop.specs.Upgrades.{Images, WritesText, of_rope_fault}
+use Rattle.workshop.specs.Failures.{Reader, Writer}
+use Rattle.workshop.specs.Faults.{of_rope_fault}
+
+-- an image is read, where its bytes are told; and the reader has failed exactly where that is answered
+pub record ReadsRope (version : Version) (before after : Reader) (read : Result Words RopeFault) : Type 0 where
+  pub bytes : before.told ≡ true → ReadsImage version before.left after.left read
+  pub failures : after.failures ≡ (if has_read_failed read then one_more before.failures else before.failures)
+
+-- a text is written: all of it, or a beginning of it where the writer has failed
+abbrev pub WritesText : {T : Type 0} → List ℕ → Writer → Writer → Result T WorkshopFault → Type 0
+WritesText text before after (Ok x) = (before.told ≡ true → after.written ≡ before.written ++ text) × (after.failures ≡ before.failures)
+WritesText text before after (Err WriteFailed) =
+    (before.told ≡ true → WritesBeginning before.written after.written text) × (after.failures ≡ one_more before.failures)
+WritesText text before after (Err _) = ⊥
+
+-- where an image was read a text of its words is written, and after a fault nothing
+abbrev pub ShowsThen : (Words → List ℕ) → Result Words RopeFault → Writer → Writer → Result (Unit {0}) WorkshopFault → Type 0
+ShowsThen text (Ok words) before after result = WritesText (text words) before after result
+ShowsThen text (Err fault) before after result = (result ≡ Err (of_rope_fault fault)) × (after ≡ before)
+
+-- what an engine has that shows an image
+pub record Showing : Type 0 where
+  pub image : Reader
+  pub out : Writer
 
 -- an image is read, and what was read decides what is written
-pub record Shows (version : Version) (text : Words → List ℕ) (old new : Images) (result : Result (Unit {0}) WorkshopFault) : Type 0 where
+pub record Shows (version : Version) (text : Words → List ℕ) (before after : Showing) (result : Result (Unit {0}) WorkshopFault) : Type 0 where
   pub read : Result Words RopeFault
-  pub reads : ReadsImage version old.left new.left read
-  pub writes : WritesText text read old.written new.written result
+  pub reads : ReadsRope version before.image after.image read
+  pub next : ShowsThen text read before.out after.out result
 
--- what an engine that compares has: what is left of the two images, and what is written
-pub record Compared : Type 0 where
-  pub old : List ℕ
-  pub new : List ℕ
-  pub written : List ℕ
+-- where the second image was read too their differences are written, and how many there are is answered
+abbrev pub WritesDifferences : Words → Result Words RopeFault → Writer → Writer → Result ℕ WorkshopFault → Type 0
+WritesDifferences words (Ok others) before after result =
+    WritesText (differences words others) before after result × IfOk result (λ count. count ≡ length (differing words others))
+WritesDifferences words (Err fault) before after result = (result ≡ Err (of_rope_fault fault)) × (after ≡ before)
 
--- what is written, and answered, where the second image was read too: the differences, and how many there are
-abbrev pub WritesDifferences : Words → Result Words RopeFault → List ℕ → List ℕ → Result ℕ WorkshopFault → Type 0
-WritesDifferences words (Ok others) old new (Ok count) = (new ≡ old ++ differences words others) × (count ≡ length (differing words others))
-WritesDifferences words (Ok others) old new (Err fault) = (fault ≡ WriteFailed) × WritesBeginning old new (differences words others)
-WritesDifferences words (Err fault) old new result = (result ≡ Err (of_rope_fault fault)) × (new ≡ old)
+-- what an engine has that compares two images
+pub record Comparing : Type 0 where
+  pub old : Reader
+  pub new : Reader
+  pub out : Writer
 
--- the second image is read, and what was read decides what is written
-pub record ComparesNext (version : Version) (words : Words) (before after : Compared) (result : Result ℕ WorkshopFault) : Type 0 where
+-- where the first image was read the second is, and after a fault nothing of it, and nothing is written
+pub record ComparesNext (version : Version) (words : Words) (before after : Comparing) (result : Result ℕ WorkshopFault) : Type 0 where
   pub read : Result Words RopeFault
-  pub reads : ReadsImage version before.new after.new read
-  pub writes : WritesDifferences words read before.written after.written result
+  pub reads : ReadsRope version before.new after.new read
+  pub next : WritesDifferences words read before.out after.out result
 
--- where the first image was refused, nothing of the second is read, and nothing is written
-abbrev pub ComparesThen : Version → Result Words RopeFault → Compared → Compared → Result ℕ WorkshopFault → Type 0
+abbrev pub ComparesThen : Version → Result Words RopeFault → Comparing → Comparing → Result ℕ WorkshopFault → Type 0
 ComparesThen version (Ok words) before after result = ComparesNext version words before after result
 ComparesThen version (Err fault) before after result =
-    (result ≡ Err (of_rope_fault fault)) × (after.new ≡ before.new) × (after.written ≡ before.written)
+    (result ≡ Err (of_rope_fault fault)) × (after.new ≡ before.new) × (after.out ≡ before.out)
 
 -- the first image is read, and then the second
-pub record Compares (first second : Version) (before after : Compared) (result : Result ℕ WorkshopFault) : Type 0 where
+pub record Compares (first second : Version) (before after : Comparing) (result : Result ℕ WorkshopFault) : Type 0 where
   pub read : Result Words RopeFault
-  pub reads : ReadsImage first before.old after.old read
+  pub reads : ReadsRope first before.old after.old read
   pub next : ComparesThen second read before after result
+
+-- the bytes of an image are read, where they are told; and the reader has failed exactly where that is answered
+pub record ReadsBytes (before after : Reader) (read : Result (List ℕ) RopeFault) : Type 0 where
+  pub bytes : before.told ≡ true → ReadsDump before.left after.left read
+  pub failures : after.failures ≡ (if has_read_failed read then one_more before.failures else before.failures)
+
+-- where the bytes of an image were read the words with a wrong parity are written, and how many there are is answered
+abbrev pub WritesParities : Result (List ℕ) RopeFault → Writer → Writer → Result ℕ WorkshopFault → Type 0
+WritesParities (Ok image) before after result =
+    WritesText (parities image) before after result × IfOk result (λ count. count ≡ length (wrong image))
+WritesParities (Err fault) before after result = (result ≡ Err (of_rope_fault fault)) × (after ≡ before)
+
+-- the bytes of an image are read, and what was read decides what is written
+pub record TellsParity (before after : Showing) (result : Result ℕ WorkshopFault) : Type 0 where
+  pub read : Result (List ℕ) RopeFault
+  pub reads : ReadsBytes before.image after.image read
+  pub next : WritesParities read before.out after.out result

@@ -1,15 +1,22 @@
 -- What an engine that runs a program answers, and what it has then written.
-use Rattle.std.specs.Prelude.{◌≡◌, ℕ, ◌≤◌, List, ◌++◌, length, codes, decimal, Result, Ok, Err, IsOkAnd}
-use Rattle.words.specs.Devices.{WritesBeginning}
+use Rattle.std.specs.Prelude.{◌≡◌, ℕ, ◌≤◌, true, List, ◌++◌, length, codes, decimal, Result, Ok, Err}
+use Rattle.std.specs.Option.{option_to_list}
+use Rattle.words.specs.Devices.{WritesBeginning, one_more}
 use Rattle.words.specs.Numerals.{octal_text}
-use Rattle.cpu.specs.State.{Scenario}
+use Rattle.cpu.specs.declared.output.Output.{Output}
+use Rattle.cpu.specs.State.{Scenario, State}
+use Rattle.cpu.specs.Next.{next}
 use Rattle.cpu.specs.Run.{run, outs}
 use Rattle.cpu.specs.Effects.{next_address}
+use Rattle.cpu.specs.ChannelLines.{channel_lines}
 use Rattle.workshop.specs.declared.engine.Summary.{Summary}
 use Rattle.workshop.specs.declared.fault.WorkshopFault.{WorkshopFault}
-use Rattle.workshop.specs.declared.fault.WorkshopFault.TheVariants.{NoMemory, ReadFailed, WriteFailed, Source, Feed, Rope, TooLong}
-use Rattle.debugger.specs.ChannelLines.{channel_lines}
-use Rattle.workshop.specs.Inputs.{prepared, scenario_of}
+use Rattle.workshop.specs.declared.fault.WorkshopFault.TheVariants.{WriteFailed}
+use Rattle.workshop.specs.declared.inputs.Loaded.{Loaded}
+use Rattle.workshop.specs.declared.origin.Origin.{Origin}
+use Rattle.workshop.specs.Failures.{Writer}
+use Rattle.workshop.specs.Inputs.{scenario_of}
+use Rattle.workshop.specs.Loading.{Files, Loads}
 
 -- the summary of a run: its steps, its cycles, how many outputs it has, and Z at its end
 abbrev pub summary_of : Scenario → ℕ → Summary
@@ -23,6 +30,10 @@ end_line s =
     codes "END STEPS " ++ decimal s.steps ++ codes " CYCLES " ++ decimal s.cycles ++ codes " OUTPUTS " ++ decimal s.outputs
     ++ codes " Z " ++ octal_text 4 s.z ++ codes "\n"
 
+-- the outputs of the step that follows a state
+abbrev pub outputs_after : Scenario → State → List Output
+outputs_after scenario s = option_to_list (next scenario s).1
+
 -- all steps are made, and the lines of their outputs written
 pub record Finishes (scenario : Scenario) (steps : ℕ) (old new : List ℕ) (summary : Summary) : Type 0 where
   pub written : new ≡ old ++ channel_lines (outs scenario steps)
@@ -34,20 +45,26 @@ pub record BreaksOff (scenario : Scenario) (steps : ℕ) (old new : List ℕ) : 
   pub within : made ≤ steps
   pub written : WritesBeginning old new (channel_lines (outs scenario made))
 
--- what an engine is asked for: some steps of the program of a source, over a feed
-pub record Task : Type 0 where
-  pub source : List ℕ
-  pub feed : List ℕ
-  pub steps : ℕ
+-- a run of some steps ends by its steps, or where the writer has failed: what is said of what is written holds where that is told
+abbrev pub Makes : Scenario → ℕ → Writer → Writer → Result Summary WorkshopFault → Type 0
+Makes scenario steps before after (Ok summary) =
+    (before.told ≡ true → Finishes scenario steps before.written after.written summary) × (after.failures ≡ before.failures)
+Makes scenario steps before after (Err WriteFailed) =
+    (before.told ≡ true → BreaksOff scenario steps before.written after.written) × (after.failures ≡ one_more before.failures)
+Makes scenario steps before after (Err _) = ⊥
 
--- the answer to a task, where what is written grows from old to new: a fault of the source or the feed, and nothing is
--- written; else how the run ends. That memory ran out or a read failed says nothing of the task, and nothing is written
-abbrev pub Answers : Task → List ℕ → List ℕ → Result Summary WorkshopFault → Type 0
-Answers t old new (Ok summary) = IsOkAnd (prepared t.source t.feed) (λ l. Finishes (scenario_of l) t.steps old new summary)
-Answers t old new (Err NoMemory) = new ≡ old
-Answers t old new (Err ReadFailed) = new ≡ old
-Answers t old new (Err WriteFailed) = IsOkAnd (prepared t.source t.feed) (λ l. BreaksOff (scenario_of l) t.steps old new)
-Answers t old new (Err (Source fault)) = (prepared t.source t.feed ≡ Err (Source fault)) × (new ≡ old)
-Answers t old new (Err (Feed fault)) = (prepared t.source t.feed ≡ Err (Feed fault)) × (new ≡ old)
-Answers t old new (Err (Rope fault)) = ⊥
-Answers t old new (Err TooLong) = (prepared t.source t.feed ≡ Err TooLong) × (new ≡ old)
+-- where a program and a feed were read their run is made, and after a fault nothing is written
+abbrev pub RunsThen : ℕ → Result Loaded WorkshopFault → Writer → Writer → Result Summary WorkshopFault → Type 0
+RunsThen steps (Ok l) before after result = Makes (scenario_of l) steps before after result
+RunsThen steps (Err fault) before after result = (result ≡ Err fault) × (after ≡ before)
+
+-- what an engine that runs has
+pub record Running : Type 0 where
+  pub files : Files
+  pub out : Writer
+
+-- a program and a feed are read, and what was read decides what runs
+pub record Runs (from : Origin) (steps : ℕ) (before after : Running) (result : Result Summary WorkshopFault) : Type 0 where
+  pub loaded : Result Loaded WorkshopFault
+  pub loads : Loads from before.files after.files loaded
+  pub next : RunsThen steps loaded before.out after.out result

@@ -35,8 +35,6 @@ pub fn write_end<W: Write>(summary: &Summary, out: &mut W) -> Result<(), Worksho
     ensures failures { W.failures out.new ≡ failures_after (W.failures out.old) result }
     ensures fault { IfErr result (λ e. e ≡ WorkshopFault.WriteFailed) }
 {
-    match write_all(out, end_line(summary).as_slice()) {
-        Ok(()) => Ok(()),
-        Err(_) => Err(WorkshopFault::WriteFailed),
-    }
+    write_all(out, end_line(summary).as_slice())?;
+    Ok(())
 }

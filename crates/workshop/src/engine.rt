@@ -1,22 +1,21 @@
 //! The engine that runs a program.
 
-ghost use Rattle.std.specs.Prelude.{◌≡◌, ◌+◌, ◌-◌, ◌≤◌, ◌<◌, ◌^◌, true, false, length, IfOk, IfErr, IsErr};
+ghost use Rattle.std.specs.Prelude.{◌≡◌, ◌+◌, ◌-◌, ◌≤◌, ◌<◌, ◌^◌, true, false, length, IfOk, IfErr, IsErr, OnOk};
 ghost use Rattle.std.specs.Bool.{OnTrue, OnFalse};
 ghost use Rattle.words.specs.Devices.{Writes, failures_after};
-ghost use Rattle.words.specs.Readings.{TakesAtMost};
-ghost use Rattle.debugger.specs.ChannelLines.{channel_line, channel_lines};
-ghost use Rattle.feed.specs.Feed.{most_bytes};
-ghost use Rattle.workshop.specs.Inputs.{assembled};
-ghost use Rattle.workshop.specs.Failures.{has_read_failed, has_write_failed, failures_if, OneFails, most_read};
-ghost use Rattle.workshop.specs.Runs.{Answers};
-ghost use Rattle.workshop.specs.Steps.{Runs, outputs_after};
+ghost use Rattle.cpu.specs.ChannelLines.{channel_line, channel_lines};
+ghost use Rattle.workshop.specs.Failures.{reader, writer};
+ghost use Rattle.workshop.specs.Progress.{TellsRun};
+ghost use Rattle.workshop.specs.Runs.{Runs, Makes, outputs_after};
 ghost use Rattle.cpu.specs.Next.{next};
 ghost use Rattle.cpu.specs.State.{FitsRun};
 
 use crate::fault::WorkshopFault;
-use crate::inputs::read_inputs;
-use cpu::{Machine, Output, Processor};
-use debugger::write_channel_line;
+use crate::inputs::load;
+use crate::origin::Origin;
+use crate::progress::{Unheard, tell};
+use cpu::{Machine, Output, Processor, write_channel_line};
+use rope::Version;
 use space::numbers::{Chan, Eras};
 use std::alloc::Global;
 use words::{Read, Word, Write, WriteFailed};
@@ -45,11 +44,7 @@ pub fn may_run(steps: u64) -> bool
     steps <= MOST_STEPS
 }
 
-/// Assembles the source, reads the feed, and runs the program for some steps: the line of each output is written, as
-/// `7 CH 010 00012` with the cycles, the channel and the word.
-///
-/// The source and the feed have at most 8,388,608 bytes each. The first fault of the source is answered, else that of the
-/// feed, and then nothing is written.
+/// Assembles the source, reads the feed, and runs the program for some steps: see `run_program`.
 pub fn run_engine<S: Read, F: Read, W: Write>(
     alloc: Global,
     source: &mut S,
@@ -58,48 +53,107 @@ pub fn run_engine<S: Read, F: Read, W: Write>(
     out: &mut W,
 ) -> Result<Summary, WorkshopFault>
     requires { steps ≤ 2 ^ 40 - 2 }
-    ensures answer { S.told ≡ true → F.told ≡ true → W.told ≡ true →
-        Answers (record { source = S.left source.old; feed = F.left feed.old; steps = steps }) (W.written out.old) (W.written out.new) result }
-
-    // E6 only where a reader has failed, the feed's only once the source is assembled; E7 only where the writer has.
-    ensures readers { OneFails (has_read_failed result) (S.failures source.old) (S.failures source.new) (F.failures feed.old) (F.failures feed.new) }
-    // Nothing of the feed is read before the source is assembled.
-    ensures source_first { S.told ≡ true → IsErr (assembled (S.left source.old)) → F.failures feed.new ≡ F.failures feed.old }
-    ensures feed_kept { S.told ≡ true → IsErr (assembled (S.left source.old)) → F.left feed.new ≡ F.left feed.old }
-    ensures writer { W.failures out.new ≡ failures_if (has_write_failed result) (W.failures out.old) }
-
-    // No more is read than it takes to tell that there is too much.
-    ensures source_read { S.told ≡ true → TakesAtMost (most_read result) (S.left source.old) (S.left source.new) }
-    ensures feed_read { F.told ≡ true → TakesAtMost (most_read result) (F.left feed.old) (F.left feed.new) }
+    ensures runs { Runs Origin.Source steps
+        (record { files = record { program = reader S.told S.left S.failures source.old; feed = reader F.told F.left F.failures feed.old }; out = writer W.told W.written W.failures out.old })
+        (record { files = record { program = reader S.told S.left S.failures source.new; feed = reader F.told F.left F.failures feed.new }; out = writer W.told W.written W.failures out.new }) result }
+    ensures handed_on { W.told ≡ true → 0 < steps → OnOk result (W.handed_on out.new ≡ W.written out.new) }
 {
-    match read_inputs(alloc, source, feed) {
-        Ok(loaded) => {
-            let (rope, _) = loaded.program.split();
-            run(&mut Processor::new(rope, loaded.feed), steps, out)
-        }
-        Err(fault) => Err(fault),
-    }
+    run_program(alloc, Origin::Source, source, feed, steps, out)
 }
 
-/// Makes some steps from the start, and writes the lines of what they put out.
-pub(crate) fn run<W: Write>(
-    processor: &mut Processor,
+/// Reads a rope image of a version to its end, reads the feed, and runs the words of the image for some steps: see
+/// `run_program`.
+pub fn run_image_engine<I: Read, F: Read, W: Write>(
+    alloc: Global,
+    image: &mut I,
+    version: Version,
+    feed: &mut F,
     steps: u64,
     out: &mut W,
 ) -> Result<Summary, WorkshopFault>
     requires { steps ≤ 2 ^ 40 - 2 }
-    ensures runs { W.told ≡ true → Runs processor.old.scenario steps (W.written out.old) (W.written out.new) result }
-    ensures failures { W.failures out.new ≡ failures_if (has_write_failed result) (W.failures out.old) }
-    ensures reader { has_read_failed result ≡ false }
-    ensures most { most_read result ≡ most_bytes }
+    ensures runs { Runs (Origin.Image version) steps
+        (record { files = record { program = reader I.told I.left I.failures image.old; feed = reader F.told F.left F.failures feed.old }; out = writer W.told W.written W.failures out.old })
+        (record { files = record { program = reader I.told I.left I.failures image.new; feed = reader F.told F.left F.failures feed.new }; out = writer W.told W.written W.failures out.new }) result }
+    ensures handed_on { W.told ≡ true → 0 < steps → OnOk result (W.handed_on out.new ≡ W.written out.new) }
+{
+    run_program(alloc, Origin::Image(version), image, feed, steps, out)
+}
+
+/// Reads a program and then a feed, and runs the program for some steps: the line of each output is written, as
+/// `7 CH 010 00012` with the cycles, the channel and the word.
+///
+/// A source and a feed have at most 8,388,608 bytes each. The first fault of the program is answered, else that of the feed,
+/// and then nothing is written. Lines are handed on while it goes, and all of them where it has made its steps.
+pub fn run_program<P: Read, F: Read, W: Write>(
+    alloc: Global,
+    origin: Origin,
+    program: &mut P,
+    feed: &mut F,
+    steps: u64,
+    out: &mut W,
+) -> Result<Summary, WorkshopFault>
+    requires { steps ≤ 2 ^ 40 - 2 }
+    ensures runs { Runs origin steps
+        (record { files = record { program = reader P.told P.left P.failures program.old; feed = reader F.told F.left F.failures feed.old }; out = writer W.told W.written W.failures out.old })
+        (record { files = record { program = reader P.told P.left P.failures program.new; feed = reader F.told F.left F.failures feed.new }; out = writer W.told W.written W.failures out.new }) result }
+    ensures handed_on { W.told ≡ true → 0 < steps → OnOk result (W.handed_on out.new ≡ W.written out.new) }
+{
+    run_and_tell(alloc, origin, program, feed, steps, out, &mut Unheard)
+}
+
+/// Reads a program and then a feed, and runs the program for some steps, as `run_program` does; and tells after each 2^20 steps
+/// how many were made, as `agcws: STEPS 1048576`. A write that fails there is no fault of the run: nothing more is told.
+pub fn run_and_tell<P: Read, F: Read, W: Write, T: Write>(
+    alloc: Global,
+    origin: Origin,
+    program: &mut P,
+    feed: &mut F,
+    steps: u64,
+    out: &mut W,
+    progress: &mut T,
+) -> Result<Summary, WorkshopFault>
+    requires { steps ≤ 2 ^ 40 - 2 }
+    ensures runs { Runs origin steps
+        (record { files = record { program = reader P.told P.left P.failures program.old; feed = reader F.told F.left F.failures feed.old }; out = writer W.told W.written W.failures out.old })
+        (record { files = record { program = reader P.told P.left P.failures program.new; feed = reader F.told F.left F.failures feed.new }; out = writer W.told W.written W.failures out.new }) result }
+    ensures handed_on { W.told ≡ true → 0 < steps → OnOk result (W.handed_on out.new ≡ W.written out.new) }
+    ensures progress { TellsRun steps (writer T.told T.written T.failures progress.old) (writer T.told T.written T.failures progress.new) result }
+{
+    let loaded = load(alloc, origin, program, feed)?;
+    let mut processor = Processor::new(loaded.rope, loaded.feed);
+    run(&mut processor, steps, out, progress)
+}
+
+/// The most steps that are made before the lines written so far are handed on.
+pub(crate) const STEPS_BETWEEN_FLUSHES: u64 = 1 << 20;
+
+/// Makes some steps from the start, and writes the lines of what they put out. Lines are handed on while it goes, so that
+/// those of a long run are seen, and stand where it is broken off.
+fn run<W: Write, T: Write>(
+    processor: &mut Processor,
+    steps: u64,
+    out: &mut W,
+    progress: &mut T,
+) -> Result<Summary, WorkshopFault>
+    requires { steps ≤ 2 ^ 40 - 2 }
+    ensures makes { Makes processor.old.scenario steps
+        (writer W.told W.written W.failures out.old) (writer W.told W.written W.failures out.new) result }
+    ensures handed_on { W.told ≡ true → 0 < steps → OnOk result (W.handed_on out.new ≡ W.written out.new) }
+    ensures progress { TellsRun steps (writer T.told T.written T.failures progress.old) (writer T.told T.written T.failures progress.new) result }
 {
     let mut machine = Machine::start();
     let mut outputs = 0;
-    for _done in 0..steps {
-        match step_and_write(processor, &mut machine, out) {
-            Ok(count) => outputs += count,
-            Err(_) => return Err(WorkshopFault::WriteFailed),
+    let mut told = Ok(());
+    let mut done = 0;
+    while done < steps {
+        let stop = steps.min(done + STEPS_BETWEEN_FLUSHES);
+        while done < stop {
+            outputs += step_and_write(processor, &mut machine, out)?;
+            done += 1;
         }
+        hand_on(out)?;
+        told = tell(told, done, progress);
     }
     Ok(Summary {
         steps,
@@ -107,6 +161,18 @@ pub(crate) fn run<W: Write>(
         outputs,
         z: machine.reg(Eras::Z).to_u16(),
     })
+}
+
+/// Hands on the lines that a writer holds back.
+pub(crate) fn hand_on<W: Write>(out: &mut W) -> Result<(), WriteFailed>
+    ensures written { W.told ≡ true → W.written out.new ≡ W.written out.old }
+    ensures handed_on { W.told ≡ true → OnOk result (W.handed_on out.new ≡ W.written out.new) }
+    ensures failures { W.failures out.new ≡ failures_after (W.failures out.old) result }
+{
+    match out.flush() {
+        Ok(()) => Ok(()),
+        Err(_) => Err(WriteFailed),
+    }
 }
 
 /// Makes a step, writes the line of what it puts out, and answers how many lines that is.
@@ -127,10 +193,10 @@ fn step_and_write<W: Write>(
     ensures failures { W.failures out.new ≡ failures_after (W.failures out.old) result }
 {
     match processor.step(machine) {
-        Some(output) => match write_output(output.cycles, output.channel, output.word, out) {
-            Ok(()) => Ok(1),
-            Err(failed) => Err(failed),
-        },
+        Some(output) => {
+            write_output(output.cycles, output.channel, output.word, out)?;
+            Ok(1)
+        }
         None => Ok(0),
     }
 }

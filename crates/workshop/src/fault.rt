@@ -1,41 +1,107 @@
 //! What ends an engine early, and how it is told.
 
-ghost use Rattle.std.specs.Prelude.{◌≡◌, ◌≤◌, ◌+◌, ◌++◌, true, IfOk, IfErr};
+ghost use Rattle.std.specs.Prelude.{◌≡◌, ◌≤◌, ◌+◌, ◌++◌, Some, codes, decimal, true, IfOk, IfErr};
 ghost use Rattle.arrayvec.specs.ArrayVec.{array_vec_len};
 ghost use Rattle.words.specs.Devices.{Writes, failures_after};
-ghost use Rattle.workshop.specs.Faults.{number_of, line_of, line_text, fault_text, status_of};
+ghost use Rattle.feed.specs.Faults.{line_text};
+ghost use Rattle.workshop.specs.Faults.{number_of, line_of, fault_text, status_of, of_debug_fault, of_feed_fault, of_read_fault, of_rope_fault, of_source_fault};
 
 use arrayvec::ArrayVec;
+use debugger::DebugFault;
 use feed::FeedFault;
 use rope::RopeFault;
-use thiserror::Error;
-use words::{Write, push_all, push_decimal, write_all};
+use std::fmt;
+use words::{ReadFault, Write, WriteFailed, push_all, push_decimal, write_all};
 use yayul::{Fault, FaultKind};
 
 /// Why an engine has ended early.
-#[derive(Clone, Copy, PartialEq, Eq, Debug, Drop, Error)]
+#[derive(Clone, Copy, PartialEq, Eq, Debug, Drop)]
 pub enum WorkshopFault {
     /// A growth of memory was refused.
-    #[error("E2")]
     NoMemory,
     /// A read failed.
-    #[error("E6")]
     ReadFailed,
     /// A write failed, or took none of some bytes.
-    #[error("E7")]
     WriteFailed,
     /// The source has a fault.
-    #[error("{0}")]
     Source(Fault),
     /// The feed has a fault.
-    #[error("{0}")]
     Feed(FeedFault),
     /// The rope image has a fault.
-    #[error("{0}")]
     Rope(RopeFault),
     /// The source or the feed has more than 8,388,608 bytes.
-    #[error("E34")]
     TooLong,
+}
+
+impl From<ReadFault> for WorkshopFault {
+    ghost from_gives = { λ fault e. e ≡ of_read_fault fault };
+
+    fn from(fault: ReadFault) -> WorkshopFault {
+        match fault {
+            ReadFault::NoMemory => WorkshopFault::NoMemory,
+            ReadFault::ReadFailed => WorkshopFault::ReadFailed,
+            ReadFault::TooLong => WorkshopFault::TooLong,
+        }
+    }
+}
+
+impl From<WriteFailed> for WorkshopFault {
+    ghost use Rattle.workshop.specs.declared.fault.WorkshopFault.{WorkshopFault};
+
+    ghost from_gives = { λ _ e. e ≡ WorkshopFault.WriteFailed };
+
+    fn from(_: WriteFailed) -> WorkshopFault {
+        WorkshopFault::WriteFailed
+    }
+}
+
+impl From<Fault> for WorkshopFault {
+    ghost from_gives = { λ fault e. e ≡ of_source_fault fault };
+
+    fn from(fault: Fault) -> WorkshopFault {
+        if fault.number == FaultKind::NoMemory.number() {
+            WorkshopFault::NoMemory
+        } else {
+            WorkshopFault::Source(fault)
+        }
+    }
+}
+
+impl From<FeedFault> for WorkshopFault {
+    ghost from_gives = { λ fault e. e ≡ of_feed_fault fault };
+
+    fn from(fault: FeedFault) -> WorkshopFault {
+        match fault {
+            FeedFault::NoMemory => WorkshopFault::NoMemory,
+            FeedFault::ReadFailed => WorkshopFault::ReadFailed,
+            FeedFault::TooLong => WorkshopFault::TooLong,
+            _ => WorkshopFault::Feed(fault),
+        }
+    }
+}
+
+impl From<RopeFault> for WorkshopFault {
+    ghost from_gives = { λ fault e. e ≡ of_rope_fault fault };
+
+    fn from(fault: RopeFault) -> WorkshopFault {
+        match fault {
+            RopeFault::NoMemory => WorkshopFault::NoMemory,
+            RopeFault::ReadFailed => WorkshopFault::ReadFailed,
+            _ => WorkshopFault::Rope(fault),
+        }
+    }
+}
+
+impl From<DebugFault> for WorkshopFault {
+    ghost from_gives = { λ fault e. e ≡ of_debug_fault fault };
+
+    fn from(fault: DebugFault) -> WorkshopFault {
+        match fault {
+            DebugFault::NoMemory => WorkshopFault::NoMemory,
+            DebugFault::ReadFailed => WorkshopFault::ReadFailed,
+            DebugFault::WriteFailed => WorkshopFault::WriteFailed,
+        }
+    }
 }
 
 impl WorkshopFault {
@@ -80,6 +146,20 @@ impl WorkshopFault {
     }
 }
 
+impl fmt::Display for WorkshopFault {
+    ghost output = { λ fault. Some (codes "E" ++ decimal (number_of fault) ++ line_text (line_of fault)) };
+
+    fn fmt<W: fmt::Write>(&self, f: &mut fmt::Formatter<W>) -> fmt::Result {
+        write!(f, "E{}", self.number())?;
+        if let Some(line) = self.line() {
+            write!(f, " LINE {line}")?;
+        }
+        Ok(())
+    }
+}
+
+impl std::error::Error for WorkshopFault {}
+
 /// Room for a fault's line: `agcws: E`, a number, ` LINE `, a number and a line feed. No number that is written has more than 20 digits.
 const FAULT_LINE: usize = 64;
 
@@ -117,8 +197,6 @@ pub fn report<W: Write>(fault: &WorkshopFault, errors: &mut W) -> Result<u8, Wor
     ensures status { IfOk result (λ status. status ≡ status_of fault.now) }
     ensures fault { IfErr result (λ e. e ≡ WorkshopFault.WriteFailed) }
 {
-    match write_all(errors, fault_line(fault).as_slice()) {
-        Ok(()) => Ok(fault.status()),
-        Err(_) => Err(WorkshopFault::WriteFailed),
-    }
+    write_all(errors, fault_line(fault).as_slice())?;
+    Ok(fault.status())
 }

@@ -2,25 +2,32 @@
 #![tactic(auto)]
 
 mod assembly;
+mod covering;
 mod debugging;
 mod ending;
 mod engine;
 mod fault;
-mod image_sessions;
-mod images;
 mod inputs;
 pub mod laws;
+mod origin;
+mod progress;
 mod ropes;
-mod upgrade;
+mod tracing;
 
 pub use assembly::asm_engine;
-pub use debugging::{Opened, debug_engine, follow_source, open_session};
+pub use covering::cover_program;
+pub use debugger::{debug_session, extended_session};
+pub use debugging::{
+    Opened, debug_engine, debug_extended, debug_image_engine, debug_program, follow_source,
+    open_program, open_session,
+};
 pub use ending::write_end;
-pub use engine::{MOST_STEPS, Summary, may_run, run_engine};
+pub use engine::{
+    MOST_STEPS, Summary, may_run, run_and_tell, run_engine, run_image_engine, run_program,
+};
 pub use fault::{WorkshopFault, report};
-pub use image_sessions::debug_image_engine;
-pub use images::run_image_engine;
-pub use rope::Version;
-pub use ropes::{compare_engine, sums_engine, words_engine};
+pub use origin::Origin;
+pub use rope::{Form, InForm, Version};
+pub use ropes::{compare_engine, parity_engine, sums_engine, upgrade_engine, words_engine};
 pub use space::numbers::Bank;
-pub use upgrade::upgrade_engine;
+pub use tracing::{trace_and_tell, trace_program};

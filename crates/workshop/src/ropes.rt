@@ -1,15 +1,15 @@
-//! The engines that show images as text.
+//! The engines that read images: they show them as text, compare them, and upgrade them.
 
-ghost use Rattle.std.specs.Prelude.{◌≡◌, ℕ, List, true};
+ghost use Rattle.std.specs.Prelude.{ℕ, List};
 ghost use Rattle.audit.specs.Sums.{sum_lines};
 ghost use Rattle.audit.specs.WordLines.{word_lines};
-ghost use Rattle.workshop.specs.Failures.{has_read_failed, has_write_failed, failures_if, OneFails};
-ghost use Rattle.workshop.specs.Ropes.{Shows, Compares, ComparesNext};
+ghost use Rattle.rope.specs.Image.{image};
+ghost use Rattle.workshop.specs.Failures.{Reader, reader, writer};
+ghost use Rattle.workshop.specs.Ropes.{Compares, ComparesNext, Shows, TellsParity};
 
 use crate::fault::WorkshopFault;
-use crate::upgrade::told;
-use audit::{write_differences, write_sums, write_words};
-use rope::{Rope, Version};
+use audit::{write_differences, write_parities, write_sums, write_words};
+use rope::{Dump, Rope, Version};
 use space::numbers::Bank;
 use std::alloc::Global;
 use words::{Read, Write};
@@ -25,20 +25,12 @@ pub fn words_engine<R: Read, W: Write>(
     bank: Option<Bank>,
     out: &mut W,
 ) -> Result<(), WorkshopFault>
-    ensures answer { R.told ≡ true → W.told ≡ true →
-        Shows version (λ words. word_lines words bank) (record { left = R.left image.old; written = W.written out.old }) (record { left = R.left image.new; written = W.written out.new }) result }
-
-    // E6 only where the reader has failed, E7 only where the writer has.
-    ensures reader { R.failures image.new ≡ failures_if (has_read_failed result) (R.failures image.old) }
-    ensures writer { W.failures out.new ≡ failures_if (has_write_failed result) (W.failures out.old) }
+    ensures { Shows version (λ words. word_lines words bank)
+        (record { image = reader R.told R.left R.failures image.old; out = writer W.told W.written W.failures out.old })
+        (record { image = reader R.told R.left R.failures image.new; out = writer W.told W.written W.failures out.new }) result }
 {
-    match Rope::read(alloc, image, version) {
-        Ok(rope) => match write_words(&rope, bank, out) {
-            Ok(()) => Ok(()),
-            Err(_) => Err(WorkshopFault::WriteFailed),
-        },
-        Err(fault) => Err(told(fault)),
-    }
+    let rope = Rope::read(alloc, image, version)?;
+    Ok(write_words(&rope, bank, out)?)
 }
 
 /// Reads a rope image of a version to its end, and writes a line for each bank: its number, and the sum of its words.
@@ -50,20 +42,28 @@ pub fn sums_engine<R: Read, W: Write>(
     version: Version,
     out: &mut W,
 ) -> Result<(), WorkshopFault>
-    ensures answer { R.told ≡ true → W.told ≡ true →
-        Shows version sum_lines (record { left = R.left rope.old; written = W.written out.old }) (record { left = R.left rope.new; written = W.written out.new }) result }
-
-    // E6 only where the reader has failed, E7 only where the writer has.
-    ensures reader { R.failures rope.new ≡ failures_if (has_read_failed result) (R.failures rope.old) }
-    ensures writer { W.failures out.new ≡ failures_if (has_write_failed result) (W.failures out.old) }
+    ensures { Shows version sum_lines
+        (record { image = reader R.told R.left R.failures rope.old; out = writer W.told W.written W.failures out.old })
+        (record { image = reader R.told R.left R.failures rope.new; out = writer W.told W.written W.failures out.new }) result }
 {
-    match Rope::read(alloc, rope, version) {
-        Ok(words) => match write_sums(&words, out) {
-            Ok(()) => Ok(()),
-            Err(_) => Err(WorkshopFault::WriteFailed),
-        },
-        Err(fault) => Err(told(fault)),
-    }
+    let words = Rope::read(alloc, rope, version)?;
+    Ok(write_sums(&words, out)?)
+}
+
+/// Reads a rope image of version 1 to its end, and writes the image of the same words in version 2.
+///
+/// The first fault of the image is answered, and then nothing is written.
+pub fn upgrade_engine<R: Read, W: Write>(
+    alloc: Global,
+    old: &mut R,
+    out: &mut W,
+) -> Result<(), WorkshopFault>
+    ensures { Shows Version.One (image Version.Two)
+        (record { image = reader R.told R.left R.failures old.old; out = writer W.told W.written W.failures out.old })
+        (record { image = reader R.told R.left R.failures old.new; out = writer W.told W.written W.failures out.new }) result }
+{
+    let rope = Rope::read(alloc, old, Version::One)?;
+    Ok(rope.write(out, Version::Two)?)
 }
 
 /// Reads two rope images, each of its version, to their ends, and writes a line for each place where their words differ, and
@@ -78,37 +78,28 @@ pub fn compare_engine<A: Read, B: Read, W: Write>(
     new_version: Version,
     out: &mut W,
 ) -> Result<u32, WorkshopFault>
-    ensures answer { A.told ≡ true → B.told ≡ true → W.told ≡ true →
-        Compares old_version new_version (record { old = A.left old.old; new = B.left new.old; written = W.written out.old }) (record { old = A.left old.new; new = B.left new.new; written = W.written out.new }) result }
-
-    // E6 only where a reader has failed, E7 only where the writer has.
-    ensures readers { OneFails (has_read_failed result) (A.failures old.old) (A.failures old.new) (B.failures new.old) (B.failures new.new) }
-    ensures writer { W.failures out.new ≡ failures_if (has_write_failed result) (W.failures out.old) }
+    ensures { Compares old_version new_version
+        (record { old = reader A.told A.left A.failures old.old; new = reader B.told B.left B.failures new.old; out = writer W.told W.written W.failures out.old })
+        (record { old = reader A.told A.left A.failures old.new; new = reader B.told B.left B.failures new.new; out = writer W.told W.written W.failures out.new }) result }
 {
-    match Rope::read(alloc, old, old_version) {
-        Ok(words) => compare_next(alloc, &words, new, new_version, out),
-        Err(fault) => Err(told(fault)),
-    }
+    let words = Rope::read(alloc, old, old_version)?;
+    let others = Rope::read(alloc, new, new_version)?;
+    Ok(write_differences(&words, &others, out)?)
 }
 
-/// Reads the second image, and writes the differences.
-fn compare_next<R: Read, W: Write>(
+/// Reads the bytes of a rope image to their end, and writes a line for each word whose two bytes have an even number of one
+/// bits, and then how many such words there are, which it answers.
+///
+/// An image that is short or long is refused, and then nothing is written.
+pub fn parity_engine<R: Read, W: Write>(
     alloc: Global,
-    words: &Rope,
-    new: &mut R,
-    new_version: Version,
+    image: &mut R,
     out: &mut W,
 ) -> Result<u32, WorkshopFault>
-    ensures answer { R.told ≡ true → W.told ≡ true → (first : List ℕ) → (last : List ℕ) →
-        ComparesNext new_version words.now (record { old = first; new = R.left new.old; written = W.written out.old }) (record { old = last; new = R.left new.new; written = W.written out.new }) result }
-    ensures reader { R.failures new.new ≡ failures_if (has_read_failed result) (R.failures new.old) }
-    ensures writer { W.failures out.new ≡ failures_if (has_write_failed result) (W.failures out.old) }
+    ensures { TellsParity
+        (record { image = reader R.told R.left R.failures image.old; out = writer W.told W.written W.failures out.old })
+        (record { image = reader R.told R.left R.failures image.new; out = writer W.told W.written W.failures out.new }) result }
 {
-    match Rope::read(alloc, new, new_version) {
-        Ok(others) => match write_differences(words, &others, out) {
-            Ok(count) => Ok(count),
-            Err(_) => Err(WorkshopFault::WriteFailed),
-        },
-        Err(fault) => Err(told(fault)),
-    }
+    let bytes = Dump::read(alloc, image)?;
+    Ok(write_parities(&bytes, out)?)
 }

@@ -21,8 +21,8 @@ use Rattle.yayul.specs.declared.language.Label.TheVariants.{Missing, Malformed, 
 use Rattle.yayul.specs.declared.language.Operation.{Operation}
 use Rattle.yayul.specs.declared.language.Operation.TheVariants.{Nothing, Unknown, Setloc, Bank, Erase, Equals, Ebank, Gives}
 use Rattle.yayul.specs.declared.language.Content.{Content}
-use Rattle.yayul.specs.declared.values.Value.{Value}
-use Rattle.yayul.specs.declared.values.Value.TheVariants.{Fixed}
+use Rattle.symbols.specs.declared.values.Value.{Value}
+use Rattle.symbols.specs.declared.values.Value.TheVariants.{Fixed}
 use Rattle.yayul.proofs.Taken.{or-parts}
 
 -- a request asks for a word at a place

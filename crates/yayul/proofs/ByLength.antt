@@ -3,7 +3,7 @@ use Rattle.std.specs.List.{list_all}
 use Rattle.std.proofs.lemmas.Bool.{cases_Bool, and_parts, eqb-true, eqb-false, ltb-true}
 use Rattle.agc_text.specs.Tables.{same_name, value_in}
 use Rattle.yayul.specs.Operators.{operators}
-use Rattle.yayul.proofs.Tables.{same_length}
+use Rattle.symbols.proofs.Names.{same_length}
 
 -- a name is looked up among the rows of its own length
 pub value_in-of_length : {V : Type 0} (table : List (List ℕ × V)) (name : List ℕ) → value_in (filter (λ row. length row.0 == length name) table) name ≡ value_in table name

@@ -1,12 +1,14 @@
 -- The faults of what a line says have greater numbers than those of its bytes, its length and its number.
-use Rattle.std.proofs.Common.{◌≡◌, ℕ, ◌+◌, ◌-◌, ◌<◌, ◌≤◌, Bool, true, false, nat_lt, nat_le, ◌&&◌, ◌||◌, not, List, [], ◌∷◌, ◌++◌, fold, Option, Some, None, Result, Ok, Err, refl, ap, ◌∙◌, arith}
+use Rattle.std.proofs.Common.{◌≡◌, ℕ, ◌+◌, ◌-◌, ◌<◌, ◌≤◌, Bool, true, false, nat_le, ◌&&◌, ◌||◌, not, List, [], ◌∷◌, ◌++◌, fold, Option, Some, None, Result, Ok, Err, refl, ap, ◌∙◌, arith}
 use Rattle.std.specs.Prelude.{ok_or, if◌then◌else◌}
+use Rattle.std.specs.Option.{option_map}
 use Rattle.std.specs.Result.{result_err}
 use Rattle.std.proofs.lemmas.Bool.Decides.{nat_tests}
 use Rattle.agc_text.specs.Tables.{value_in}
+use Rattle.symbols.specs.Values.{place_of}
 use Rattle.yayul.specs.Operators.{is_bank}
 use Rattle.yayul.specs.Forms.{greatest_number}
-use Rattle.yayul.specs.Layout.{Layout, fault_number, fault_if, standing, and_then, moved, moved_value, term_value, value_of, location_at, erasable_number, erasable_place, value_here, early_value, is_malformed, is_missing, is_twice, is_taken, is_erasable, lacks_room, width, bank_target, erased_to, statement_effect}
+use Rattle.yayul.specs.Layout.{Layout, fault_number, fault_if, standing, and_then, moved, moved_value, term_value, value_of, location_of, location_at, erasable_number, erasable_place, value_here, early_value, is_malformed, is_missing, is_twice, is_taken, is_erasable, lacks_room, width, bank_target, erased_to, statement_effect}
 use Rattle.yayul.specs.Inside.Answers.{lesser_kind, least_kind}
 use Rattle.yayul.specs.Language.{FaultKind, NotAscii, LongLine, TooManyLines, BadLabel, TwiceDefined, UnknownOperator, BadOperand, UsedTooEarly, BadBank, BankFull, PlaceTaken, CodeInErasable, OutOfRange, Label, Operation, Nothing, Unknown, Setloc, Bank, Erase, Equals, Ebank, Gives, BankRange, Numeral, NoForm, TooLarge, Is, Operand, Shift, Plus, Minus, Term, Value, Num, Erasable, Fixed, Location}
 
@@ -69,10 +71,7 @@ early_late s operand =
     (λ o. then_late (moved_value o.shift) (term_value UsedTooEarly s.symbols (value_here s.location) o.term) (term_late s.symbols (value_here s.location) o.term) (moved_value_late o.shift))
 
 location_late : (value : Value) → FailsLate (location_at value)
-location_late (Num n) =
-    choice_late (nat_lt n 0o4000) _ _ tt (choice_late (nat_lt n 0o6000) _ _ tt (choice_late (nat_lt n 0o10000) _ (Err OutOfRange) tt (omega arith)))
-location_late (Erasable n) = tt
-location_late (Fixed bank n) = tt
+location_late value = ok_or_late (option_map location_of (place_of value)) OutOfRange (omega arith)
 
 erasable_late : (here : Location) → FailsLate (erasable_number here)
 erasable_late (Location.Erasable n) = tt

@@ -1,7 +1,6 @@
 mod ByLength
 mod Codes
 mod Fields
-mod Names
 mod Rows
 mod ListingRows
 mod Least

@@ -12,7 +12,7 @@ use Rattle.yayul.specs.Forms.{statement_of}
 use Rattle.yayul.specs.Layout.{start, line_effect}
 use Rattle.yayul.specs.Words.{request_words, request_faults}
 use Rattle.yayul.specs.Program.{program, Program}
-use Rattle.yayul.specs.Listing.{Shown, nothing, listing, line_rows, number_column, word_columns, place_text, symbol_row, symbols_head}
+use Rattle.yayul.specs.Listing.{Shown, no_margin, nothing, listing, line_rows, number_column, word_columns, place_text, symbol_row, symbols_head}
 use Rattle.yayul.specs.declared.faults.Fault.{Fault}
 use Rattle.yayul.specs.Inside.Representation.{lines_show}
 
@@ -48,23 +48,23 @@ bank_five_shows : shows (codes " BANK 5" ∷ codes " OCT 1" ∷ codes " SETLOC 4
 unfolding runs operators statement_of line_effect
 bank_five_shows = refl
 
-second_row_of_five_plus_five : (words : Words) → word_at words 2 0 ≡ 0o34005 → line_rows 2 words (codes " CA FIVE") (word 2 0) ≡ codes "    2 02,4000 34005   CA FIVE" ++ lf
+second_row_of_five_plus_five : (words : Words) → word_at words 2 0 ≡ 0o34005 → line_rows no_margin 2 words (codes " CA FIVE") (word 2 0) ≡ codes "    2 02,4000 34005   CA FIVE" ++ lf
 unfolding line_rows number_column word_columns place_text window octal_text digits
 second_row_of_five_plus_five words e = rw e refl
 
-last_row_of_five_plus_five : (words : Words) → word_at words 2 5 ≡ 0o00005 → line_rows 7 words (codes "FIVE OCT 5") (word 2 5) ≡ codes "    7 02,4005 00005  FIVE OCT 5" ++ lf
+last_row_of_five_plus_five : (words : Words) → word_at words 2 5 ≡ 0o00005 → line_rows no_margin 7 words (codes "FIVE OCT 5") (word 2 5) ≡ codes "    7 02,4005 00005  FIVE OCT 5" ++ lf
 unfolding line_rows number_column word_columns place_text window octal_text digits
 last_row_of_five_plus_five words e = rw e refl
 
-last_row_of_bank_five : (words : Words) → word_at words 5 1 ≡ 0o00002 → line_rows 5 words (codes " OCT 2") (word 5 1) ≡ codes "    5 05,2001 00002   OCT 2" ++ lf
+last_row_of_bank_five : (words : Words) → word_at words 5 1 ≡ 0o00002 → line_rows no_margin 5 words (codes " OCT 2") (word 5 1) ≡ codes "    5 05,2001 00002   OCT 2" ++ lf
 unfolding line_rows number_column word_columns place_text window octal_text digits
 last_row_of_bank_five words e = rw e refl
 
-last_row_of_bank_three : (words : Words) → word_at words 3 1023 ≡ 0o77777 → line_rows 65536 words (codes " OCT 77777") (word 3 1023) ≡ codes "65536 03,7777 77777   OCT 77777" ++ lf
+last_row_of_bank_three : (words : Words) → word_at words 3 1023 ≡ 0o77777 → line_rows no_margin 65536 words (codes " OCT 77777") (word 3 1023) ≡ codes "65536 03,7777 77777   OCT 77777" ++ lf
 unfolding line_rows number_column word_columns place_text window octal_text digits
 last_row_of_bank_three words e = rw e refl
 
-two_rows_of_two_words : (words : Words) → word_at words 2 4 ≡ 0o02000 → word_at words 2 5 ≡ 0o66100 → line_rows 9 words (codes "TARG 2CADR FAR") (pair 2 4 5) ≡ source (codes "    9 02,4004 02000  TARG 2CADR FAR" ∷ codes "    9 02,4005 66100" ∷ [])
+two_rows_of_two_words : (words : Words) → word_at words 2 4 ≡ 0o02000 → word_at words 2 5 ≡ 0o66100 → line_rows no_margin 9 words (codes "TARG 2CADR FAR") (pair 2 4 5) ≡ source (codes "    9 02,4004 02000  TARG 2CADR FAR" ∷ codes "    9 02,4005 66100" ∷ [])
 unfolding line_rows number_column word_columns place_text window octal_text digits
 two_rows_of_two_words words e f = rw (e, f) refl
 

@@ -1,4 +1,4 @@
--- The kinds of things that the definitions tell apart: the types of src/language.rt, with the faults and values of src/faults.rt and src/values.rt.
+-- The kinds of things that the definitions tell apart: the types of src/language.rt, with the faults of src/faults.rt and the values of `symbols`.
 pub use Rattle.yayul.specs.declared.language.AddressedCode.{AddressedCode}
 pub use Rattle.yayul.specs.declared.language.BankRange.{BankRange}
 pub use Rattle.yayul.specs.declared.language.BankRange.TheVariants.{All, TwoOrThree}
@@ -26,5 +26,5 @@ pub use Rattle.yayul.specs.declared.language.Term.{Term}
 pub use Rattle.yayul.specs.declared.faults.Fault.{Fault}
 pub use Rattle.yayul.specs.declared.faults.FaultKind.{FaultKind}
 pub use Rattle.yayul.specs.declared.faults.FaultKind.TheVariants.{NoMemory, NotAscii, LongLine, TooManyLines, BadLabel, TwiceDefined, UnknownOperator, BadOperand, Undefined, UsedTooEarly, BadBank, BankFull, PlaceTaken, CodeInErasable, NeedsExtend, NotExtracode, WrongKindOfAddress, OutOfRange}
-pub use Rattle.yayul.specs.declared.values.Value.{Value}
-pub use Rattle.yayul.specs.declared.values.Value.TheVariants.{Num, Erasable, Fixed}
+pub use Rattle.symbols.specs.declared.values.Value.{Value}
+pub use Rattle.symbols.specs.declared.values.Value.TheVariants.{Num, Erasable, Fixed}

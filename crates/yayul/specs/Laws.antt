@@ -4,11 +4,11 @@ use Rattle.std.specs.List.{list_any}
 use Rattle.agc_text.specs.Lines.{lines}
 use Rattle.agc_text.specs.Tables.{same_name}
 use Rattle.yayul.specs.Forms.{scaled}
-use Rattle.yayul.specs.Layout.{Request, start, stands_at, layout_after, layout_faults}
+use Rattle.yayul.specs.Layout.{Request, start, extends, stands_at, layout_after, layout_faults}
 use Rattle.yayul.specs.Operators.{operators}
 use Rattle.yayul.specs.Program.{program}
 use Rattle.yayul.specs.Words.{addressed_word}
-use Rattle.yayul.specs.Language.{AddressedCode, Channel, Either, Extracode, No, Num, Operator, Takes, Value, Yes}
+use Rattle.yayul.specs.Language.{AddressedCode, Channel, Content, Either, Extracode, No, Num, Operand, Operator, Takes, Value, Yes}
 
 -- ## The words of instructions
 -- the operators whose words are addresses, and no instructions
@@ -39,6 +39,13 @@ abbrev pub GivesWith : Operator → Bool → ℕ → ℕ → Type 0
 GivesWith (Operator.Addressed i) extracode n word = CodeGives i extracode n word
 GivesWith (Operator.ToNext i) extracode n word = CodeGives i extracode n word
 GivesWith _ extracode n word = ⊥
+
+-- after a line with an operator, whatever its operand, extracode is in force on the next line that gives words, or is not, as the layout has it
+abbrev pub LeavesExtracode : Operator → Bool → Bool → Type 0
+LeavesExtracode (Operator.Plain i) extracode after = extends (Content.Plain i) extracode ≡ after
+LeavesExtracode (Operator.Addressed i) extracode after = (operand : Operand) → extends (Content.Addressed i operand) extracode ≡ after
+LeavesExtracode (Operator.ToNext i) extracode after = (operand : Operand) → extends (Content.Addressed i operand) extracode ≡ after
+LeavesExtracode _ extracode after = ⊥
 
 -- how many octal digits show what a field holds
 abbrev pub digits_shown : Takes → ℕ

@@ -1,10 +1,13 @@
 -- Layout: what each line does where a location, symbols and words stand before it, and its faults of the kind layout.
 use Rattle.std.specs.Prelude.{ℕ, ◌+◌, ◌-◌, ◌/◌, ◌==◌, ◌&&◌, ◌||◌, not, Bool, true, false, nat_lt, nat_le, List, [], ◌∷◌, ◌++◌, length, map, filter_map, fold, max, Option, None, Some, is_some, Result, Ok, Err, ok_or, if◌then◌else◌}
 use Rattle.std.specs.List.{list_any, list_all}
-use Rattle.std.specs.Option.{option_map_or}
+use Rattle.std.specs.Option.{option_map, option_map_or}
 use Rattle.std.specs.Result.{result_err, result_unwrap_or}
 use Rattle.agc_text.specs.Bytes.{line_length, is_text_byte}
 use Rattle.agc_text.specs.Tables.{value_in}
+use Rattle.space.specs.declared.place.Linear.{Linear}
+use Rattle.space.specs.declared.place.Linear.TheVariants as linear
+use Rattle.symbols.specs.Values.{place_of}
 use Rattle.yayul.specs.Operators.{is_bank, stays_extended}
 use Rattle.yayul.specs.Forms.{greatest_number, statement_of}
 use Rattle.yayul.specs.Language.{Addressed, BadBank, BadLabel, BadOperand, Bank, BankFull, BankRange, CodeInErasable, Constant, Content, Ebank, Equals, Erasable, Erase, FarAddress, Fault, FaultKind, Fixed, Gives, Is, Label, Location, LongLine, Malformed, Minus, Missing, Named, NeedsExtend, NoForm, NoMemory, NotAscii, NotExtracode, Nothing, Num, Numeral, Operand, Operation, OutOfRange, PlaceTaken, Plain, Plus, Setloc, Shift, Term, TooLarge, TooManyLines, TwiceDefined, Undefined, Unknown, UnknownOperator, UsedTooEarly, Value, WrongKindOfAddress}
@@ -72,15 +75,14 @@ term_value missing table here Term.Here = Ok here
 abbrev pub value_of : FaultKind → List (List ℕ × Value) → Value → Operand → Result Value FaultKind
 value_of missing table here operand = and_then (moved_value operand.shift) (term_value missing table here operand.term)
 
--- the place of a value as a location: a number's is erasable, or in bank 2 or 3
+-- a place as a location
+abbrev pub location_of : Linear → Location
+location_of (linear.Erasable n) = Location.Erasable n
+location_of (linear.Fixed bank n) = Location.Fixed bank n
+
+-- the location of a value, where it has a place
 abbrev pub location_at : Value → Result Location FaultKind
-location_at (Num n) =
-    if nat_lt n 0o4000 then Ok (Location.Erasable n)
-    else if nat_lt n 0o6000 then Ok (Location.Fixed 2 (n - 0o4000))
-    else if nat_lt n 0o10000 then Ok (Location.Fixed 3 (n - 0o6000))
-    else Err OutOfRange
-location_at (Erasable n) = Ok (Location.Erasable n)
-location_at (Fixed bank n) = Ok (Location.Fixed bank n)
+location_at value = ok_or (option_map location_of (place_of value)) OutOfRange
 
 -- the number of an erasable location
 abbrev pub erasable_number : Location → Result ℕ FaultKind

@@ -2,7 +2,6 @@ pub mod Language
 pub mod Operators
 pub mod Forms
 pub mod Layout
-pub mod Places
 pub mod Words
 pub mod Program
 pub mod Told

@@ -6,11 +6,12 @@ use Rattle.rope.specs.Places.{Words, word_at}
 use Rattle.space.specs.Places.{window}
 use Rattle.space.specs.declared.place.Linear.{Linear}
 use Rattle.space.specs.declared.place.Linear.TheVariants as linear
+use Rattle.symbols.specs.Values.{value_text}
 use Rattle.words.specs.Numerals.{octal_text}
 use Rattle.yayul.specs.Forms.{statement_of}
 use Rattle.yayul.specs.Layout.{Layout, start, width, is_missing, line_effect}
 use Rattle.yayul.specs.Program.{Program}
-use Rattle.yayul.specs.Language.{Erasable, Erase, Fixed, Gives, Label, Location, Nothing, Num, Operation, Statement, Value}
+use Rattle.yayul.specs.Language.{Erase, Gives, Label, Location, Nothing, Operation, Statement, Value}
 
 -- what a line shows beside its number and its text: a place without a word, or the banks and offsets of its words
 pub record Shown : Type 0 where
@@ -80,22 +81,25 @@ row_front number words shown text = number_column number ++ columns words shown 
 abbrev pub further_row : ℕ → Words → ℕ × ℕ → List ℕ
 further_row number words place = number_column number ++ word_columns words place.0 place.1 ++ codes "\n"
 
--- the rows of a line
-unfoldable pub line_rows : ℕ → Words → List ℕ → Shown → List ℕ
-line_rows number words text shown =
-    (row_front number words shown text ++ text ++ codes "\n") ++ flat_map (further_row number words) (drop 1 shown.words)
+-- what stands before a row, by the bank and the offset of the word that it shows
+abbrev pub Margin : Type 0
+Margin = Option (ℕ × ℕ) → List ℕ
+
+-- nothing
+abbrev pub no_margin : Margin
+no_margin word = []
+
+-- the rows of a line, each after its margin
+unfoldable pub line_rows : Margin → ℕ → Words → List ℕ → Shown → List ℕ
+line_rows margin number words text shown =
+    (margin (slice_get shown.words 0) ++ (row_front number words shown text ++ text ++ codes "\n"))
+    ++ flat_map (λ p. margin (Some p) ++ further_row number words p) (drop 1 shown.words)
 
 -- the rows of some lines, the first of them with a number and what stands before it
-abbrev pub rows : ℕ → Layout → Words → List (List ℕ) → List ℕ
-rows line s words [] = []
-rows line s words (text ∷ texts) =
-    line_rows line words text (shown s.location (statement_of text)) ++ rows (line + 1) (line_effect line s text).after words texts
-
--- the value of a symbol: a number, an erasable place, or a bank and an offset
-abbrev pub value_text : Value → List ℕ
-value_text (Num n) = codes "NUM " ++ octal_text 5 n
-value_text (Erasable n) = codes "ERASABLE " ++ octal_text 4 n
-value_text (Fixed bank offset) = codes "FIXED " ++ octal_text 2 bank ++ codes "," ++ octal_text 4 offset
+abbrev pub rows : Margin → ℕ → Layout → Words → List (List ℕ) → List ℕ
+rows margin line s words [] = []
+rows margin line s words (text ∷ texts) =
+    line_rows margin line words text (shown s.location (statement_of text)) ++ rows margin (line + 1) (line_effect line s text).after words texts
 
 -- the row of a symbol, its name left in 8 places
 unfoldable pub symbol_row : List ℕ × Value → List ℕ
@@ -107,4 +111,4 @@ symbols_head symbols = codes "SYMBOLS " ++ decimal (length symbols) ++ codes "\n
 
 -- the listing of a program: its lines, and its symbols in order of definition
 unfoldable pub listing : Program → List ℕ
-listing p = rows 1 start p.rope (lines p.source) ++ (symbols_head p.symbols ++ flat_map symbol_row p.symbols)
+listing p = rows no_margin 1 start p.rope (lines p.source) ++ (symbols_head p.symbols ++ flat_map symbol_row p.symbols)

@@ -9,11 +9,12 @@ ghost use Rattle.yayul.specs.Inside.Representation.{shown_by_mark, lines_show};
 ghost use Rattle.agc_text.specs.Tables.{value_in};
 
 use crate::listing::{write_rows, write_symbols};
+use crate::margin::NoMargin;
 use crate::mark::Marks;
-use crate::symbol_table::Symbols;
-use crate::values::Value;
+use crate::source_rows::SourceRows;
 use rope::Rope;
 use std::marker::Model;
+use symbols::{Symbols, Value};
 use words::{Write, WriteFailed};
 
 /// An assembled source: its words in their places, its symbols, and its text.
@@ -77,6 +78,14 @@ impl Program {
         (self.rope, self.symbols)
     }
 
+    /// The words in their places, and the lines of the source.
+    pub fn split_rows(self) -> (Rope, SourceRows)
+        ensures rope { result.0 ≡ self.rope }
+        ensures source { result.1 ≡ self.source }
+    {
+        (self.rope, SourceRows::new(self.source, self.marks))
+    }
+
     /// Writes the listing: a row for each line of the source, with its number, its place, its word and its text, and then the
     /// symbols in order of definition. No memory is taken.
     ///
@@ -85,9 +94,13 @@ impl Program {
         ensures written { W.told ≡ true → Writes (W.written writer.old) (W.written writer.new) (listing self.now) result }
         ensures failures { W.failures writer.new ≡ failures_after (W.failures writer.old) result }
     {
-        match write_rows(&self.rope, &self.source, self.marks.as_slice(), writer) {
-            Ok(()) => write_symbols(&self.symbols, writer),
-            Err(failed) => Err(failed),
-        }
+        write_rows(
+            &self.rope,
+            &self.source,
+            self.marks.as_slice(),
+            &NoMargin,
+            writer,
+        )?;
+        write_symbols(&self.symbols, writer)
     }
 }

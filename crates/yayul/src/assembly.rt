@@ -12,9 +12,9 @@ use crate::assembled::Program;
 use crate::faults::{Fault, FaultKind};
 use crate::layout::{Layout, Placing};
 use crate::mark::Marks;
-use crate::symbol_table::Symbols;
 use agc_text::next_line;
 use std::alloc::Global;
+use symbols::Symbols;
 
 /// Want of memory, for which no line is to blame.
 const NO_MEMORY: Fault = Fault { line: 0, number: 2 };
@@ -28,10 +28,8 @@ pub fn assemble(alloc: Global, source: &[u8]) -> Result<Program, Fault>
     let Ok(mut placing) = Placing::start(alloc) else {
         return Err(NO_MEMORY);
     };
-    match lay_out(alloc, source, &mut placing, &mut marks) {
-        Ok(layout) => complete(alloc, placing, layout.symbols, source, marks),
-        Err(fault) => Err(fault),
-    }
+    let layout = lay_out(alloc, source, &mut placing, &mut marks)?;
+    complete(alloc, placing, layout.symbols, source, marks)
 }
 
 /// Lays out the lines of a source, up to the first fault, places their words, and appends what each shows in the listing.

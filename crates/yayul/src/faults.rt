@@ -1,6 +1,6 @@
 //! What is wrong with a source.
 
-ghost use Rattle.std.specs.Prelude.{◌≡◌, Some};
+ghost use Rattle.std.specs.Prelude.{◌≡◌, ◌++◌, Some, codes, decimal};
 ghost use Rattle.yayul.specs.Layout.{fault_number, fault_if, standing};
 ghost use Rattle.yayul.specs.Program.{is_before};
 ghost use Rattle.yayul.specs.Inside.Answers.{least_kind, lesser_if, lesser_kind};
@@ -8,64 +8,45 @@ ghost use Rattle.yayul.specs.Told.{fault_text};
 ghost use Rattle.yayul.specs.Inside.Waiting.{held};
 
 use std::fmt;
-use thiserror::Error;
 
 /// The faults of a source, each with the number that it is told by.
-#[derive(Clone, Copy, PartialEq, Eq, Debug, Drop, Error)]
+#[derive(Clone, Copy, PartialEq, Eq, Debug, Drop)]
 pub enum FaultKind {
     /// A growth of memory was refused; nothing is said of the source.
-    #[error("E2")]
     NoMemory,
     /// A byte other than 040 to 0176 octal, tab and line feed.
-    #[error("E10")]
     NotAscii,
     /// More than 120 bytes without a line feed.
-    #[error("E11")]
     LongLine,
     /// A line 65,537.
-    #[error("E12")]
     TooManyLines,
     /// A label without a label's form, or missing, or not taken.
-    #[error("E13")]
     BadLabel,
     /// A label that stands on an earlier line.
-    #[error("E14")]
     TwiceDefined,
     /// An operator that the language does not have.
-    #[error("E15")]
     UnknownOperator,
     /// An operand that is missing, not taken or without an operand's form, or a fourth field.
-    #[error("E16")]
     BadOperand,
     /// A symbol that no line defines.
-    #[error("E17")]
     Undefined,
     /// A symbol that no earlier line defines, where the location or a symbol depends on it.
-    #[error("E18")]
     UsedTooEarly,
     /// A bank outside its operator's range.
-    #[error("E19")]
     BadBank,
     /// A word, a label's location or an ERASE beyond the end of its bank.
-    #[error("E20")]
     BankFull,
     /// A word stands there already.
-    #[error("E21")]
     PlaceTaken,
     /// A word at an erasable location.
-    #[error("E22")]
     CodeInErasable,
     /// An extracode where extracode is not in force.
-    #[error("E23")]
     NeedsExtend,
     /// A word that is no extracode where extracode is in force.
-    #[error("E24")]
     NotExtracode,
     /// A value of a kind, or an address, that the operator does not take.
-    #[error("E25")]
     WrongKindOfAddress,
     /// A number above 077777, or a value out of its range, or without an address or a place.
-    #[error("E26")]
     OutOfRange,
 }
 
@@ -96,6 +77,16 @@ impl FaultKind {
         }
     }
 }
+
+impl fmt::Display for FaultKind {
+    ghost output = { λ kind. Some (codes "E" ++ decimal (fault_number kind)) };
+
+    fn fmt<W: fmt::Write>(&self, f: &mut fmt::Formatter<W>) -> fmt::Result {
+        write!(f, "E{}", self.number())
+    }
+}
+
+impl std::error::Error for FaultKind {}
 
 impl FaultKind {
     /// The fault, where its condition holds.

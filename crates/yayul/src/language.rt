@@ -1,8 +1,7 @@
 //! What a source is made of: its operators, its operands and what its lines say.
 
-use crate::bank::FixedBank;
 use crate::instruction::{AddressedInstruction, PlainInstruction};
-use crate::name::Name;
+use symbols::{FixedBank, Name};
 use words::Word;
 
 /// Whether an instruction is an extracode.

@@ -8,8 +8,8 @@ use crate::bank::ErasableBank;
 use crate::faults::Fault;
 use crate::language::Location;
 use crate::request::WordRequest;
-use crate::symbol_table::Symbols;
 use rope::Rope;
+use symbols::Symbols;
 
 /// How many banks fixed memory has.
 pub(crate) const BANKS: usize = 0o44;

@@ -8,17 +8,17 @@ ghost use Rattle.yayul.specs.Inside.Answers.{layout_of, least_kind, labelled, wo
 ghost use Rattle.yayul.specs.Inside.Representation.{request_of, holds_word};
 ghost use Rattle.yayul.specs.Inside.Sound.{IsLocation};
 
-use crate::bank::{ErasableBank, FixedBank};
+use crate::bank::ErasableBank;
 use crate::faults::{FaultKind, least_fault, lesser_kind};
 use crate::language::{Content, Label, Location, Numeral, Operand, Operation, Statement};
 use crate::layout::{Layout, Placing};
 use crate::mark::Mark;
 use crate::request::WordRequest;
 use crate::statement::statement_of;
-use crate::symbol_table::Symbols;
-use crate::values::{Value, erasable_place, location_at, value_of};
+use crate::values::{erasable_place, location_at, value_of};
 use agc_text::{LINE_LENGTH, is_text};
 use std::alloc::Global;
+use symbols::{FixedBank, Symbols, Value};
 
 /// The most lines of a source.
 const LINE_COUNT: u32 = 65_536;
@@ -51,10 +51,8 @@ impl Layout {
         let statement = statement_of(text);
         let mark = Mark::of(self.location, &statement);
         let Statement { label, operation } = statement;
-        match self.operation(placing, line, label, operation) {
-            Ok(()) => Ok(mark),
-            Err(kind) => Err(kind),
-        }
+        self.operation(placing, line, label, operation)?;
+        Ok(mark)
     }
 
     // Does what a line's fields say.
@@ -147,10 +145,7 @@ impl Layout {
         ensures value { result ≡ and_then location_at (early_value (layout_of self.now) operand.now) }
         ensures located { IfOk result IsLocation }
     {
-        match self.value_of(operand) {
-            Ok(value) => location_at(value),
-            Err(kind) => Err(kind),
-        }
+        location_at(self.value_of(operand)?)
     }
 
     // The value of an operand, its symbols those of earlier lines.
@@ -201,10 +196,7 @@ impl Layout {
         ensures value { result ≡ and_then erasable_place (early_value (layout_of self.now) operand.now) }
         ensures range { IfOk result (λ place. place < 0o4000) }
     {
-        match self.value_of(operand) {
-            Ok(value) => erasable_place(value),
-            Err(kind) => Err(kind),
-        }
+        erasable_place(self.value_of(operand)?)
     }
 
     // ERASE: passes erasable words.

@@ -1,24 +1,23 @@
 //! The listing of a program: a row for each line of its source, and its symbols. No memory is taken.
 
-ghost use Rattle.std.specs.Prelude.{◌≡◌, ◌+◌, ◌<◌, ◌≤◌, ◌++◌, ℕ, List, length, true, codes, decimal, map, drop};
+ghost use Rattle.std.specs.Prelude.{◌≡◌, ◌+◌, ◌<◌, ◌≤◌, ◌++◌, ℕ, List, Some, length, true, codes, decimal, map, drop, slice_get};
 ghost use Rattle.std.specs.List.{flat_map};
 ghost use Rattle.agc_text.specs.Lines.{lines};
 ghost use Rattle.arrayvec.specs.ArrayVec.{array_vec_len};
 ghost use Rattle.space.specs.declared.place.Linear.TheVariants as linear;
 ghost use Rattle.words.specs.Devices.{Writes, failures_after};
-ghost use Rattle.yayul.specs.Listing.{blanks, bank_text, place_text, number_column, word_columns, columns, row_front, further_row, line_rows, value_text, symbol_row, symbols_head};
+ghost use Rattle.yayul.specs.Listing.{blanks, bank_text, place_text, number_column, word_columns, columns, row_front, further_row, line_rows, symbol_row, symbols_head};
 ghost use Rattle.yayul.specs.Inside.Representation.{shown_by_mark, rows_of};
 
+use crate::margin::Margin;
 use crate::mark::Mark;
-use crate::name::NAME_LENGTH;
-use crate::symbol_table::Symbols;
-use crate::values::Value;
 use agc_text::next_line;
 use arrayvec::ArrayVec;
 use rope::Rope;
 use space::numbers::{Bank, Offset};
 use space::place::Linear;
 use space::resolve::window;
+use symbols::{NAME_LENGTH, Symbols, Value, value_text};
 use words::{Write, WriteFailed, push_all, push_decimal, push_octal, write_all};
 
 /// The most decimal digits of a number of 64 bits.
@@ -31,23 +30,21 @@ const NUMBER_PLACES: usize = 5;
 /// and two blanks.
 const FRONT: usize = 36;
 
-/// The most bytes of a value: `FIXED `, two digits, a comma and four digits.
-const VALUE_LENGTH: usize = 13;
-
 /// The most bytes of a symbol's row: a name, a blank, a value and a line feed.
 const SYMBOL_ROW: usize = 23;
 
 /// The most bytes of the row before the symbols: `SYMBOLS `, 20 digits and a line feed.
 const HEAD: usize = 29;
 
-/// Writes the rows of the lines of a source, each with what it shows.
-pub(crate) fn write_rows<W: Write>(
+/// Writes the rows of the lines of a source, each with what it shows, and after its margin.
+pub(crate) fn write_rows<M: Margin, W: Write>(
     rope: &Rope,
     source: &[u8],
     marks: &[Mark],
+    margin: &M,
     writer: &mut W,
 ) -> Result<(), WriteFailed>
-    ensures written { W.told ≡ true → Writes (W.written writer.old) (W.written writer.new) (rows_of 1 rope.now (lines source.now) (map shown_by_mark marks.now)) result }
+    ensures written { W.told ≡ true → Writes (W.written writer.old) (W.written writer.new) (rows_of (M.text margin.now) 1 rope.now (lines source.now) (map shown_by_mark marks.now)) result }
     ensures failures { W.failures writer.new ≡ failures_after (W.failures writer.old) result }
 {
     let mut rest = source;
@@ -56,41 +53,63 @@ pub(crate) fn write_rows<W: Write>(
         let Some((text, after)) = next_line(rest) else {
             return Ok(());
         };
-        match write_line(number, rope, text, mark, writer) {
-            Ok(()) => rest = after,
-            Err(failed) => return Err(failed),
-        }
+        write_line(number, rope, text, mark, margin, writer)?;
+        rest = after;
         number += 1;
     }
     Ok(())
 }
 
 // Writes the rows of a line.
-fn write_line<W: Write>(
+fn write_line<M: Margin, W: Write>(
     number: u64,
     rope: &Rope,
     text: &[u8],
     mark: &Mark,
+    margin: &M,
     writer: &mut W,
 ) -> Result<(), WriteFailed>
-    ensures written { W.told ≡ true → Writes (W.written writer.old) (W.written writer.new) (line_rows number rope.now text.now (shown_by_mark mark.now)) result }
+    ensures written { W.told ≡ true → Writes (W.written writer.old) (W.written writer.new) (line_rows (M.text margin.now) number rope.now text.now (shown_by_mark mark.now)) result }
     ensures failures { W.failures writer.new ≡ failures_after (W.failures writer.old) result }
 {
+    write_first_row(number, rope, text, mark, margin, writer)?;
+    write_further_rows(number, rope, mark, margin, writer)
+}
+
+// Writes the first row of a line.
+fn write_first_row<M: Margin, W: Write>(
+    number: u64,
+    rope: &Rope,
+    text: &[u8],
+    mark: &Mark,
+    margin: &M,
+    writer: &mut W,
+) -> Result<(), WriteFailed>
+    ensures written { W.told ≡ true → Writes (W.written writer.old) (W.written writer.new)
+        (M.text margin.now (slice_get (shown_by_mark mark.now).words 0) ++ (row_front number rope.now (shown_by_mark mark.now) text.now ++ text.now ++ codes "\n")) result }
+    ensures failures { W.failures writer.new ≡ failures_after (W.failures writer.old) result }
+{
+    margin.write(first_word(mark), writer)?;
     let front = row_front(number, rope, mark, text);
-    match write_first_row(front.as_slice(), text, writer) {
-        Ok(()) => write_further_rows(number, rope, mark, writer),
-        Err(failed) => Err(failed),
-    }
+    write_row(front.as_slice(), text, writer)
 }
 
 // Writes the front of a row, its text and a line feed.
-fn write_first_row<W: Write>(front: &[u8], text: &[u8], writer: &mut W) -> Result<(), WriteFailed>
+fn write_row<W: Write>(front: &[u8], text: &[u8], writer: &mut W) -> Result<(), WriteFailed>
     ensures written { W.told ≡ true → Writes (W.written writer.old) (W.written writer.new) (front.now ++ text.now ++ codes "\n") result }
     ensures failures { W.failures writer.new ≡ failures_after (W.failures writer.old) result }
 {
-    match write_all(writer, front) {
-        Ok(()) => write_ended(text, writer),
-        Err(failed) => Err(failed),
+    write_all(writer, front)?;
+    write_ended(text, writer)
+}
+
+// The place of the word on the first row of a line.
+fn first_word(mark: &Mark) -> Option<(Bank, Offset)>
+    ensures { result ≡ slice_get (shown_by_mark mark.now).words 0 }
+{
+    match mark {
+        Mark::Word(bank, offset) | Mark::Words(bank, offset, _) => Some((*bank, *offset)),
+        Mark::Nothing | Mark::Erasable(_) | Mark::Fixed(..) => None,
     }
 }
 
@@ -99,31 +118,39 @@ fn write_ended<W: Write>(text: &[u8], writer: &mut W) -> Result<(), WriteFailed>
     ensures written { W.told ≡ true → Writes (W.written writer.old) (W.written writer.new) (text.now ++ codes "\n") result }
     ensures failures { W.failures writer.new ≡ failures_after (W.failures writer.old) result }
 {
-    match write_all(writer, text) {
-        Ok(()) => write_all(writer, b"\n"),
-        Err(failed) => Err(failed),
-    }
+    write_all(writer, text)?;
+    write_all(writer, b"\n")
 }
 
 // Writes the row of a second word, where there is one.
-fn write_further_rows<W: Write>(
+fn write_further_rows<M: Margin, W: Write>(
     number: u64,
     rope: &Rope,
     mark: &Mark,
+    margin: &M,
     writer: &mut W,
 ) -> Result<(), WriteFailed>
-    ensures written { W.told ≡ true → Writes (W.written writer.old) (W.written writer.new) (flat_map (further_row number rope.now) (drop 1 (shown_by_mark mark.now).words)) result }
+    ensures written { W.told ≡ true → Writes (W.written writer.old) (W.written writer.new)
+        (flat_map (λ p. M.text margin.now (Some p) ++ further_row number rope.now p) (drop 1 (shown_by_mark mark.now).words)) result }
     ensures failures { W.failures writer.new ≡ failures_after (W.failures writer.old) result }
 {
     match mark {
         Mark::Words(bank, _, second) => {
-            let mut line = number_column(number);
-            push_word(&mut line, rope, *bank, *second);
-            push_all(&mut line, b"\n");
-            write_all(writer, line.as_slice())
+            margin.write(Some((*bank, *second)), writer)?;
+            write_all(writer, further_row(number, rope, *bank, *second).as_slice())
         }
         Mark::Nothing | Mark::Erasable(_) | Mark::Fixed(..) | Mark::Word(..) => Ok(()),
     }
+}
+
+// The row of a second word.
+fn further_row(number: u64, rope: &Rope, bank: Bank, offset: Offset) -> ArrayVec<u8, FRONT>
+    ensures { result.items ≡ further_row number rope.now (bank, offset) }
+{
+    let mut line = number_column(number);
+    push_word(&mut line, rope, bank, offset);
+    push_all(&mut line, b"\n");
+    line
 }
 
 // What stands on a row before the text of its line.
@@ -213,8 +240,8 @@ fn push_bank(line: &mut ArrayVec<u8, FRONT>, place: &Linear)
     }
 }
 
-// Appends blanks.
-fn push_blanks<const N: usize>(line: &mut ArrayVec<u8, N>, count: usize)
+/// Appends blanks.
+pub fn push_blanks<const N: usize>(line: &mut ArrayVec<u8, N>, count: usize)
     requires { array_vec_len line.old + count ≤ N }
     ensures items { line.new.items ≡ line.old.items ++ blanks count }
     ensures len { array_vec_len line.new ≡ array_vec_len line.old + count }
@@ -229,10 +256,8 @@ pub(crate) fn write_symbols<W: Write>(symbols: &Symbols, writer: &mut W) -> Resu
     ensures written { W.told ≡ true → Writes (W.written writer.old) (W.written writer.new) (symbols_head symbols.now ++ flat_map symbol_row symbols.now) result }
     ensures failures { W.failures writer.new ≡ failures_after (W.failures writer.old) result }
 {
-    match write_all(writer, symbols_head(symbols).as_slice()) {
-        Ok(()) => write_symbol_rows(symbols, writer),
-        Err(failed) => Err(failed),
-    }
+    write_all(writer, symbols_head(symbols).as_slice())?;
+    write_symbol_rows(symbols, writer)
 }
 
 // Writes a row for each symbol.
@@ -244,10 +269,7 @@ fn write_symbol_rows<W: Write>(symbols: &Symbols, writer: &mut W) -> Result<(), 
         let Some(symbol) = symbols.entry(index) else {
             unreachable!()
         };
-        match write_all(writer, symbol_row(symbol.0, symbol.1).as_slice()) {
-            Ok(()) => {}
-            Err(failed) => return Err(failed),
-        }
+        write_all(writer, symbol_row(symbol.0, symbol.1).as_slice())?;
     }
     Ok(())
 }
@@ -277,28 +299,4 @@ fn symbol_row(name: &[u8], value: Value) -> ArrayVec<u8, SYMBOL_ROW>
     push_all(&mut line, value_text(value).as_slice());
     push_all(&mut line, b"\n");
     line
-}
-
-/// The value of a symbol as text, such as `NUM 00020`, `ERASABLE 0100` or `FIXED 02,0005`.
-pub fn value_text(value: Value) -> ArrayVec<u8, VALUE_LENGTH>
-    ensures { result.items ≡ value_text value }
-{
-    let mut text = ArrayVec::new();
-    match value {
-        Value::Num(number) => {
-            push_all(&mut text, b"NUM ");
-            push_octal(&mut text, 5, number.to_u16());
-        }
-        Value::Erasable(place) => {
-            push_all(&mut text, b"ERASABLE ");
-            push_octal(&mut text, 4, place.number());
-        }
-        Value::Fixed(bank, offset) => {
-            push_all(&mut text, b"FIXED ");
-            push_octal(&mut text, 2, bank.bank().number());
-            push_all(&mut text, b",");
-            push_octal(&mut text, 4, offset.number());
-        }
-    }
-    text
 }

@@ -4,11 +4,10 @@ ghost use Rattle.std.specs.Prelude.{◌≡◌, ◌≤◌, if◌then◌else◌, N
 ghost use Rattle.yayul.specs.Layout.{value_here, lacks_room, after_words, is_erasable, erased_to, word_place};
 ghost use Rattle.yayul.specs.Inside.Sound.{IsLocation};
 
-use crate::bank::FixedBank;
 use crate::faults::FaultKind;
 use crate::language::{Location, Numeral};
-use crate::values::Value;
 use space::numbers::{Eras, Offset};
+use symbols::{FixedBank, Value};
 
 impl Location {
     /// Whether it stands just past the end of erasable memory or of its bank.

@@ -6,7 +6,7 @@ ghost use Rattle.std.specs.Borrow.{Bor};
 ghost use Rattle.yayul.specs.Forms.{shift_in, term_in, operand_in};
 
 use crate::language::{Numeral, Operand, Shift, Term};
-use crate::name::Name;
+use crate::name::name_of;
 use crate::number::{begins_with_sign, number_in};
 use words::Word;
 
@@ -27,7 +27,7 @@ pub(crate) fn operand_of(text: &[u8], offset: Option<&[u8]>) -> Option<Operand>
 fn term_in(text: &[u8]) -> Option<Term>
     ensures { result ≡ term_in text.now }
 {
-    match Name::of(text) {
+    match name_of(text) {
         Some(name) => Some(Term::Named(name)),
         None => match number_in(text) {
             Numeral::Is(number) => Some(Term::Number(Some(number))),

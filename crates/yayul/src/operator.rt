@@ -7,9 +7,9 @@ ghost use Rattle.yayul.specs.Operators.{operators, is_bank, field_size, bits_und
 ghost use Rattle.yayul.specs.Words.{extracode_fault};
 ghost use Rattle.yayul.specs.Inside.Codes.{has_room};
 
-use crate::bank::FixedBank;
 use crate::faults::FaultKind;
 use crate::language::{AddressedCode, BankRange, Bits, Extracode, Operator, PlainCode, Takes};
+use symbols::FixedBank;
 
 impl Extracode {
     /// The fault of a word where extracode is in force or is not.

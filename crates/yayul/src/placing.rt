@@ -9,30 +9,27 @@ ghost use Rattle.yayul.specs.Inside.Representation.{request_of, words_in, holds_
 ghost use Rattle.yayul.specs.Inside.Sound.{IsLocation};
 ghost use Rattle.yayul.specs.Inside.Waiting.{Holds};
 
-use crate::bank::FixedBank;
 use crate::faults::{Fault, FaultKind, lesser_on};
 use crate::language::{BankRange, Location, Numeral};
 use crate::layout::{BANKS, Placing};
 use crate::request::WordRequest;
-use crate::symbol_table::Symbols;
 use crate::word::{LineWords, content_words, patch, put_words, request_fault};
 use rope::{Rope, RopeFault};
 use std::alloc::{AllocError, Global};
+use symbols::{FixedBank, Symbols};
 
 impl Placing {
     /// No words.
     pub(crate) fn start(alloc: Global) -> Result<Placing, RopeFault>
         ensures { IfOk result (λ p. Keeps 1 start p) }
     {
-        match Rope::empty(alloc) {
-            Ok(rope) => Ok(Placing {
-                rope,
-                ends: [0; BANKS],
-                waiting: Vec::new(alloc),
-                fault: None,
-            }),
-            Err(fault) => Err(fault),
-        }
+        let rope = Rope::empty(alloc)?;
+        Ok(Placing {
+            rope,
+            ends: [0; BANKS],
+            waiting: Vec::new(alloc),
+            fault: None,
+        })
     }
 
     /// The location past the words of a bank that the operator takes.

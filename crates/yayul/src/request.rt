@@ -1,8 +1,9 @@
 //! Requests for words.
 
-use crate::bank::{ErasableBank, FixedBank};
+use crate::bank::ErasableBank;
 use crate::language::Content;
 use space::numbers::Offset;
+use symbols::FixedBank;
 
 /// The words that a line asks for, from a place on.
 #[derive(Drop)]

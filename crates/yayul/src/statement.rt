@@ -13,7 +13,7 @@ use crate::instruction::{AddressedInstruction, PlainInstruction};
 use crate::language::{
     Content, Extracode, Label, Numeral, Operand, Operation, Operator, Shift, Statement, Term,
 };
-use crate::name::Name;
+use crate::name::name_of;
 use crate::number::{number_in, octal_in};
 use crate::operand::operand_of;
 use crate::operator::operator_of;
@@ -94,7 +94,7 @@ fn label_in(field: Option<Field<'_>>) -> Label
     ensures { result ≡ label_in (text_of field.entry) }
 {
     match field {
-        Some(field) => match Name::of(field.text) {
+        Some(field) => match name_of(field.text) {
             Some(name) => Label::Named(name),
             None => Label::Malformed,
         },

@@ -1,30 +1,18 @@
-//! What a symbol or an operand stands for.
+//! What an operand stands for.
 
 ghost use Rattle.std.specs.Prelude.{◌≡◌, ◌≤◌, ◌<◌, IfOk};
 ghost use Rattle.std.specs.Result.{result_map_both};
-ghost use Rattle.yayul.specs.Layout.{value_here, location_at, erasable_place, moved, moved_value, term_value, value_of};
-ghost use Rattle.yayul.specs.Places.{place_at, place_of};
+ghost use Rattle.symbols.specs.Values.{HasWords};
+ghost use Rattle.yayul.specs.Layout.{value_here, location_of, location_at, erasable_place, moved, moved_value, term_value, value_of};
 ghost use Rattle.yayul.specs.Inside.Sound.{IsPlace};
 ghost use Rattle.yayul.specs.Inside.Representation.{value_at};
 
-use crate::bank::FixedBank;
 use crate::faults::FaultKind;
 use crate::language::{Location, Operand, Shift, Term};
-use crate::symbol_table::Symbols;
 use space::numbers::{Eras, Offset};
 use space::place::Linear;
+use symbols::{FixedBank, Symbols, Value, place_of};
 use words::Word;
-
-/// What a symbol or an operand stands for.
-#[derive(Clone, Copy, Drop)]
-pub enum Value {
-    /// A number, 0 to 077777.
-    Num(Word),
-    /// An erasable place.
-    Erasable(Eras),
-    /// A fixed place.
-    Fixed(FixedBank, Offset),
-}
 
 // A number of a value's kind, which may be past the last that the kind has.
 #[derive(Clone, Copy, Drop)]
@@ -93,45 +81,27 @@ pub(crate) fn value_of(
     point.moved(operand.shift)
 }
 
-// The place of a value as a location. A number is one of erasable memory, of bank 2 or of bank 3.
+// The place of a value as a location.
 pub(crate) fn location_at(value: Value) -> Result<Location, FaultKind>
     ensures value { result ≡ location_at value }
     ensures located { IfOk result IsPlace }
 {
-    match value {
-        Value::Num(number) => match number.to_u16() {
-            n @ 0..0o4000 => Ok(Location::Erasable(n)),
-            n @ 0o4000..0o6000 => Ok(Location::Fixed(FixedBank::two(), n - 0o4000)),
-            n @ 0o6000..0o10000 => Ok(Location::Fixed(FixedBank::three(), n - 0o6000)),
-            _ => Err(FaultKind::OutOfRange),
-        },
-        Value::Erasable(place) => Ok(Location::Erasable(place.number())),
-        Value::Fixed(bank, offset) => Ok(Location::Fixed(bank, offset.number())),
+    match place_of(value) {
+        Some(place) => Ok(location_of(place)),
+        None => Err(FaultKind::OutOfRange),
     }
 }
 
-/// The place of a value, where it has one: a number's is erasable, or in bank 2 or 3.
-pub fn place_of(value: Value) -> Option<Linear>
-    ensures { result ≡ place_of value }
+// A place as a location.
+fn location_of(place: Linear) -> Location
+    requires { HasWords place }
+    ensures value { result ≡ location_of place }
+    ensures located { IsPlace result }
 {
-    match location_at(value) {
-        Ok(here) => Some(place_at(here)),
-        Err(_) => None,
-    }
-}
-
-// The place of a location that has one.
-fn place_at(here: Location) -> Linear
-    requires { IsPlace here }
-    ensures { result ≡ place_at here }
-{
-    match here {
-        Location::Erasable(number) => match Eras::try_new(number) {
-            Some(place) => Linear::Erasable(place),
-            None => unreachable!(),
-        },
-        Location::Fixed(bank, number) => match Offset::try_new(number) {
-            Some(offset) => Linear::Fixed(bank.bank(), offset),
+    match place {
+        Linear::Erasable(place) => Location::Erasable(place.number()),
+        Linear::Fixed(bank, offset) => match FixedBank::try_new(bank.number()) {
+            Some(bank) => Location::Fixed(bank, offset.number()),
             None => unreachable!(),
         },
     }
@@ -142,10 +112,9 @@ pub(crate) fn erasable_place(value: Value) -> Result<u16, FaultKind>
     ensures value { result ≡ erasable_place value }
     ensures range { IfOk result (λ place. place < 0o4000) }
 {
-    match location_at(value) {
-        Ok(Location::Erasable(number)) => Ok(number),
-        Ok(Location::Fixed(..)) => Err(FaultKind::WrongKindOfAddress),
-        Err(kind) => Err(kind),
+    match location_at(value)? {
+        Location::Erasable(number) => Ok(number),
+        Location::Fixed(..) => Err(FaultKind::WrongKindOfAddress),
     }
 }
 

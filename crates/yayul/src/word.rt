@@ -10,14 +10,14 @@ ghost use Rattle.yayul.specs.Inside.Answers.{least_kind};
 ghost use Rattle.yayul.specs.Inside.Codes.{greatest_code, greatest_field, greatest_with_field};
 ghost use Rattle.yayul.specs.Inside.Representation.{request_of, words_in};
 
-use crate::bank::{ErasableBank, FixedBank};
+use crate::bank::ErasableBank;
 use crate::faults::{FaultKind, least_fault};
 use crate::language::{AddressedCode, Content, Location, Operand, Takes};
 use crate::request::WordRequest;
-use crate::symbol_table::Symbols;
-use crate::values::{Value, erasable_place, location_at, value_of};
+use crate::values::{erasable_place, location_at, value_of};
 use rope::Rope;
 use space::{BANK_WORDS, Linear, Offset, banks_of, window};
+use symbols::{FixedBank, Symbols, Value};
 use words::Word;
 
 /// The superbank bit beside a bank as FB holds it.
@@ -129,10 +129,8 @@ fn addressed_word(code: AddressedCode, in_force: bool, value: Value) -> Result<L
     ensures { result_map_both words_in (λ kind. kind) result ≡ addressed_word code in_force value }
 {
     let bits = code.bits.under(code.extracode, in_force);
-    match field_of(code.takes, bits.size(), value) {
-        Ok(field) => Ok(LineWords::One(Word::of_low_bits(code.least + field))),
-        Err(kind) => Err(kind),
-    }
+    let field = field_of(code.takes, bits.size(), value)?;
+    Ok(LineWords::One(Word::of_low_bits(code.least + field)))
 }
 
 // The value of an operand of a request's line.
@@ -177,10 +175,7 @@ fn field_of(takes: Takes, size: u16, value: Value) -> Result<u16, FaultKind>
 {
     match takes {
         Takes::Address => address_below(size, value),
-        Takes::Pair => match address_below(size, value) {
-            Ok(address) => Ok((address + 1) % size),
-            Err(kind) => Err(kind),
-        },
+        Takes::Pair => Ok((address_below(size, value)? + 1) % size),
         Takes::FixedAddress => fixed_address(value),
         Takes::Channel => channel_in(size, value),
         Takes::ErasablePlace => erasable_place(value),
@@ -227,12 +222,9 @@ fn complete_place(value: Value) -> Result<u16, FaultKind>
 fn fixed_place(value: Value) -> Result<(FixedBank, Offset), FaultKind>
     ensures { result ≡ fixed_place value }
 {
-    match location_at(value) {
-        Ok(location) => match location.word_place() {
-            Some(place) => Ok(place),
-            None => Err(FaultKind::WrongKindOfAddress),
-        },
-        Err(kind) => Err(kind),
+    match location_at(value)?.word_place() {
+        Some(place) => Ok(place),
+        None => Err(FaultKind::WrongKindOfAddress),
     }
 }
 

@@ -8,14 +8,16 @@ use Rattle.agc_text.specs.declared.fields.Field.{Field}
 use Rattle.agc_text.specs.declared.fields.Line.{Line}
 use Rattle.rope.specs.Places.{Words, stands}
 use Rattle.space.specs.declared.place.Linear.TheVariants as linear
+use Rattle.symbols.specs.contracts.values.Value as value
+use Rattle.symbols.specs.declared.values.Value.{Value}
+use Rattle.symbols.specs.declared.values.Value.TheVariants.{Num, Erasable, Fixed}
 use Rattle.yayul.specs.Forms.{operation_of}
 use Rattle.yayul.specs.Language.{BadBank, BadOperand, BankRange, FaultKind, Is, Location, NoForm, Numeral, TooLarge, Undefined}
 use Rattle.yayul.specs.Layout.{Request, Layout, word_place, after_words, line_effect}
-use Rattle.yayul.specs.Listing.{Shown, nothing, line_rows, shown}
+use Rattle.yayul.specs.Listing.{Margin, Shown, nothing, line_rows, shown}
 use Rattle.yayul.specs.Forms.{statement_of}
 use Rattle.yayul.specs.Operators.{operators, is_bank}
 use Rattle.yayul.specs.Program.{Program}
-use Rattle.yayul.specs.contracts.values.Value as value
 use Rattle.yayul.specs.declared.language.Operation.{Operation}
 use Rattle.yayul.specs.declared.language.Operation.TheVariants.{Nothing}
 use Rattle.yayul.specs.declared.mark.Mark.{Mark}
@@ -23,8 +25,6 @@ use Rattle.yayul.specs.declared.mark.Mark.TheVariants as mark
 use Rattle.yayul.specs.declared.request.WordRequest.{WordRequest}
 use Rattle.yayul.specs.declared.values.Point.{Point}
 use Rattle.yayul.specs.declared.values.Point.TheVariants as point
-use Rattle.yayul.specs.declared.values.Value.{Value}
-use Rattle.yayul.specs.declared.values.Value.TheVariants.{Num, Erasable, Fixed}
 use Rattle.yayul.specs.declared.word.LineWords.{LineWords}
 use Rattle.yayul.specs.declared.word.LineWords.TheVariants.{One, Two}
 
@@ -93,10 +93,10 @@ lines_show line s [] = []
 lines_show line s (text ∷ texts) = shown s.location (statement_of text) ∷ lines_show (line + 1) (line_effect line s text).after texts
 
 -- the rows of some lines, the first of them with a number, and each with what it shows
-abbrev pub rows_of : ℕ → Words → List (List ℕ) → List Shown → List ℕ
-rows_of line words [] shows = []
-rows_of line words (text ∷ texts) [] = []
-rows_of line words (text ∷ texts) (shown ∷ shows) = line_rows line words text shown ++ rows_of (line + 1) words texts shows
+abbrev pub rows_of : Margin → ℕ → Words → List (List ℕ) → List Shown → List ℕ
+rows_of margin line words [] shows = []
+rows_of margin line words (text ∷ texts) [] = []
+rows_of margin line words (text ∷ texts) (shown ∷ shows) = line_rows margin line words text shown ++ rows_of margin (line + 1) words texts shows
 
 -- a program is stored as its fields, paired
 abbrev pub program_code : Coded Program

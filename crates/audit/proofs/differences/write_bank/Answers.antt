@@ -1,7 +1,9 @@
 use Rattle.std.proofs.Common.{◌∙◌, refl, sym, arith}
+use Rattle.std.proofs.lemmas.Result.{err_from_is_err_and}
 use Rattle.rope.specs.Places.{bank_words}
 use Rattle.audit.specs.Differences.{differing_at, differing_in}
-use Rattle.audit.proofs.Places.{lines_none, writes_places, begins_places, count_more, places_end, count_ends}
+use Rattle.audit.proofs.Places.{lines_none, writes_places, begins_places, places_end}
+use Rattle.audit.proofs.Listed.{count_more, count_ends}
 use Rattle.audit.proofs.Steps.{extracode_first, extracode_next}
 use Rattle.audit.proofs.differences.write_bank.Goals as goal
 
@@ -15,11 +17,12 @@ loop-number-init g c = record {
   failures = refl;
 }
 
-pub returns-in-Err-clause-written : goal.returns-in-Err-clause-written
+pub returns-in_err-count-clause-written : goal.returns-in_err-count-clause-written
 unfolding differing_in
-returns-in-Err-clause-written g c = λ told.
-    begins_places c.args.old.now c.args.new.now (differing_at c.args.old.now c.args.new.now c.args.bank) c.loop-number.number bank_words _ _ _
-    c.loop-number-test.true (c.loop-number.invariant.written told) (rw c.offset_of-offset.ensures at (c.in-Err.ensures.written told))
+returns-in_err-count-clause-written g c = λ told.
+    let p = err_from_is_err_and c.from_residual.result c.from_residual.ensures.1 in
+    rw p.1 (begins_places c.args.old.now c.args.new.now (differing_at c.args.old.now c.args.new.now c.args.bank) c.loop-number.number bank_words _ _ _
+    c.loop-number-test.true (c.loop-number.invariant.written told) (rw c.offset_of-offset.ensures at (c.in_err-count.ensures.written told)))
 
 pub loop-number-preserved : goal.loop-number-preserved
 loop-number-preserved g c = record {
@@ -30,13 +33,13 @@ loop-number-preserved g c = record {
       extracode_next c.args.new.now c.args.bank c.loop-number.number c.offset_of-offset.result c.word-in-loop-number.result c.loop-number.extra.1 _
       c.offset_of-offset.ensures c.loop-number.invariant.new c.word-in-loop-number.ensures c.extracode_after-in-loop-number.ensures;
   count =
-      count_more (differing_at c.args.old.now c.args.new.now c.args.bank) c.loop-number.number c.loop-number.count c.in-Ok.more
-      c.loop-number.invariant.count (rw c.offset_of-offset.ensures at c.in-Ok.ensures.count);
-  few = omega (arith, c.loop-number.invariant.few, c.in-Ok.ensures.few);
+      count_more (differing_at c.args.old.now c.args.new.now c.args.bank) c.loop-number.number c.loop-number.count c.in_ok-count.field-0
+      c.loop-number.invariant.count (rw c.offset_of-offset.ensures at c.in_ok-count.ensures.count);
+  few = omega (arith, c.loop-number.invariant.few, c.in_ok-count.ensures.few);
   written = λ told.
       writes_places c.args.old.now c.args.new.now (differing_at c.args.old.now c.args.new.now c.args.bank) c.loop-number.number _ _ _
-      (c.loop-number.invariant.written told) (rw c.offset_of-offset.ensures at (c.in-Ok.ensures.written told));
-  failures = c.in-Ok.ensures.failures ∙ c.loop-number.invariant.failures;
+      (c.loop-number.invariant.written told) (rw c.offset_of-offset.ensures at (c.in_ok-count.ensures.written told));
+  failures = c.in_ok-count.ensures.failures ∙ c.loop-number.invariant.failures;
 }
 
 pub returns-clause-written : goal.returns-clause-written

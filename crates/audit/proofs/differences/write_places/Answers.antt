@@ -1,7 +1,9 @@
 use Rattle.std.proofs.Common.{◌∙◌, refl, arith}
+use Rattle.std.proofs.lemmas.Result.{err_from_is_err_and}
 use Rattle.rope.specs.Places.{banks}
 use Rattle.audit.specs.Differences.{differing_in, differing}
-use Rattle.audit.proofs.Places.{lines_none, writes_places, begins_places, count_more, places_end, count_ends}
+use Rattle.audit.proofs.Places.{lines_none, writes_places, begins_places, places_end}
+use Rattle.audit.proofs.Listed.{count_more, count_ends}
 use Rattle.audit.proofs.differences.write_places.Goals as goal
 
 pub loop-bank-init : goal.loop-bank-init
@@ -12,22 +14,23 @@ loop-bank-init g c = record {
   failures = refl;
 }
 
-pub returns-in-Err-clause-written : goal.returns-in-Err-clause-written
+pub returns-in_err-count-clause-written : goal.returns-in_err-count-clause-written
 unfolding differing
-returns-in-Err-clause-written g c = λ told.
-    begins_places c.args.old.now c.args.new.now (differing_in c.args.old.now c.args.new.now) c.loop-bank.bank banks _ _ _
-    c.loop-bank-test.true (c.loop-bank.invariant.written told) (rw c.bank_of.ensures at (c.in-Err.ensures.written told))
+returns-in_err-count-clause-written g c = λ told.
+    let p = err_from_is_err_and c.from_residual.result c.from_residual.ensures.1 in
+    rw p.1 (begins_places c.args.old.now c.args.new.now (differing_in c.args.old.now c.args.new.now) c.loop-bank.bank banks _ _ _
+    c.loop-bank-test.true (c.loop-bank.invariant.written told) (rw c.bank_of.ensures at (c.in_err-count.ensures.written told)))
 
 pub loop-bank-preserved : goal.loop-bank-preserved
 loop-bank-preserved g c = record {
   count =
-      count_more (differing_in c.args.old.now c.args.new.now) c.loop-bank.bank c.loop-bank.count c.in-Ok.more
-      c.loop-bank.invariant.count (rw c.bank_of.ensures at c.in-Ok.ensures.count);
-  few = omega (arith, c.loop-bank.invariant.few, c.in-Ok.ensures.few);
+      count_more (differing_in c.args.old.now c.args.new.now) c.loop-bank.bank c.loop-bank.count c.in_ok-count.field-0
+      c.loop-bank.invariant.count (rw c.bank_of.ensures at c.in_ok-count.ensures.count);
+  few = omega (arith, c.loop-bank.invariant.few, c.in_ok-count.ensures.few);
   written = λ told.
       writes_places c.args.old.now c.args.new.now (differing_in c.args.old.now c.args.new.now) c.loop-bank.bank _ _ _
-      (c.loop-bank.invariant.written told) (rw c.bank_of.ensures at (c.in-Ok.ensures.written told));
-  failures = c.in-Ok.ensures.failures ∙ c.loop-bank.invariant.failures;
+      (c.loop-bank.invariant.written told) (rw c.bank_of.ensures at (c.in_ok-count.ensures.written told));
+  failures = c.in_ok-count.ensures.failures ∙ c.loop-bank.invariant.failures;
 }
 
 pub returns-clause-written : goal.returns-clause-written

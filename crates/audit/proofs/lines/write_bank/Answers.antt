@@ -1,4 +1,5 @@
 use Rattle.std.proofs.Common.{◌∙◌, refl, sym, arith}
+use Rattle.std.proofs.lemmas.Result.{err_from_is_err_and}
 use Rattle.rope.specs.Places.{bank_words}
 use Rattle.words.proofs.Texts.{append-nothing}
 use Rattle.audit.specs.WordLines.{bank_lines, word_line}
@@ -13,11 +14,12 @@ loop-number-init g c = record {
   failures = refl;
 }
 
-pub returns-in-Err-clause-written : goal.returns-in-Err-clause-written
+pub returns-in_err-write_all-clause-written : goal.returns-in_err-write_all-clause-written
 unfolding bank_lines
-returns-in-Err-clause-written g c = λ told.
-    begins_parts (word_line c.args.rope.now c.args.bank) c.loop-number.number bank_words _ _ _ c.loop-number-test.true (c.loop-number.invariant.written told)
-    (rw (c.as_slice.ensures.value, c.word_line.ensures, c.offset_of-offset.ensures) at (c.in-Err.ensures.written told))
+returns-in_err-write_all-clause-written g c = λ told.
+    let p = err_from_is_err_and c.from_residual.result c.from_residual.ensures.1 in
+    rw p.1 (begins_parts (word_line c.args.rope.now c.args.bank) c.loop-number.number bank_words _ _ _ c.loop-number-test.true (c.loop-number.invariant.written told)
+    (rw (c.as_slice.ensures.value, c.word_line.ensures, c.offset_of-offset.ensures) at (c.in_err-write_all.ensures.written told)))
 
 pub loop-number-preserved : goal.loop-number-preserved
 loop-number-preserved g c = record {
@@ -26,8 +28,8 @@ loop-number-preserved g c = record {
       c.offset_of-offset.ensures c.loop-number.invariant.extra c.word.ensures c.extracode_after-extra.ensures;
   written = λ told.
       writes_more (word_line c.args.rope.now c.args.bank) c.loop-number.number _ _ _ (c.loop-number.invariant.written told)
-      (rw (c.as_slice.ensures.value, c.word_line.ensures, c.offset_of-offset.ensures) at (c.in-Ok.ensures.written told));
-  failures = c.in-Ok.ensures.failures ∙ c.loop-number.invariant.failures;
+      (rw (c.as_slice.ensures.value, c.word_line.ensures, c.offset_of-offset.ensures) at (c.in_ok-write_all.ensures.written told));
+  failures = c.in_ok-write_all.ensures.failures ∙ c.loop-number.invariant.failures;
 }
 
 pub returns-clause-written : goal.returns-clause-written

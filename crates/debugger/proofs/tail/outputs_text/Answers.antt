@@ -4,7 +4,7 @@ use Rattle.std.proofs.lemmas.List.{take_more}
 use Rattle.std.proofs.lemmas.List.Concat.{flat_map-append}
 use Rattle.std.proofs.lemmas.Option.{slice_get-get_or, slice_get_within, get_or_from_slice_get}
 use Rattle.cpu.specs.declared.output.Output.{Output}
-use Rattle.debugger.specs.ChannelLines.{channel_line, channel_lines}
+use Rattle.cpu.specs.ChannelLines.{channel_line, channel_lines}
 use Rattle.debugger.proofs.tail.outputs_text.Goals as goal
 
 stands : {X : Type 0} (xs : List X) (i : ℕ) → None ≡ slice_get xs i → i < length xs → ⊥

@@ -1,6 +1,6 @@
 use Rattle.std.proofs.Common.{◌≡◌, ◌≤◌, ◌*◌, take}
 use Rattle.arrayvec.specs.ArrayVec.{array_vec_len}
-use Rattle.debugger.specs.ChannelLines.{channel_lines}
+use Rattle.cpu.specs.ChannelLines.{channel_lines}
 use Rattle.debugger.proofs.tail.outputs_text.Given as goal
 
 abbrev pub invariant-loop-index : goal.invariant-loop-index

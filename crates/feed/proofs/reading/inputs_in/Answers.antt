@@ -12,11 +12,11 @@ loop-first-init c =
 pub loop-first-preserved : goal.loop-first-preserved
 loop-first-preserved c =
     let old = c.loop-first.gathered in
-    let good = c.in-Ok.ensures.line in
-    let same = c.in-Ok.ensures.same_line in
+    let good = c.in_ok-take_line.ensures.line in
+    let same = c.in_ok-take_line.ensures.same_line in
     record {
       left = left-next _ old.plain.items _ old.sources.items _ old.line _ _ _ _ c.loop-first.invariant.left (ap (map statement_of) c.in-Some.ensures.lines) good.faultless good.plain good.series (omega (arith, same));
-      gathered = rw same c.in-Ok.ensures.gathered;
+      gathered = rw same c.in_ok-take_line.ensures.gathered;
       lines = let l = c.loop-first.invariant.lines in omega (arith, l, same, c.in-Some.ensures.shorter);
     }
 

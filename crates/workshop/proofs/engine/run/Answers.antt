@@ -1,55 +1,101 @@
-use Rattle.std.proofs.Common.{◌≡◌, ◌∙◌, ◌++◌, List, ℕ, length, refl, sym, subst, arith}
-use Rattle.cpu.specs.Next.{next}
-use Rattle.cpu.specs.State.{Scenario}
-use Rattle.cpu.proofs.RunLaws.{run-zero, outs-zero}
-use Rattle.words.specs.Devices.{WritesBeginning}
-use Rattle.debugger.specs.ChannelLines.{channel_lines}
-use Rattle.workshop.specs.Steps.{outputs_after}
-use Rattle.workshop.proofs.RunSteps.{start_writes, few_cycles, fits_after, breaks_off, state_more, lines_after, outputs_more}
+use Rattle.std.proofs.Common.{◌≡◌, ◌∙◌, true, refl, sym, ap, arith, rules}
+use Rattle.std.proofs.lemmas.Result.{err_from_is_err_and}
+use Rattle.cpu.proofs.RunLaws.{run-zero}
+use Rattle.words.specs.Devices.{one_more}
+use Rattle.workshop.specs.Runs.{BreaksOff}
+use Rattle.workshop.proofs.Telling.{tells_at_start, tells_more, tells_some}
+use Rattle.workshop.proofs.RunSteps.{few_cycles, fits_after, stands_at_start, stands_after_step, stands_breaks_off, breaks_off_after}
 use Rattle.workshop.proofs.engine.run.Goals as goal
 
 pub loop-done-init : goal.loop-done-init
 loop-done-init g c =
     record {
       scenario = refl;
-      state = c.start-machine.ensures.start ∙ sym (run-zero c.args.processor.now.scenario);
-      written = λ told. start_writes c.args.processor.now.scenario _;
+      stands = stands_at_start _ c.args.processor.now.scenario _ _ (c.start-machine.ensures.start ∙ sym (run-zero c.args.processor.now.scenario));
       failures = refl;
-      outputs = rw (outs-zero c.args.processor.now.scenario) refl;
       few_outputs = omega arith;
+      within = omega arith;
+      handed_on = λ told some. absurd (omega (arith, some));
+      tells = tells_at_start _;
+      whole = λ more. refl;
+    }
+
+pub loop-done-2-init : goal.loop-done-2-init
+loop-done-2-init g c =
+    record {
+      scenario = refl;
+      stands = λ scenario old e before. before;
+      failures = refl;
+      few_outputs = c.loop-done.invariant.few_outputs;
+      within = omega arith;
+      further = omega arith;
     }
 
 pub step_and_write-requires-clause-cycles : goal.step_and_write-requires-clause-cycles
-step_and_write-requires-clause-cycles g c = few_cycles _ c.loop-done._done _ c.loop-done.invariant.state (omega arith)
+step_and_write-requires-clause-cycles g c =
+    let here = c.loop-done-2.invariant.stands _ _ c.loop-done.invariant.scenario c.loop-done.invariant.stands in
+    few_cycles c.args.processor.now.scenario c.loop-done-2.done _ here.state (omega arith)
 
 pub step_and_write-requires-clause-fits : goal.step_and_write-requires-clause-fits
-step_and_write-requires-clause-fits g c = fits_after _ _ c.loop-done._done _ c.loop-done.invariant.scenario c.loop-done.invariant.state
+step_and_write-requires-clause-fits g c =
+    let here = c.loop-done-2.invariant.stands _ _ c.loop-done.invariant.scenario c.loop-done.invariant.stands in
+    fits_after c.args.processor.now.scenario _ c.loop-done-2.done _ (c.loop-done-2.invariant.scenario ∙ c.loop-done.invariant.scenario) here.state
 
-pub returns-in-Err-clause-runs : goal.returns-in-Err-clause-runs
-returns-in-Err-clause-runs g c = λ told.
-    let before : List ℕ = g.W.Write.written c.loop-done.out in
-    let after : List ℕ = g.W.Write.written c.step_and_write.new.out in
-    let part : WritesBeginning before after (channel_lines (outputs_after c.args.processor.now.scenario c.loop-done.machine)) =
-    subst (λ (u : Scenario). WritesBeginning before after (channel_lines (outputs_after u c.loop-done.machine))) c.loop-done.invariant.scenario (c.in-Err.ensures.written told) in
-    breaks_off _ c.args.steps c.loop-done._done _ _ before after (omega arith) c.loop-done.invariant.state (c.loop-done.invariant.written told) part
+pub returns-in_err-outputs-clause-makes : goal.returns-in_err-outputs-clause-makes
+returns-in_err-outputs-clause-makes g c =
+    let p = err_from_is_err_and c.from_residual.result c.from_residual.ensures.1 in
+    let breaks : g.W.Write.told ≡ true → BreaksOff c.args.processor.now.scenario c.args.steps (g.W.Write.written c.args.out.now) (g.W.Write.written c.step_and_write.new.out) = λ told.
+    stands_breaks_off _ c.args.processor.now.scenario _ c.args.steps c.loop-done-2.done _ _ _ _ _ (omega arith)
+    (c.loop-done-2.invariant.scenario ∙ c.loop-done.invariant.scenario)
+    (c.loop-done-2.invariant.stands _ _ c.loop-done.invariant.scenario c.loop-done.invariant.stands) told (c.in_err-outputs.ensures.written told) in
+    rw (p.1, p.2) (breaks, c.in_err-outputs.ensures.failures ∙ ap one_more (c.loop-done-2.invariant.failures ∙ c.loop-done.invariant.failures))
+
+pub loop-done-2-preserved : goal.loop-done-2-preserved
+loop-done-2-preserved g c =
+    record {
+      scenario = c.in_ok-outputs.ensures.scenario ∙ c.loop-done-2.invariant.scenario;
+      stands = λ scenario old e before.
+          stands_after_step _ scenario _ c.loop-done-2.done _ _ old _ _ c.loop-done-2.outputs c.in_ok-outputs.field-0 (c.loop-done-2.invariant.scenario ∙ e)
+          (c.loop-done-2.invariant.stands scenario old e before) c.in_ok-outputs.ensures.state c.in_ok-outputs.ensures.written c.in_ok-outputs.ensures.count;
+      failures = c.in_ok-outputs.ensures.failures ∙ c.loop-done-2.invariant.failures;
+      few_outputs = omega (arith, c.in_ok-outputs.ensures.at_most_one, c.loop-done-2.invariant.few_outputs);
+      within = omega arith;
+      further = omega arith;
+    }
+
+pub returns-in_err-hand_on-clause-makes : goal.returns-in_err-hand_on-clause-makes
+returns-in_err-hand_on-clause-makes g c =
+    let p = err_from_is_err_and c.from_residual-in_err-hand_on.result c.from_residual-in_err-hand_on.ensures.1 in
+    let here = c.loop-done-2.invariant.stands _ _ c.loop-done.invariant.scenario c.loop-done.invariant.stands in
+    let breaks : g.W.Write.told ≡ true → BreaksOff c.args.processor.now.scenario c.args.steps (g.W.Write.written c.args.out.now) (g.W.Write.written c.hand_on.new.out) = λ told.
+    breaks_off_after c.args.processor.now.scenario c.args.steps c.loop-done-2.done _ _ _ (omega arith) (here.written told) (c.in_err-hand_on.ensures.written told) in
+    rw (p.1, p.2) (breaks, c.in_err-hand_on.ensures.failures ∙ ap one_more (c.loop-done-2.invariant.failures ∙ c.loop-done.invariant.failures))
+
+pub returns-in_err-outputs-clause-progress : goal.returns-in_err-outputs-clause-progress
+returns-in_err-outputs-clause-progress g c =
+    let p = err_from_is_err_and c.from_residual.result c.from_residual.ensures.1 in
+    rw p.1 (tells_some c.args.steps c.loop-done.done _ _ c.loop-done.told c.loop-done.invariant.within c.loop-done.invariant.tells)
+
+pub returns-in_err-hand_on-clause-progress : goal.returns-in_err-hand_on-clause-progress
+returns-in_err-hand_on-clause-progress g c =
+    let p = err_from_is_err_and c.from_residual-in_err-hand_on.result c.from_residual-in_err-hand_on.ensures.1 in
+    rw p.1 (tells_some c.args.steps c.loop-done.done _ _ c.loop-done.told c.loop-done.invariant.within c.loop-done.invariant.tells)
 
 pub loop-done-preserved : goal.loop-done-preserved
 loop-done-preserved g c =
-    let scenario : Scenario = c.args.processor.now.scenario in
-    let machine : _ = c.step_and_write.new.machine in
-    let after : List ℕ = g.W.Write.written c.step_and_write.new.out in
-    let before : List ℕ = g.W.Write.written c.loop-done.out in
+    let whole = c.loop-done.invariant.whole c.loop-done-test.true in
     record {
-      scenario = c.in-Ok.ensures.scenario ∙ c.loop-done.invariant.scenario;
-      state =
-          state_more scenario c.loop-done._done c.loop-done.machine machine c.loop-done.invariant.state
-          (subst (λ (u : Scenario). machine ≡ (next u c.loop-done.machine).0) c.loop-done.invariant.scenario c.in-Ok.ensures.state);
-      written = λ told.
-          lines_after scenario c.loop-done._done c.loop-done.machine _ before after c.loop-done.invariant.state (c.loop-done.invariant.written told)
-          (subst (λ (u : Scenario). after ≡ before ++ channel_lines (outputs_after u c.loop-done.machine)) c.loop-done.invariant.scenario (c.in-Ok.ensures.written told));
-      failures = c.in-Ok.ensures.failures ∙ c.loop-done.invariant.failures;
-      outputs =
-          outputs_more scenario c.loop-done._done c.loop-done.machine c.loop-done.outputs c.in-Ok.count c.loop-done.invariant.state c.loop-done.invariant.outputs
-          (subst (λ (u : Scenario). c.in-Ok.count ≡ length (outputs_after u c.loop-done.machine)) c.loop-done.invariant.scenario c.in-Ok.ensures.count);
-      few_outputs = omega (arith, c.in-Ok.ensures.at_most_one, c.loop-done.invariant.few_outputs);
+      scenario = search rules;
+      stands = search rules;
+      failures = search rules;
+      few_outputs = search rules;
+      within = omega arith;
+      handed_on = search rules;
+      tells = tells_more c.loop-done.done c.loop-done-2.done _ _ _ _ _ whole (omega arith) (omega arith) refl c.loop-done.invariant.tells c.tell-told.ensures;
+      whole = λ more. omega (arith, whole, more);
     }
+
+pub returns-clause-progress : goal.returns-clause-progress
+returns-clause-progress g c =
+    let all : c.loop-done.done ≡ c.args.steps = omega arith in
+    record { told = c.loop-done.told; tells = rw (sym all) c.loop-done.invariant.tells }

@@ -9,9 +9,7 @@ invariant-bytes g l = record {
   less : l.begun ≡ true → most_ahead l.self < most_ahead l.fn.self;
   reading : g.R.Read.told ≡ true → Reading (text_ahead l.fn.self (g.R.Read.left l.fn.reader)) (most_ahead l.fn.self) l.line (text_ahead l.self (g.R.Read.left l.reader)) (most_ahead l.self) l.begun;
   reads : g.R.Read.told ≡ true → ReadsWithin (g.R.Read.left l.fn.reader) (g.R.Read.left l.reader) l.fn.self.more l.self.more;
-  written : g.W.Write.told ≡ true → g.W.Write.written l.out ≡ g.W.Write.written l.fn.out;
   read_failures : g.R.Read.failures l.reader ≡ g.R.Read.failures l.fn.reader;
-  write_failures : g.W.Write.failures l.out ≡ g.W.Write.failures l.fn.out;
 }
 
 abbrev pub decreases-bytes : goal.decreases-bytes

@@ -2,7 +2,7 @@ use Rattle.std.proofs.Common.{◌+◌, ◌<◌, length, ap, arith}
 use Rattle.cpu.specs.State.{Processing}
 use Rattle.replay.specs.View.{SessionView}
 use Rattle.replay.proofs.ImageLemmas.{All-from_steps}
-use Rattle.replay.proofs.SessionLemmas.{goes_sound, puts_out, staying_after}
+use Rattle.replay.proofs.SessionLemmas.{goes_sound, images_of, puts_out, staying_after}
 use Rattle.replay.proofs.FewImages.{Fits-room}
 use Rattle.replay.proofs.session.Session.forward.Goals as goal
 
@@ -34,3 +34,21 @@ returns-clause-output g c =
 
 pub returns-clause-stands : goal.returns-clause-stands
 returns-clause-stands g c = (invariant_of-self-2 g c).stands
+
+pub returns-then-self-eq-STEP_LIMIT-clause-images : goal.returns-then-self-eq-STEP_LIMIT-clause-images
+returns-then-self-eq-STEP_LIMIT-clause-images g c =
+    let s = c.self.inside in
+    let view : SessionView = record { scenario = s.processor.scenario; meter = s.processor.meter; images = g.K.Keeper.images s.keeper; present = s.present; shown = s.shown; n = s.n } in
+    rw (← c.self.view_is) (images_of view c.self.invariant (g.met.K.Keeper.rising s.keeper))
+
+pub returns-in_err-keep-clause-images : goal.returns-in_err-keep-clause-images
+returns-in_err-keep-clause-images g c =
+    let s = c.self.inside in
+    let view : SessionView = record { scenario = s.processor.scenario; meter = s.processor.meter; images = g.K.Keeper.images s.keeper; present = s.present; shown = s.shown; n = s.n } in
+    rw c.in_err-keep.ensures.err.0 (images_of view c.self.invariant (g.met.K.Keeper.rising s.keeper))
+
+pub returns-clause-images : goal.returns-clause-images
+returns-clause-images g c =
+    let s = c.self.inside in
+    let view : SessionView = record { scenario = s.processor.scenario; meter = s.processor.meter; images = g.K.Keeper.images s.keeper; present = s.present; shown = s.shown; n = s.n } in
+    images_of (record view { scenario = c.make_step-output.new.processor.scenario; meter = c.make_step-output.new.processor.meter; images = g.K.Keeper.images c.thin.new.keeper; present = c.make_step-output.new.machine; n = s.n + 1 }) (invariant_of-self-2 g c) (g.met.K.Keeper.rising c.thin.new.keeper)

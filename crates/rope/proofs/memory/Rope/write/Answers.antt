@@ -1,4 +1,5 @@
 use Rattle.std.proofs.Common.{◌∙◌, ◌*◌, ◌+◌, arith, refl}
+use Rattle.std.proofs.lemmas.Result.{err_from_is_err_and}
 use Rattle.words.proofs.Texts.{append-nothing, append-then}
 use Rattle.rope.specs.Places.{bank_words}
 use Rattle.rope.proofs.ImageLaws.{image_front-part, begins_image, image_front-none}
@@ -14,10 +15,11 @@ pub loop-entry-preserved : goal.loop-entry-preserved
 loop-entry-preserved g c = record {
   written = λ told.
       rw (image_front-part c.args.version c.args.self.now (bank_words * c.loop-entry.entry) bank_words (bank_words * (c.loop-entry.entry + 1)) (omega arith))
-      (append-then _ _ _ _ _ (c.loop-entry.invariant.written told) (c.in-Ok.ensures.written told));
-  failures = c.in-Ok.ensures.failures ∙ c.loop-entry.invariant.failures;
+      (append-then _ _ _ _ _ (c.loop-entry.invariant.written told) (c.in_ok-write_bank.ensures.written told));
+  failures = c.in_ok-write_bank.ensures.failures ∙ c.loop-entry.invariant.failures;
 }
 
-pub returns-in-Err-clause-written : goal.returns-in-Err-clause-written
-returns-in-Err-clause-written g c = λ told.
-    begins_image c.args.version _ _ _ c.args.self.now (bank_words * c.loop-entry.entry) bank_words (omega arith) (c.loop-entry.invariant.written told) (c.in-Err.ensures.written told)
+pub returns-in_err-write_bank-clause-written : goal.returns-in_err-write_bank-clause-written
+returns-in_err-write_bank-clause-written g c = λ told.
+    let p = err_from_is_err_and c.from_residual.result c.from_residual.ensures.1 in
+    rw p.1 (begins_image c.args.version _ _ _ c.args.self.now (bank_words * c.loop-entry.entry) bank_words (omega arith) (c.loop-entry.invariant.written told) (c.in_err-write_bank.ensures.written told))

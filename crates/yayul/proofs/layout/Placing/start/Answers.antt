@@ -8,11 +8,11 @@ use Rattle.yayul.proofs.layout.Placing.start.Goals as goal
 pub invariant_of-result : goal.invariant_of-result
 invariant_of-result c = record { ended = λ bank lt. subst (λ end. end ≤ bank_words) (sym (zeros 36 bank)) (omega arith) }
 
-pub returns-in-Ok : goal.returns-in-Ok
-returns-in-Ok c =
+pub returns : goal.returns
+returns c =
     let none = ap (map request_of) c.new.ensures.items in
     record {
-      holds = rw (none, c.in-Ok.ensures.ok) (holds-start []);
+      holds = rw (none, c.in_ok-rope.ensures.ok) (holds-start []);
       known = rw none (known-start []);
       ends = ends-none (replicate 36 0) [] refl (zeros 36);
     }

@@ -1,0 +1,71 @@
+-- What lines of an extended session ask for.
+use Rattle.std.proofs.Common.{◌≡◌, ℕ, ◌≤◌, nat_lt, None, Some, List, [], ◌∷◌, All, length, drop, map, slice_index_or, refl, subst, inl, inr, arith}
+use Rattle.std.specs.Option.{option_and_then}
+use Rattle.std.specs.List.{before_first, range_with_len, filter}
+use Rattle.std.proofs.lemmas.Bool.{cases_Bool}
+use Rattle.std.proofs.lemmas.List.{length-drop, length-take}
+use Rattle.std.proofs.lemmas.List.Elements.{All-map, All-head, All-tail}
+use Rattle.agc_text.specs.Fields.{Piece, is_blank, before_comment, is_run_start, run_at, runs, texts, fields}
+use Rattle.agc_text.specs.Tables.{same_name, value_in}
+use Rattle.symbols.specs.Values.{SymbolTable}
+use Rattle.commands.specs.Extended.{ExtendedForm, extended_forms, extended_in, extended_request_of}
+use Rattle.commands.specs.Lines.{kept, command_length}
+use Rattle.commands.specs.declared.command.Request.TheVariants.{TooLong}
+use Rattle.commands.specs.declared.extended.ExtendedRequest.TheVariants.{Plain}
+
+-- no form of a table takes the fields
+abbrev NoneTakes : List (List ℕ × ExtendedForm) → List (List ℕ) → Type 0
+NoneTakes [] texts = Unit {0}
+NoneTakes (entry ∷ more) texts = (entry.1 texts ≡ None) × NoneTakes more texts
+
+none-taken : (table : List (List ℕ × ExtendedForm)) (name : List ℕ) (texts : List (List ℕ)) → NoneTakes table texts → option_and_then (λ form. form texts) (value_in table name) ≡ None
+none-taken [] name texts none = refl
+none-taken (entry ∷ more) name texts none =
+    elim (cases_Bool (same_name name entry.0)) [
+      | inl same ↦ rw same none.0
+      | inr other ↦ rw other (none-taken more name texts none.1)
+    ]
+
+-- two fields are too many after any name
+pub two-too-many : (name a b : List ℕ) (more : List (List ℕ)) → option_and_then (λ form. form (a ∷ b ∷ more)) (value_in extended_forms name) ≡ None
+unfolding extended_forms
+two-too-many name a b more = none-taken extended_forms name (a ∷ b ∷ more) (refl, (refl, (refl, tt)))
+
+-- what a line asks for that is kept whole
+pub extended-kept : (symbols : SymbolTable) (line text : List ℕ) → Some text ≡ kept line → extended_in symbols text (fields text) ≡ extended_request_of symbols line
+unfolding extended_request_of
+extended-kept symbols line text same =
+    elim (cases_Bool (nat_lt command_length (length line))) [
+      | inl long ↦ let no : Some text ≡ None = rw long at same in cc
+      | inr short ↦ let whole : Some text ≡ Some line = rw short at same in let e : text ≡ line = cc in rw (short, e) refl
+    ]
+
+-- what a line asks for that is too long
+pub extended-too-long : (symbols : SymbolTable) (line : List ℕ) → None ≡ kept line → Plain TooLong ≡ extended_request_of symbols line
+unfolding extended_request_of
+extended-too-long symbols line same =
+    elim (cases_Bool (nat_lt command_length (length line))) [
+      | inl long ↦ rw long refl
+      | inr short ↦ let no : None ≡ Some line = rw short at same in cc
+    ]
+
+-- the fields of a text are no longer than the text
+shorter : (xs : List ℕ) → length (before_first is_blank xs) ≤ length xs
+shorter xs = simp length-take (omega arith)
+
+pub fields-short : (text : List ℕ) (n : ℕ) → length text ≤ n → All (λ field. length field ≤ n) (texts (runs text))
+unfolding runs
+fields-short text n short =
+    All-map (λ field. length field ≤ n) (λ (piece : Piece). piece.text) (map (run_at text) (filter (is_run_start text) (range_with_len 0 (length text))))
+    (All-map (λ (piece : Piece). length piece.text ≤ n) (run_at text) (filter (is_run_start text) (range_with_len 0 (length text)))
+    (λ k d below. omega (arith, shorter (drop (slice_index_or (filter (is_run_start text) (range_with_len 0 (length text))) k d) text), length-drop (slice_index_or (filter (is_run_start text) (range_with_len 0 (length text))) k d) text)))
+
+pub before_comment-short : (line : List ℕ) (n : ℕ) → length line ≤ n → length (before_comment line) ≤ n
+before_comment-short line n short = simp length-take (omega (arith, short))
+
+-- so is the first of them, and so are the others
+pub first-short : (n : ℕ) (all : List (List ℕ)) (first : List ℕ) (more : List (List ℕ)) → All (λ field. length field ≤ n) all → all ≡ first ∷ more → length first ≤ n
+first-short n all first more short is = All-head (λ field. length field ≤ n) first more (subst (λ (xs : List (List ℕ)). All (λ field. length field ≤ n) xs) is short)
+
+pub others-short : (n : ℕ) (all : List (List ℕ)) (first : List ℕ) (more : List (List ℕ)) → All (λ field. length field ≤ n) all → all ≡ first ∷ more → All (λ field. length field ≤ n) more
+others-short n all first more short is = All-tail (λ field. length field ≤ n) first more (subst (λ (xs : List (List ℕ)). All (λ field. length field ≤ n) xs) is short)

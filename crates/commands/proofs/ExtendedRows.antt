@@ -1,0 +1,60 @@
+-- Lines of extended sessions, read by the definitions alone.
+use Rattle.std.proofs.Common.{◌≡◌, ℕ, List, [], ◌∷◌, ◌++◌, map, refl}
+use Rattle.std.specs.Prelude.{codes, replicate}
+use Rattle.agc_text.specs.Fields.{runs}
+use Rattle.feed.specs.Names.{counters, sequences}
+use Rattle.feed.specs.Statements.{parsed}
+use Rattle.feed.specs.declared.input.Counter.TheVariants.{Time1}
+use Rattle.feed.specs.declared.input.Input.TheVariants.{Count}
+use Rattle.feed.specs.declared.input.Sequence.TheVariants.{Pinc}
+use Rattle.space.specs.declared.place.Linear.TheVariants.{Fixed}
+use Rattle.symbols.specs.declared.values.Value.TheVariants as value
+use Rattle.symbols.specs.Values.{SymbolTable}
+use Rattle.commands.specs.Commands.{forms}
+use Rattle.commands.specs.Extended.{extended_request_of, extended_forms}
+use Rattle.commands.specs.Usages.{usages}
+use Rattle.commands.specs.declared.command.Command.TheVariants.{Memory, Clear, Step, Add}
+use Rattle.commands.specs.declared.command.Request.TheVariants.{Nothing, TooLong, WrongCounter, Known}
+use Rattle.commands.specs.declared.extended.ExtendedRequest.{ExtendedRequest}
+use Rattle.commands.specs.declared.extended.ExtendedRequest.TheVariants.{Plain, Says, Help, Breaks, ClearOne}
+
+-- a place in fixed memory, and a number that is no place
+abbrev symbols : SymbolTable
+symbols = (codes "FIVE", value.Fixed 2 5) ∷ (codes "BIG", value.Num 0o10000) ∷ []
+
+abbrev asked : List (List ℕ) → List ExtendedRequest
+asked lines = map (extended_request_of symbols) lines
+
+-- what no other session is asked for
+further : asked (codes "breaks" ∷ codes "clear 2 # the second" ∷ codes "help" ∷ codes "help mem" ∷ [])
+    ≡ Breaks ∷ ClearOne 2 ∷ Help ∷ Says (codes "HELP mem takes a place: the word there\n") ∷ []
+unfolding extended_request_of extended_forms usages forms runs parsed counters sequences
+further = refl
+
+-- what any session is asked for
+plain : asked (codes "clear" ∷ codes "mem FIVE" ∷ codes " step 1 # one" ∷ codes "add 12 TIME1 PINC" ∷ codes "add 12 TIME1 DINC" ∷ codes "# nothing" ∷ [] ∷ replicate 81 32 ∷ [])
+    ≡ Plain (Known Clear) ∷ Plain (Known (Memory (Fixed 2 5))) ∷ Plain (Known (Step 1)) ∷ Plain (Known (Add 12 (Count Time1 Pinc))) ∷ Plain WrongCounter ∷ Plain Nothing ∷ Plain Nothing ∷ Plain TooLong ∷ []
+unfolding extended_request_of extended_forms usages forms runs parsed counters sequences
+plain = refl
+
+-- what stands after `echo` and one byte, a comment sign too
+echoes : asked (codes "echo DONE 5" ∷ codes " echo  two # three" ∷ codes "echo" ∷ codes "echo " ∷ [])
+    ≡ Says (codes "DONE 5\n") ∷ Says (codes " two # three\n") ∷ Says (codes "\n") ∷ Says (codes "\n") ∷ []
+unfolding extended_request_of extended_forms usages forms runs parsed counters sequences
+echoes = refl
+
+-- refusals say which field they mean
+refusals : asked (codes "mem FIV" ∷ codes "break at FIV" ∷ codes "mem BIG" ∷ codes "mem FIVE 2" ∷ codes "last FIVE" ∷ codes "break chan 1000 5" ∷ codes "stop" ∷ codes "help stop" ∷ codes "clear x" ∷ codes "add 12 TIME1" ∷ [])
+    ≡ Says (codes "E50 COMMAND no symbol FIV\n")
+    ∷ Says (codes "E50 COMMAND no symbol FIV\n")
+    ∷ Says (codes "E50 COMMAND mem takes a place\n")
+    ∷ Says (codes "E50 COMMAND mem takes a place\n")
+    ∷ Says (codes "E50 COMMAND last takes an erasable place\n")
+    ∷ Says (codes "E50 COMMAND break takes at PLACE, word PLACE WORD or chan CHANNEL WORD\n")
+    ∷ Says (codes "E50 COMMAND no command stop\n")
+    ∷ Says (codes "E50 COMMAND help takes a command, or nothing\n")
+    ∷ Says (codes "E50 COMMAND clear takes a breakpoint's number, or nothing\n")
+    ∷ Says (codes "E50 COMMAND add takes a line of a feed\n")
+    ∷ []
+unfolding extended_request_of extended_forms usages forms runs parsed counters sequences
+refusals = refl

@@ -1,0 +1,152 @@
+//! What each command of an extended session takes, and what it does.
+
+ghost use Rattle.std.specs.Prelude.{◌≡◌, ◌+◌, ◌≤◌, ◌++◌, length, IfSome, true};
+ghost use Rattle.std.specs.List.{flat_map, list_all};
+ghost use Rattle.std.specs.Option.{option_map};
+ghost use Rattle.arrayvec.specs.ArrayVec.{array_vec_len};
+ghost use Rattle.agc_text.specs.Tables.{value_in};
+ghost use Rattle.commands.specs.Extended.{help_in};
+ghost use Rattle.commands.specs.Usages.{usage, usages, usages_of, IsShort, is_short_row, help_row, help_lines};
+
+use crate::phrase::Phrase;
+use arrayvec::ArrayVec;
+use words::push_all;
+
+/// A row of the help: the name of a command, what it takes, and what it does.
+type Row = (&'static str, &'static str, &'static str);
+
+/// The rows of the help.
+const ROWS: [Row; 19] = [
+    (
+        "step",
+        "a number of steps",
+        "so many steps on from the position",
+    ),
+    (
+        "run",
+        "a number of steps",
+        "so many new steps, up to a breakpoint",
+    ),
+    ("back", "a number of steps", "so many steps back"),
+    ("goto", "a step", "to the step"),
+    ("seek", "nothing", "back to a breakpoint"),
+    (
+        "break",
+        "at PLACE, word PLACE WORD or chan CHANNEL WORD",
+        "one breakpoint more",
+    ),
+    ("breaks", "nothing", "the breakpoints"),
+    (
+        "clear",
+        "a breakpoint's number, or nothing",
+        "takes it away, or all",
+    ),
+    ("regs", "nothing", "the registers, and the next instruction"),
+    ("mem", "a place", "the word there"),
+    ("chan", "a channel", "the word there"),
+    (
+        "last",
+        "an erasable place",
+        "the step that changed the word there last",
+    ),
+    ("sym", "a name", "the symbol's value"),
+    (
+        "changed",
+        "a step",
+        "the erasable places that differ since then",
+    ),
+    ("tail", "nothing", "the last channel lines"),
+    ("add", "a line of a feed", "one input more"),
+    ("echo", "any text", "the text"),
+    (
+        "help",
+        "a command, or nothing",
+        "what it takes and does, or what each does",
+    ),
+    ("quit", "nothing", "the end"),
+];
+
+/// What a command takes, and what it does.
+#[derive(Clone, Copy)]
+pub(crate) struct Usage {
+    pub(crate) takes: &'static str,
+    pub(crate) does: &'static str,
+}
+
+/// The usage of the command of a name, if there is one.
+#[tactic(auto, unfolding(crate::specs::Usages::usages))]
+pub(crate) fn usage_of(name: &[u8]) -> Option<Usage>
+    ensures value { option_map (λ u. usage u.takes.now u.does.now) result ≡ value_in usages name.now }
+    ensures short { IfSome result (λ u. IsShort (usage u.takes.now u.does.now)) }
+{
+    find_usage(&ROWS, name)
+}
+
+fn find_usage(rows: &[Row], name: &[u8]) -> Option<Usage>
+    requires { list_all is_short_row rows.now ≡ true }
+    ensures short { IfSome result (λ u. IsShort (usage u.takes.now u.does.now)) }
+    ensures value { option_map (λ u. usage u.takes.now u.does.now) result ≡ value_in (usages_of rows.now) name.now }
+{
+    for (text, takes, does) in rows {
+        if name == text.as_bytes() {
+            return Some(Usage { takes, does });
+        }
+    }
+    None
+}
+
+/// The line of the command of a name in the help, if there is one.
+pub(crate) fn help_of(name: &[u8]) -> Option<Phrase>
+    requires { length name.now ≤ 80 }
+    ensures { result ≡ help_in name.now }
+{
+    let usage = usage_of(name)?;
+    let mut phrase = Phrase::new();
+    phrase.push(b"HELP ");
+    phrase.push(name);
+    phrase.push(b" takes ");
+    phrase.push(usage.takes.as_bytes());
+    phrase.push(b": ");
+    phrase.push(usage.does.as_bytes());
+    phrase.push(b"\n");
+    Some(phrase)
+}
+
+/// The most bytes of the whole help: 19 lines of at most 128.
+const HELP_TEXT: usize = 2_432;
+
+/// The lines of the whole help.
+pub type HelpText = ArrayVec<u8, HELP_TEXT>;
+
+/// The line of each command.
+#[tactic(auto, unfolding(crate::specs::Usages::usages))]
+pub fn help_text() -> HelpText
+    ensures { result.items ≡ help_lines usages }
+{
+    help_lines(&ROWS)
+}
+
+fn help_lines(rows: &[Row]) -> HelpText
+    requires { length (flat_map help_row rows.now) ≤ HELP_TEXT }
+    ensures { result.items ≡ flat_map help_row rows.now }
+{
+    let mut text = ArrayVec::new();
+    for row in rows {
+        push_help_row(&mut text, row);
+    }
+    text
+}
+
+fn push_help_row(text: &mut HelpText, row: &Row)
+    requires { array_vec_len text.old + length (help_row row.now) ≤ HELP_TEXT }
+    ensures items { text.new.items ≡ text.old.items ++ help_row row.now }
+{
+    let (name, takes, does) = row;
+    push_all(text, b"HELP ");
+    push_all(text, name.as_bytes());
+    push_all(text, b" takes ");
+    push_all(text, takes.as_bytes());
+    push_all(text, b": ");
+    push_all(text, does.as_bytes());
+    push_all(text, b"\n");
+}

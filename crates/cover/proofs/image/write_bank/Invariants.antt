@@ -1,0 +1,13 @@
+use Rattle.std.proofs.Common.{◌≡◌, ◌++◌, true}
+use Rattle.audit.proofs.Fronts.{front}
+use Rattle.audit.specs.WordLines.{extracode_at}
+use Rattle.cover.specs.CoverText.{image_row}
+use Rattle.cover.specs.Tallies.{figures_at}
+use Rattle.cover.proofs.image.write_bank.Given as goal
+
+abbrev pub invariant-loop-number : goal.invariant-loop-number
+invariant-loop-number g l = record {
+  extra : l.extra ≡ extracode_at l.rope l.bank l.number;
+  written : g.W.Write.told ≡ true → g.W.Write.written l.out ≡ g.W.Write.written l.initial.out ++ front (image_row (figures_at l.tally) l.rope l.bank) l.number;
+  failures : g.W.Write.failures l.out ≡ g.W.Write.failures l.initial.out;
+}

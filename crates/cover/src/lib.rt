@@ -1,0 +1,12 @@
+//! A run's profile as text: how often each word was executed, and the cycles that this took.
+#![tactic(auto)]
+
+mod columns;
+mod image;
+mod rest;
+mod source;
+mod tally;
+
+pub use image::write_image_profile;
+pub use source::write_source_profile;
+pub use tally::{Figures, Tally};

@@ -1,0 +1,157 @@
+//! The figures of a run's accounts.
+
+ghost use Rattle.std.specs.Prelude.{◌≡◌, ◌+◌, ◌-◌, ◌<◌, ◌≤◌, ◌^◌, IfOk, get_or, set, true};
+ghost use Rattle.cpu.specs.declared.account.Account.TheVariants.{Place};
+ghost use Rattle.cpu.specs.Next.{next};
+ghost use Rattle.cpu.specs.Profiles.{account_of, step_cycles};
+ghost use Rattle.cpu.specs.Run.{run};
+ghost use Rattle.cpu.specs.State.{FitsRun, Scenario};
+ghost use Rattle.cover.specs.Tallies.{account_count, account_number, AllAddUp, AreSmall, Counts, figures_at, is_account, IsAccount, no_figures, one_step_more, put_down};
+
+use cpu::{Account, Machine, Processor};
+use space::{BANK_WORDS, Linear};
+use std::alloc::{AllocError, Global};
+use std::marker::Model;
+
+/// How often an account was served, and the cycles that this took.
+#[derive(Clone, Copy, PartialEq, Eq, Debug, Drop)]
+pub struct Figures {
+    /// How often.
+    pub count: u64,
+    /// The cycles.
+    pub cycles: u64,
+}
+
+/// The figures of what was never served.
+const NO_FIGURES: Figures = Figures {
+    count: 0,
+    cycles: 0,
+};
+
+/// The number of the first erasable place: before it stand inputs, entries of interrupts, and words that waited.
+const FIRST_ERASABLE: usize = 3;
+
+/// The number of the first place of bank 0.
+const FIRST_FIXED: usize = FIRST_ERASABLE + 0o4000;
+
+/// The words of a bank.
+const WORDS: usize = BANK_WORDS as usize;
+
+/// How many accounts there are: 0 to 047 are the banks that FB and the superbank bit select.
+const ACCOUNTS: usize = FIRST_FIXED + 0o50 * WORDS;
+
+/// The figures of all accounts.
+#[derive(Drop)]
+pub struct Tally {
+    figures: Vec<Figures>,
+}
+
+impl Model for Tally {
+    ghost use Rattle.std.specs.Prelude.{◌≡◌, List, vec_len};
+    ghost use Rattle.cover.specs.declared.tally.Figures.{Figures as OfAccount};
+    ghost use Rattle.cover.specs.Tallies.{account_count};
+
+    ghost Value = { List OfAccount };
+
+    ghost view = { λ t. t.figures.items };
+
+    ghost invariant = { λ t. vec_len t.figures ≡ account_count };
+}
+
+impl Tally {
+    /// The figures before the first step. All memory is taken here.
+    pub fn new(alloc: Global) -> Result<Tally, AllocError>
+        ensures { IfOk result (λ tally. (scenario : Scenario) → Counts scenario 0 tally) }
+    {
+        let mut figures = Vec::with_capacity(alloc, ACCOUNTS)?;
+        figures.resize(ACCOUNTS, NO_FIGURES)?;
+        Ok(Tally { figures })
+    }
+
+    /// The figures of an account.
+    pub fn figures(&self, account: Account) -> Figures
+        ensures { result ≡ figures_at self.now account }
+    {
+        self.figures[number_of(account)]
+    }
+
+    /// Makes more steps of a run of which some are done, and counts each. What they put out is passed over.
+    pub fn make_steps(
+        &mut self,
+        processor: &mut Processor,
+        machine: &mut Machine,
+        done: u64,
+        stop: u64,
+    )
+        requires within { done ≤ stop }
+        requires few { stop ≤ 2 ^ 40 }
+        requires state { machine.old ≡ run processor.old.scenario done }
+        requires counts { Counts processor.old.scenario done self.old }
+        ensures scenario { processor.new.scenario ≡ processor.old.scenario }
+        ensures state { machine.new ≡ run processor.old.scenario stop }
+        ensures counts { Counts processor.old.scenario stop self.new }
+        ensures adds_up { AllAddUp processor.old.scenario stop }
+    {
+        for _ in done..stop {
+            self.step(processor, machine);
+        }
+    }
+
+    /// Makes a step, and counts it. What it puts out is passed over.
+    fn step(&mut self, processor: &mut Processor, machine: &mut Machine)
+        requires cycles { machine.old.cycles ≤ 2 ^ 62 }
+        requires fits { FitsRun processor.old.scenario machine.old }
+        requires small { (a : Account) → IsAccount a → AreSmall (figures_at self.old a) }
+        ensures scenario { processor.new.scenario ≡ processor.old.scenario }
+        ensures state { machine.new ≡ (next processor.old.scenario machine.old).0 }
+        ensures known { IsAccount (account_of processor.old.scenario machine.old) }
+        ensures counted { self.new ≡ put_down self.old (account_of processor.old.scenario machine.old) (step_cycles processor.old.scenario machine.old) }
+    {
+        let number = number_of(processor.account(machine));
+        let before = machine.cycles();
+        processor.step(machine);
+        self.put_down(number, machine.cycles() - before);
+    }
+
+    /// Counts a step of the account of a number.
+    fn put_down(&mut self, number: usize, cycles: u64)
+        requires within { number < account_count }
+        requires small { AreSmall (get_or self.old number no_figures) }
+        requires few { cycles ≤ 2 ^ 62 }
+        ensures { self.new ≡ set self.old number (one_step_more (get_or self.old number no_figures) cycles) }
+    {
+        let figures = &mut self.figures[number];
+        figures.count += 1;
+        figures.cycles += cycles;
+    }
+}
+
+/// The number of an account.
+fn number_of(account: Account) -> usize
+    ensures number { result ≡ account_number account }
+    ensures known { IsAccount account }
+    ensures account { is_account account ≡ true }
+    ensures within { result < account_count }
+{
+    match account {
+        Account::Input => 0,
+        Account::Entry => 1,
+        Account::Waiting => 2,
+        Account::Place(place) => number_of_place(place),
+    }
+}
+
+/// The number of a place's account.
+fn number_of_place(place: Linear) -> usize
+    ensures number { result ≡ account_number (Place place) }
+    ensures known { IsAccount (Place place) }
+    ensures account { is_account (Place place) ≡ true }
+    ensures within { result < account_count }
+{
+    match place {
+        Linear::Erasable(number) => FIRST_ERASABLE + usize::from(number.number()),
+        Linear::Fixed(bank, offset) => {
+            FIRST_FIXED + (WORDS * usize::from(bank.number()) + usize::from(offset.number()))
+        }
+    }
+}

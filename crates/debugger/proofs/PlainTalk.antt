@@ -1,0 +1,50 @@
+-- A session without the further commands, as a conversation.
+use Rattle.std.proofs.Common.{◌≡◌, ℕ, List, [], ◌∷◌, ◌++◌, cond, Bool, Option, Result, Ok, Err, refl, sym, ap, ◌∙◌}
+use Rattle.agc_text.specs.Lines.{ended_lines}
+use Rattle.words.specs.Devices.{WritesBeginning}
+use Rattle.cpu.specs.State.{Scenario}
+use Rattle.symbols.specs.Values.{SymbolTable}
+use Rattle.commands.specs.Commands.{request_of}
+use Rattle.debugger.specs.declared.manner.Manner.TheVariants as manner
+use Rattle.debugger.specs.ExtendedReplies.{extended_reply}
+use Rattle.debugger.specs.Replies.{Desk}
+use Rattle.debugger.specs.Transcript.{ends, told, replies, first_desk, command_lines, lines_read}
+use Rattle.debugger.specs.Sessions.{Setting, Commands, WritesReplies, BeginsReplies, EndsReading, Debugs}
+use Rattle.debugger.specs.Conversation.{Reading, reading, conversation, lines_heard, Talk, WritesTalk, BeginsTalk, EndsTalk, Talks}
+use Rattle.debugger.specs.declared.fault.DebugFault.{DebugFault}
+use Rattle.debugger.specs.declared.fault.DebugFault.TheVariants.{NoMemory, ReadFailed, WriteFailed}
+
+same-replies : (symbols : SymbolTable) (d : Desk) (lines : List (List ℕ)) → conversation (reading manner.Plain symbols) d lines ≡ replies symbols d lines
+unfolding reading extended_reply told
+same-replies symbols d [] = refl
+same-replies symbols d (line ∷ more) =
+    let r = told symbols d line in
+    ap (λ (t : List ℕ). cond (ends (request_of symbols line)) [] (r.text ++ t)) (same-replies symbols r.desk more)
+
+pub same-lines : (symbols : SymbolTable) (lines : List (List ℕ)) → lines_heard (reading manner.Plain symbols) lines ≡ lines_read symbols lines
+unfolding reading lines_heard lines_read
+same-lines symbols [] = refl
+same-lines symbols (line ∷ more) = ap (λ (ls : List (List ℕ)). line ∷ cond (ends (request_of symbols line)) [] ls) (same-lines symbols more)
+
+-- the setting of a session, as what a conversation is over
+abbrev plain : Setting → Talk
+plain s = record { may_refuse = s.may_refuse; read = reading manner.Plain s.symbols; scenario = s.scenario }
+
+writes : (s : Setting) (lines : List (List ℕ)) (old new : List ℕ) → WritesTalk (plain s) lines old new → WritesReplies s lines old new
+writes s lines old new w = record {
+  answers = w.answers;
+  additions = w.additions;
+  granted = w.granted;
+  written = w.written ∙ ap (λ (t : List ℕ). old ++ t) (same-replies s.symbols (first_desk s.scenario w.answers w.additions) lines);
+}
+
+pub debugs : (s : Setting) (commands : Commands) (old new : List ℕ) (result : Result (Unit {0}) DebugFault) → Talks (plain s) commands old new result → Debugs s commands old new result
+debugs s commands old new (Ok x) w = writes s (command_lines commands.before) old new w
+debugs s commands old new (Err NoMemory) same = same
+debugs s commands old new (Err ReadFailed) e = record { bytes = e.bytes; read = e.read; replied = writes s (ended_lines e.bytes) old new e.replied }
+debugs s commands old new (Err WriteFailed) b = record {
+  answers = b.answers;
+  additions = b.additions;
+  granted = b.granted;
+  part = rw (← same-replies s.symbols (first_desk s.scenario b.answers b.additions) (command_lines commands.before)) b.part;
+}

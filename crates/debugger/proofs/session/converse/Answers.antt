@@ -1,0 +1,110 @@
+use Rattle.std.proofs.Common.{◌≡◌, ◌∙◌, ◌+◌, ◌++◌, ◌∷◌, [], ℕ, length, true, false, Ok, refl, sym, ap, arith, rules, length-append}
+use Rattle.cpu.specs.Run.{outs}
+use Rattle.cpu.proofs.RunLaws.{outs-zero}
+use Rattle.debugger.specs.Replies.{last_of, tail_length}
+use Rattle.debugger.specs.Transcript.{command_lines}
+use Rattle.debugger.specs.Conversation.{reading, is_end}
+use Rattle.debugger.proofs.LineByLine.{taken-none, answered-none, taken-more, answered-more, writes-end, writes-quit, writes-read, writes-flush, writes-part, count-end, count-quit, cost-more, cost-same, reads-more, reads-none, takes-most}
+use Rattle.debugger.proofs.session.converse.Goals as goal
+
+pub commands-init : goal.commands-init
+commands-init g c = record {
+  within = omega (arith, c.in-Ok.ensures.0);
+  tail = c.in-Ok.ensures.2 ∙ sym (ap (λ (n : ℕ). last_of tail_length (outs c.args.session.now.scenario n)) c.requires ∙ ap (last_of tail_length) (outs-zero c.args.session.now.scenario));
+  reader = refl;
+  writer = refl;
+  reads = λ rt. rw c.new-reader.ensures.more (reads-none _ _);
+  lines = λ rt. rw (c.new-reader.ensures.held, c.new-reader.ensures.more) (taken-none _ _ _, omega arith, λ wt. rw (c.requires, c.in-Ok.ensures.0, c.in-Ok.ensures.1) (answered-none _ _));
+}
+
+pub returns-in-Err-ReadFailed-clause-answer : goal.returns-in-Err-ReadFailed-clause-answer
+returns-in-Err-ReadFailed-clause-answer g c = λ rt wt.
+    let t = c.commands.invariant.lines rt in
+    let failed = c.in-Err-ReadFailed.ensures in
+    rw (failed.written wt) (writes-read _ _ _ _ _ _ _ _ t.0 (t.2 wt) _ failed.asked (failed.failed rt))
+
+pub returns-in-Err-ReadFailed-clause-read : goal.returns-in-Err-ReadFailed-clause-read
+returns-in-Err-ReadFailed-clause-read g c = λ rt. takes-most _ _ _ _ (reads-more _ _ _ _ _ _ (c.commands.invariant.reads rt) (c.in-Err-ReadFailed.ensures.reads rt))
+
+pub returns-in-Err-WriteFailed-clause-answer : goal.returns-in-Err-WriteFailed-clause-answer
+unfolding command_lines
+returns-in-Err-WriteFailed-clause-answer g c = λ rt wt.
+    let t = c.commands.invariant.lines rt in
+    rw (c.in-Err-WriteFailed.ensures.written wt) (writes-flush _ _ _ _ _ _ _ _ t.0 (t.2 wt))
+
+pub returns-in-Err-WriteFailed-clause-read : goal.returns-in-Err-WriteFailed-clause-read
+returns-in-Err-WriteFailed-clause-read g c = λ rt. takes-most _ _ _ _ (reads-more _ _ _ _ _ _ (c.commands.invariant.reads rt) (c.in-Err-WriteFailed.ensures.reads rt))
+
+pub returns-then-not-some-clause-answer : goal.returns-then-not-some-clause-answer
+unfolding command_lines
+returns-then-not-some-clause-answer g c = λ rt wt.
+    let t = c.commands.invariant.lines rt in
+    let s : c.in-Ok-next_line.some ≡ false = search rules in
+    rw (c.in-Ok-next_line.ensures.written wt) (writes-end _ _ _ _ _ _ _ _ t.0 (t.2 wt) (c.in-Ok-next_line.ensures.end rt (ap Ok s)))
+
+pub returns-then-not-some-clause-cost : goal.returns-then-not-some-clause-cost
+unfolding command_lines
+returns-then-not-some-clause-cost g c = λ rt.
+    let t = c.commands.invariant.lines rt in
+    let s : c.in-Ok-next_line.some ≡ false = search rules in
+    rw (count-end t.0 (c.in-Ok-next_line.ensures.end rt (ap Ok s))) t.1
+
+pub returns-then-not-some-clause-read : goal.returns-then-not-some-clause-read
+returns-then-not-some-clause-read g c = λ rt. takes-most _ _ _ _ (reads-more _ _ _ _ _ _ (c.commands.invariant.reads rt) (c.in-Ok-next_line.ensures.reads rt))
+
+pub returns-then-is_end-clause-answer : goal.returns-then-is_end-clause-answer
+unfolding command_lines
+returns-then-is_end-clause-answer g c = λ rt wt.
+    let t = c.commands.invariant.lines rt in
+    let s : c.in-Ok-next_line.some ≡ true = search rules in
+    let l = c.in-Ok-next_line.ensures.line rt (ap Ok s) in
+    let asked = c.asked-request.ensures l.bytes l.kept_of in
+    let quit : is_end (reading c.args.manner c.args.symbols.now l.bytes) ≡ true = ap is_end (sym asked) ∙ sym c.if-is_end.ensures in
+    rw (c.in-Ok-next_line.ensures.written wt) (writes-quit _ _ _ _ _ _ _ _ t.0 (t.2 wt) l.bytes _ _ l.taken quit)
+
+pub returns-then-is_end-clause-cost : goal.returns-then-is_end-clause-cost
+unfolding command_lines
+returns-then-is_end-clause-cost g c = λ rt.
+    let t = c.commands.invariant.lines rt in
+    let s : c.in-Ok-next_line.some ≡ true = search rules in
+    let l = c.in-Ok-next_line.ensures.line rt (ap Ok s) in
+    let asked = c.asked-request.ensures l.bytes l.kept_of in
+    let quit : is_end (reading c.args.manner c.args.symbols.now l.bytes) ≡ true = ap is_end (sym asked) ∙ sym c.if-is_end.ensures in
+    rw (count-quit t.0 l.bytes _ _ l.taken quit) (cost-same _ _ _ _ t.1)
+
+pub returns-then-is_end-clause-read : goal.returns-then-is_end-clause-read
+returns-then-is_end-clause-read g c = λ rt. takes-most _ _ _ _ (reads-more _ _ _ _ _ _ (c.commands.invariant.reads rt) (c.in-Ok-next_line.ensures.reads rt))
+
+pub returns-in-Err-answer_asked-clause-answer : goal.returns-in-Err-answer_asked-clause-answer
+unfolding command_lines
+returns-in-Err-answer_asked-clause-answer g c = λ rt wt.
+    let t = c.commands.invariant.lines rt in
+    let s : c.in-Ok-next_line.some ≡ true = search rules in
+    let l = c.in-Ok-next_line.ensures.line rt (ap Ok s) in
+    let asked = c.asked-request.ensures l.bytes l.kept_of in
+    let on : is_end (reading c.args.manner c.args.symbols.now l.bytes) ≡ false = ap is_end (sym asked) ∙ sym c.if-is_end.ensures in
+    writes-part _ _ _ _ _ _ _ _ t.0 (t.2 wt) l.bytes _ _ _ l.taken on (rw (asked, c.in-Ok-next_line.ensures.written wt) at (c.in-Err-answer_asked.ensures.executes wt))
+
+pub returns-in-Err-answer_asked-clause-read : goal.returns-in-Err-answer_asked-clause-read
+returns-in-Err-answer_asked-clause-read g c = λ rt. takes-most _ _ _ _ (reads-more _ _ _ _ _ _ (c.commands.invariant.reads rt) (c.in-Ok-next_line.ensures.reads rt))
+
+pub commands-preserved : goal.commands-preserved
+commands-preserved g c = record {
+  within = c.in-Ok-answer_asked.ensures.within;
+  tail = c.in-Ok-answer_asked.ensures.tail;
+  reader = c.in-Ok-next_line.ensures.read_failures ∙ c.commands.invariant.reader;
+  writer = c.in-Ok-answer_asked.ensures.failures ∙ c.in-Ok-next_line.ensures.write_failures ∙ c.commands.invariant.writer;
+  reads = λ rt. reads-more _ _ _ _ _ _ (c.commands.invariant.reads rt) (c.in-Ok-next_line.ensures.reads rt);
+  lines = λ rt.
+      let t = c.commands.invariant.lines rt in
+      let s : c.in-Ok-next_line.some ≡ true = search rules in
+      let l = c.in-Ok-next_line.ensures.line rt (ap Ok s) in
+      let asked = c.asked-request.ensures l.bytes l.kept_of in
+      let on : is_end (reading c.args.manner c.args.symbols.now l.bytes) ≡ false = ap is_end (sym asked) ∙ sym c.if-is_end.ensures in
+      let session = c.in-Ok-answer_asked.ensures.session in
+      let count : length (t.0.done ++ l.bytes ∷ []) ≡ length t.0.done + 1 = length-append t.0.done (l.bytes ∷ []) in (
+        taken-more t.0 l.bytes _ _ (c.in-Ok-next_line.ensures.less (ap Ok s)) l.taken on,
+        rw count (cost-more _ _ _ _ _ _ t.1 session.forward session.cost),
+        λ wt. answered-more _ _ l.bytes (t.2 wt) on (rw (asked, c.in-Ok-next_line.ensures.written wt) at (c.in-Ok-answer_asked.ensures.executes wt)),
+      );
+}

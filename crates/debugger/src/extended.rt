@@ -1,0 +1,133 @@
+//! The commands that an extended session has besides.
+
+ghost use Rattle.std.specs.Prelude.{◌≡◌, ◌+◌, ◌*◌, ◌≤◌, ◌++◌, length, true};
+ghost use Rattle.arrayvec.specs.ArrayVec.{array_vec_len};
+ghost use Rattle.words.specs.Devices.{failures_after};
+ghost use Rattle.cpu.specs.Run.{outs};
+ghost use Rattle.replay.specs.View.{SessionView};
+ghost use Rattle.commands.specs.declared.extended.ExtendedRequest.TheVariants as asked;
+ghost use Rattle.debugger.specs.Replies.{last_of, tail_length, line};
+ghost use Rattle.debugger.specs.ExtendedReplies.{place_text, breakpoint_text, breaks_from};
+ghost use Rattle.debugger.specs.Conversation.{to_asked};
+ghost use Rattle.debugger.specs.Executions.{desk, BringsAsked, Replies, HasGoneOn};
+
+use crate::desk::Desk;
+use crate::texts::{Text, number_line, text_line};
+use arrayvec::ArrayVec;
+use commands::{Breakpoint, Breakpoints, ExtendedRequest, help_text};
+use replay::{Keeper, Session};
+use space::place::Linear;
+use words::{Write, WriteFailed, push_all, push_decimal, push_octal, write_all};
+
+impl Desk {
+    /// Does what a line of an extended session asks for, and writes the reply.
+    #[tactic(auto, unfolding(crate::specs::ExtendedReplies::extended_reply))]
+    pub(crate) fn answer_asked<K: Keeper, W: Write>(
+        &mut self,
+        session: &mut Session<K>,
+        request: &ExtendedRequest,
+        out: &mut W,
+    ) -> Result<(), WriteFailed>
+        requires within { self.old.position ≤ session.old.n }
+        requires tail { self.old.tail ≡ last_of tail_length (outs session.old.scenario session.old.n) }
+        ensures executes { W.told ≡ true → Replies K.may_refuse (to_asked request.now) (desk session.old self.old.position self.old.breakpoints) (desk session.new self.new.position self.new.breakpoints) (W.written out.old) (W.written out.new) result }
+        ensures within { self.new.position ≤ session.new.n }
+        ensures tail { self.new.tail ≡ last_of tail_length (outs session.new.scenario session.new.n) }
+        ensures session { HasGoneOn session.old session.new }
+        ensures failures { W.failures out.new ≡ failures_after (W.failures out.old) result }
+    {
+        match request {
+            ExtendedRequest::Plain(request) => self.answer(session, *request, out),
+            ExtendedRequest::Says(text) => write_all(out, text.as_slice()),
+            ExtendedRequest::Help => write_all(out, help_text().as_slice()),
+            ExtendedRequest::Breaks => { write_all(out, breaks_text(&self.breakpoints).as_slice()) }
+            ExtendedRequest::ClearOne(number) => {
+                write_all(out, self.clear_one(*number).as_slice())
+            }
+        }
+    }
+
+    /// `clear I`: one breakpoint less.
+    #[tactic(auto, unfolding(crate::specs::ExtendedReplies::extended_reply))]
+    fn clear_one(&mut self, number: u64) -> Text
+        ensures brings { (s : SessionView) → BringsAsked (desk s self.old.position self.old.breakpoints) (asked.ClearOne number) result.items (desk s self.new.position self.new.breakpoints) }
+        ensures position { self.new.position ≡ self.old.position }
+        ensures tail { self.new.tail ≡ self.old.tail }
+    {
+        if number == 0 || number > self.breakpoints.len() as u64 {
+            return text_line(b"NONE");
+        }
+        self.breakpoints.remove(number as usize - 1);
+        number_line(b"CLEAR ", number)
+    }
+}
+
+/// The most bytes of the lines of breakpoints: 48 for each of 16, and `COUNT `, 20 digits and a line feed.
+const BREAKS_TEXT: usize = 800;
+
+/// The lines of breakpoints.
+type BreaksText = ArrayVec<u8, BREAKS_TEXT>;
+
+/// A line for each breakpoint, and how many there are.
+#[tactic(auto, using(words::proofs::Digits::short_decimal))]
+fn breaks_text(breakpoints: &Breakpoints) -> BreaksText
+    ensures { result.items ≡ breaks_from 0 breakpoints.now }
+{
+    let mut text = ArrayVec::new();
+    let mut number = 0;
+    let _at_most_sixteen = breakpoints.len();
+    for breakpoint in breakpoints.as_slice() {
+        number += 1;
+        push_all(&mut text, b"BREAK ");
+        push_decimal(&mut text, number);
+        push_all(&mut text, b" ");
+        push_breakpoint(&mut text, *breakpoint);
+        push_all(&mut text, b"\n");
+    }
+    push_all(&mut text, b"COUNT ");
+    push_decimal(&mut text, number);
+    push_all(&mut text, b"\n");
+    text
+}
+
+/// Adds a breakpoint as the command that sets it.
+fn push_breakpoint(text: &mut BreaksText, breakpoint: Breakpoint)
+    requires { array_vec_len text.old ≤ 780 }
+    ensures items { text.new.items ≡ text.old.items ++ breakpoint_text breakpoint }
+    ensures short { array_vec_len text.new ≤ array_vec_len text.old + 20 }
+{
+    match breakpoint {
+        Breakpoint::Place(place) => {
+            push_all(text, b"at ");
+            push_place(text, place);
+        }
+        Breakpoint::Word(place, word) => {
+            push_all(text, b"word ");
+            push_octal(text, 4, place.number());
+            push_all(text, b" ");
+            push_octal(text, 5, word.to_u16());
+        }
+        Breakpoint::Channel(channel, word) => {
+            push_all(text, b"chan ");
+            push_octal(text, 3, channel.number());
+            push_all(text, b" ");
+            push_octal(text, 5, word.to_u16());
+        }
+    }
+}
+
+/// Adds a place as a command names it.
+fn push_place(text: &mut BreaksText, place: Linear)
+    requires { array_vec_len text.old ≤ 790 }
+    ensures items { text.new.items ≡ text.old.items ++ place_text place }
+    ensures short { array_vec_len text.new ≤ array_vec_len text.old + 7 }
+{
+    match place {
+        Linear::Erasable(number) => push_octal(text, 4, number.number()),
+        Linear::Fixed(bank, offset) => {
+            push_octal(text, 2, bank.number());
+            push_all(text, b",");
+            push_octal(text, 4, offset.number());
+        }
+    }
+}

@@ -1,0 +1,139 @@
+//! Many steps at once.
+
+ghost use Rattle.std.specs.Prelude.{◌≡◌, ℕ, ◌+◌, ◌-◌, ◌*◌, ◌^◌, ◌<◌, ◌≤◌, Bool, true, false, List, [], ◌∷◌, ◌++◌, All, length};
+ghost use Rattle.std.specs.Int.{◌∣◌};
+ghost use Rattle.cpu.specs.Run.{run};
+ghost use Rattle.replay.specs.Images.{steps};
+ghost use Rattle.replay.specs.Memory.{most_images};
+ghost use Rattle.replay.specs.Spacing.{AreStaying};
+ghost use Rattle.replay.specs.View.{AreOfRun, counted_by};
+ghost use Rattle.replay.specs.Watched.{Watched};
+
+use crate::keeper::Keeper;
+use crate::settling::{keep_sure, settle, thin_up_to};
+use crate::watching::{Watcher, walk};
+use cpu::{Machine, Processor};
+
+/// Some steps: the image of the first is kept, and once the last is reached the steps are gone once more for the images that
+/// stay there.
+fn leap<K: Keeper, W: Watcher>(
+    processor: &mut Processor,
+    keeper: &mut K,
+    machine: &mut Machine,
+    low: u64,
+    high: u64,
+    watcher: &mut W,
+) -> (u64, bool)
+    requires sure { K.may_refuse ≡ false }
+    requires order { low < high }
+    requires within { high < 2 ^ 40 - 1 }
+    requires metered { processor.old.meter < 2 ^ 128 }
+    requires of_run { AreOfRun processor.old.scenario (K.images keeper.old) }
+    requires staying { AreStaying low low (steps (K.images keeper.old)) }
+    requires stands { machine.old ≡ run processor.old.scenario low }
+    ensures past { low < result.0 }
+    ensures within { result.0 ≤ high }
+    ensures all { result.1 ≡ false → result.0 ≡ high }
+    ensures machine { machine.new ≡ run processor.old.scenario result.0 }
+    ensures watched { Watched W.sees processor.old.scenario low result.0 result.1 watcher.old watcher.new }
+    ensures staying { AreStaying result.0 result.0 (steps (K.images keeper.new)) }
+    ensures of_run { AreOfRun processor.old.scenario (K.images keeper.new) }
+    ensures scenario { processor.new.scenario ≡ processor.old.scenario }
+    ensures metered { processor.new.meter < 2 ^ 128 }
+    ensures least { counted_by (result.0 - low) processor.old.meter ≤ processor.new.meter }
+    ensures most { processor.new.meter + 2 * low ≤ processor.old.meter + 2 * result.0 }
+{
+    keep_sure(keeper, low, machine);
+    let (end, ended) = walk(processor, machine, low, high, watcher);
+    settle(processor, keeper, low, end, machine);
+    (end, ended)
+}
+
+/// How far apart images are kept on a long way.
+const STRIDE: u64 = 1 << 14;
+
+/// Many steps from a multiple of the stride on: images are kept at its multiples alone, and once the last step is reached two
+/// to three strides are gone once more for the images that stay there.
+fn stride_on<K: Keeper, W: Watcher>(
+    processor: &mut Processor,
+    keeper: &mut K,
+    machine: &mut Machine,
+    low: u64,
+    high: u64,
+    watcher: &mut W,
+) -> (u64, bool)
+    requires grid { 2 ^ 14 ∣ low }
+    requires sure { K.may_refuse ≡ false }
+    requires order { low < high }
+    requires within { high < 2 ^ 40 - 1 }
+    requires metered { processor.old.meter < 2 ^ 128 }
+    requires of_run { AreOfRun processor.old.scenario (K.images keeper.old) }
+    requires staying { AreStaying low low (steps (K.images keeper.old)) }
+    requires stands { machine.old ≡ run processor.old.scenario low }
+    ensures past { low < result.0 }
+    ensures within { result.0 ≤ high }
+    ensures all { result.1 ≡ false → result.0 ≡ high }
+    ensures machine { machine.new ≡ run processor.old.scenario result.0 }
+    ensures watched { Watched W.sees processor.old.scenario low result.0 result.1 watcher.old watcher.new }
+    ensures staying { AreStaying result.0 result.0 (steps (K.images keeper.new)) }
+    ensures of_run { AreOfRun processor.old.scenario (K.images keeper.new) }
+    ensures scenario { processor.new.scenario ≡ processor.old.scenario }
+    ensures metered { processor.new.meter < 2 ^ 128 }
+    ensures least { counted_by (result.0 - low) processor.old.meter ≤ processor.new.meter }
+    ensures most { processor.new.meter + 2 * low ≤ processor.old.meter + 2 * result.0 }
+    ensures once { processor.new.meter + low ≤ processor.old.meter + result.0 + 3 * 2 ^ 14 }
+{
+    let mut at = low;
+    let mut ended = false;
+    while at < high && !ended {
+        keep_sure(keeper, at, machine);
+        let (end, is_ended) = walk(processor, machine, at, high.min(at + STRIDE), watcher);
+        thin_up_to(keeper, at, end);
+        at = end;
+        ended = is_ended;
+    }
+    let base = low.max(((at + 1) / STRIDE).saturating_sub(2) * STRIDE);
+    settle(processor, keeper, base, at, machine);
+    (at, ended)
+}
+
+/// Many steps: up to a multiple of the stride, and then stride after stride.
+pub(crate) fn travel<K: Keeper, W: Watcher>(
+    processor: &mut Processor,
+    keeper: &mut K,
+    machine: &mut Machine,
+    low: u64,
+    high: u64,
+    watcher: &mut W,
+) -> (u64, bool)
+    requires sure { K.may_refuse ≡ false }
+    requires order { low < high }
+    requires within { high < 2 ^ 40 - 1 }
+    requires metered { processor.old.meter < 2 ^ 128 }
+    requires of_run { AreOfRun processor.old.scenario (K.images keeper.old) }
+    requires staying { AreStaying low low (steps (K.images keeper.old)) }
+    requires stands { machine.old ≡ run processor.old.scenario low }
+    ensures past { low < result.0 }
+    ensures within { result.0 ≤ high }
+    ensures all { result.1 ≡ false → result.0 ≡ high }
+    ensures machine { machine.new ≡ run processor.old.scenario result.0 }
+    ensures watched { Watched W.sees processor.old.scenario low result.0 result.1 watcher.old watcher.new }
+    ensures staying { AreStaying result.0 result.0 (steps (K.images keeper.new)) }
+    ensures of_run { AreOfRun processor.old.scenario (K.images keeper.new) }
+    ensures scenario { processor.new.scenario ≡ processor.old.scenario }
+    ensures metered { processor.new.meter < 2 ^ 128 }
+    ensures least { counted_by (result.0 - low) processor.old.meter ≤ processor.new.meter }
+    ensures most { processor.new.meter + 2 * low ≤ processor.old.meter + 2 * result.0 }
+    ensures once { processor.new.meter + low ≤ processor.old.meter + result.0 + 2 ^ 16 }
+{
+    let past = low % STRIDE;
+    if past == 0 {
+        return stride_on(processor, keeper, machine, low, high, watcher);
+    }
+    let first = high.min(low + (STRIDE - past));
+    let (end, ended) = leap(processor, keeper, machine, low, first, watcher);
+    if ended || end == high {
+        return (end, ended);
+    }
+    stride_on(processor, keeper, machine, end, high, watcher)
+}

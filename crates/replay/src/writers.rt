@@ -1,0 +1,80 @@
+//! Searching back for what wrote some cells.
+
+ghost use Rattle.std.specs.Prelude.{◌≡◌, ℕ, ◌+◌, ◌^◌, ◌<◌, ◌≤◌, IfSome, IfNone, Contains};
+ghost use Rattle.cpu.specs.Run.{run};
+ghost use Rattle.replay.specs.Images.{steps};
+ghost use Rattle.replay.specs.View.{AreOfRun};
+ghost use Rattle.replay.specs.LastHit.{IsLastHit};
+ghost use Rattle.replay.specs.Whys.{step_writes};
+
+use crate::keeper::Keeper;
+use crate::restoring::restore;
+use crate::stepping::make_step;
+use crate::thinning::step_before;
+use cpu::{CellSet, Machine, Processor};
+
+/// The last step from `low` up to `high` that writes one of some cells; the machine stands at `low`.
+pub(crate) fn scan_writes(
+    processor: &mut Processor,
+    machine: &mut Machine,
+    low: u64,
+    high: u64,
+    cells: &CellSet,
+) -> Option<u64>
+    requires order { low < high }
+    requires within { high < 2 ^ 40 }
+    requires metered { processor.old.meter < 2 ^ 128 }
+    requires stands { machine.old ≡ run processor.old.scenario low }
+    ensures between { IfSome result (λ t. (low ≤ t) × (t < high)) }
+    ensures last { IsLastHit (step_writes processor.old.scenario cells.now) low high result }
+    ensures scenario { processor.new.scenario ≡ processor.old.scenario }
+    ensures metered { processor.new.meter < 2 ^ 128 }
+    ensures least { processor.old.meter ≤ processor.new.meter }
+    ensures most { processor.new.meter + low < processor.old.meter + high }
+{
+    let mut last = None;
+    if processor.writes_some(machine, cells) {
+        last = Some(low);
+    }
+    for at in low..high - 1 {
+        make_step(processor, machine);
+        if processor.writes_some(machine, cells) {
+            last = Some(at + 1);
+        }
+    }
+    last
+}
+
+/// The last step before `p` that writes one of some cells, sought from the latest image back.
+pub(crate) fn search_writes<K: Keeper>(
+    processor: &mut Processor,
+    keeper: &K,
+    machine: &mut Machine,
+    p: u64,
+    cells: &CellSet,
+) -> Option<u64>
+    requires within { p < 2 ^ 40 }
+    requires first { 0 < p → Contains (steps (K.images keeper.now)) 0 }
+    requires metered { processor.old.meter < 2 ^ 128 }
+    requires of_run { AreOfRun processor.old.scenario (K.images keeper.now) }
+    ensures last { IsLastHit (step_writes processor.old.scenario cells.now) 0 p result }
+    ensures scenario { processor.new.scenario ≡ processor.old.scenario }
+    ensures metered { processor.new.meter < 2 ^ 128 }
+    ensures least { processor.old.meter ≤ processor.new.meter }
+    ensures before { IfSome result (λ t. t < p) }
+
+    // The segment of the step that is found is the last one that is run.
+    ensures found { IfSome result (λ t. (c : ℕ) → Contains (steps (K.images keeper.now)) c → c ≤ t → processor.new.meter + c < processor.old.meter + p) }
+    ensures none { IfNone result (processor.new.meter ≤ processor.old.meter + p) }
+{
+    let mut high = p;
+    while high > 0 {
+        let low = step_before(keeper, high);
+        restore(processor, keeper, low, machine);
+        if let Some(t) = scan_writes(processor, machine, low, high, cells) {
+            return Some(t);
+        }
+        high = low;
+    }
+    None
+}

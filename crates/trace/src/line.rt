@@ -1,0 +1,88 @@
+//! The line of a step.
+
+ghost use Rattle.std.specs.Prelude.{◌≡◌, ◌+◌, ◌^◌, ◌≤◌, ◌++◌, true, length, decimal};
+ghost use Rattle.std.specs.List.{flat_map};
+ghost use Rattle.arrayvec.specs.ArrayVec.{array_vec_len};
+ghost use Rattle.words.specs.Devices.{Writes, failures_after};
+ghost use Rattle.cpu.specs.Next.{next};
+ghost use Rattle.cpu.specs.State.{FitsRun};
+ghost use Rattle.trace.specs.TraceLines.{field, line_end, or_none, trace_line, written};
+
+use crate::fields::{StepFields, decimal_text, push_field};
+use crate::names::PlaceNames;
+use crate::steps::what_text;
+use crate::written::{Line, push_all_written};
+use arrayvec::ArrayVec;
+use cpu::{Cell, Machine, Output, Processor, channel_line};
+use words::{Write, WriteFailed, push_all, write_all};
+
+/// How wide the columns of the step and of the cycles are.
+const NUMBER_WIDTH: usize = 8;
+
+/// Makes a step, and writes its line: its number, the cycles after it, what it is, what it has written, and the channel line of
+/// what it puts out.
+///
+/// After a failure a beginning of the line was written.
+#[tactic(auto, unfolding(crate::specs::TraceLines::trace_line))]
+pub fn trace_step<W: Write>(
+    names: &PlaceNames,
+    processor: &mut Processor,
+    machine: &mut Machine,
+    number: u64,
+    out: &mut W,
+) -> Result<(), WriteFailed>
+    requires cycles { machine.old.cycles ≤ 2 ^ 62 }
+    requires fits { FitsRun processor.old.scenario machine.old }
+    ensures scenario { processor.new.scenario ≡ processor.old.scenario }
+    ensures state { machine.new ≡ (next processor.old.scenario machine.old).0 }
+    ensures written { W.told ≡ true →
+        Writes (W.written out.old) (W.written out.new) (trace_line names.now processor.old.scenario number machine.old) result }
+    ensures failures { W.failures out.new ≡ failures_after (W.failures out.old) result }
+{
+    let what = what_text(names, processor, machine);
+    let cells = processor.targets(machine);
+    let output = processor.step(machine);
+    let line = line_of(names, number, &what, machine, cells.as_slice(), output);
+    write_all(out, line.as_slice())
+}
+
+/// The line of a step, by what it was, the machine after it, the cells that it has written, and what it has put out.
+fn line_of(
+    names: &PlaceNames,
+    number: u64,
+    what: &StepFields,
+    machine: &Machine,
+    cells: &[Cell],
+    output: Option<Output>,
+) -> Line
+    requires what { array_vec_len what.now ≤ 66 }
+    requires few { length cells.now ≤ 10 }
+    ensures { result.items ≡ field 8 (decimal number) ++ field 8 (decimal machine.now.cycles) ++ what.now.items
+        ++ or_none (flat_map (written names.now machine.now.cells) cells.now) ++ line_end output }
+{
+    let mut line = ArrayVec::new();
+    push_field(&mut line, NUMBER_WIDTH, decimal_text(number).as_slice());
+    push_field(
+        &mut line,
+        NUMBER_WIDTH,
+        decimal_text(machine.cycles()).as_slice(),
+    );
+    push_all(&mut line, what.as_slice());
+    push_all_written(&mut line, names, machine, cells);
+    push_end(&mut line, output);
+    line
+}
+
+/// Appends the end of a line: the channel line of what a step puts out, if anything.
+fn push_end(line: &mut Line, output: Option<Output>)
+    requires { array_vec_len line.old ≤ 340 }
+    ensures { line.new.items ≡ line.old.items ++ line_end output }
+{
+    match output {
+        None => push_all(line, b"\n"),
+        Some(output) => {
+            push_all(line, b"  ");
+            push_all(line, channel_line(&output).as_slice());
+        }
+    }
+}

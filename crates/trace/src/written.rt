@@ -1,0 +1,115 @@
+//! What a step has written, as text.
+
+ghost use Rattle.std.specs.Prelude.{◌≡◌, ◌*◌, ◌+◌, ◌≤◌, ◌++◌, length, unwrap_or};
+ghost use Rattle.std.specs.List.{flat_map};
+ghost use Rattle.arrayvec.specs.ArrayVec.{array_vec_len};
+ghost use Rattle.words.specs.Numerals.{octal_text};
+ghost use Rattle.space.specs.declared.place.Linear.TheVariants.{Erasable};
+ghost use Rattle.trace.specs.TraceLines.{cell_name, cell_reading, or_none, place_name, written};
+
+use crate::names::{PlaceNames, place_name};
+use arrayvec::ArrayVec;
+use cpu::{Cell, Machine};
+use space::Linear;
+use space::numbers::{Chan, Eras};
+use words::{push_all, push_octal};
+
+/// The most bytes of a line: three numbers of at most 20 digits, the fields that tell what the step is, ten cells, and what stands between.
+const LINE: usize = 384;
+
+pub(crate) type Line = ArrayVec<u8, LINE>;
+
+/// The number of the first cell that is a channel's.
+const FIRST_CHANNEL: u16 = 0o4000;
+
+/// Appends the cells that a step has written, with what is read there, or the sign that there is none.
+pub(crate) fn push_all_written(
+    line: &mut Line,
+    names: &PlaceNames,
+    machine: &Machine,
+    cells: &[Cell],
+)
+    requires room { array_vec_len line.old ≤ 126 }
+    requires few { length cells.now ≤ 10 }
+    ensures items { line.new.items ≡ line.old.items ++ or_none (flat_map (written names.now machine.now.cells) cells.now) }
+    ensures short { array_vec_len line.new ≤ array_vec_len line.old + 160 }
+{
+    let before = line.len();
+    push_each(line, names, machine, cells);
+    if line.len() == before {
+        push_all(line, b" -");
+    }
+}
+
+/// Appends each cell that a step has written.
+fn push_each(line: &mut Line, names: &PlaceNames, machine: &Machine, cells: &[Cell])
+    requires room { array_vec_len line.old ≤ 126 }
+    requires few { length cells.now ≤ 10 }
+    ensures items { line.new.items ≡ line.old.items ++ flat_map (written names.now machine.now.cells) cells.now }
+    ensures short { array_vec_len line.new ≤ array_vec_len line.old + 16 * length cells.now }
+{
+    for cell in cells {
+        push_written(line, names, machine, *cell);
+    }
+}
+
+/// Appends a cell that a step has written, with what is read there: nothing of Z.
+fn push_written(line: &mut Line, names: &PlaceNames, machine: &Machine, cell: Cell)
+    requires { array_vec_len line.old ≤ 340 }
+    ensures items { line.new.items ≡ line.old.items ++ written names.now machine.now.cells cell }
+    ensures short { array_vec_len line.new ≤ array_vec_len line.old + 16 }
+{
+    if cell != Cell::Z {
+        push_all(line, b" ");
+        push_name(line, names, cell);
+        push_all(line, b"=");
+        push_reading(line, machine, cell);
+    }
+}
+
+/// Appends a cell: a place by its name or its number, or a channel.
+fn push_name(line: &mut Line, names: &PlaceNames, cell: Cell)
+    requires { array_vec_len line.old ≤ 341 }
+    ensures items { line.new.items ≡ line.old.items ++ cell_name names.now cell }
+    ensures short { array_vec_len line.new ≤ array_vec_len line.old + 8 }
+{
+    let number = cell.number();
+    match Eras::try_new(number) {
+        Some(place) => push_place(line, names, place),
+        None => {
+            push_all(line, b"CH");
+            push_octal(line, 3, number - FIRST_CHANNEL);
+        }
+    }
+}
+
+/// Appends an erasable place by its name, or by its number.
+fn push_place(line: &mut Line, names: &PlaceNames, place: Eras)
+    requires { array_vec_len line.old ≤ 341 }
+    ensures items { line.new.items ≡ line.old.items ++ unwrap_or (place_name names.now (Erasable place)) (octal_text 4 place) }
+    ensures short { array_vec_len line.new ≤ array_vec_len line.old + 8 }
+{
+    match place_name(names, Linear::Erasable(place)) {
+        Some(name) => push_all(line, name),
+        None => push_octal(line, 4, place.number()),
+    }
+}
+
+/// Appends what is read at a cell: 16 bits at A and Q, elsewhere a word.
+fn push_reading(line: &mut Line, machine: &Machine, cell: Cell)
+    requires { array_vec_len line.old ≤ 350 }
+    ensures items { line.new.items ≡ line.old.items ++ cell_reading machine.now.cells cell }
+    ensures short { array_vec_len line.new ≤ array_vec_len line.old + 6 }
+{
+    let number = cell.number();
+    match Eras::try_new(number) {
+        Some(place) if place == Eras::A || place == Eras::Q => {
+            push_octal(line, 6, machine.reg(place).to_u16());
+        }
+        Some(place) => push_octal(line, 5, machine.word(place).to_u16()),
+        None => {
+            let channel = Chan::of_low_bits(number - FIRST_CHANNEL);
+            push_octal(line, 5, machine.channel(channel).correct().to_u16());
+        }
+    }
+}

@@ -1,0 +1,61 @@
+-- What a run has told, slice by slice.
+use Rattle.std.proofs.Common.{◌≡◌, ℕ, ◌+◌, ◌*◌, ◌/◌, ◌%◌, ◌^◌, ◌<◌, ◌≤◌, ◌==◌, Bool, true, false, ◌++◌, Result, Ok, Err, refl, sym, ap, ◌∙◌, arith, append-nil, add-one, subst}
+use Rattle.std.proofs.lemmas.Bool.Decides.{nat_tests}
+use Rattle.words.specs.Devices.{failures_after}
+use Rattle.words.specs.declared.device.WriteFailed.{WriteFailed}
+use Rattle.words.proofs.Texts.{Writes-after, beginning-longer}
+use Rattle.workshop.specs.Failures.{Writer}
+use Rattle.workshop.specs.Progress.{progress_line, progress_lines, progress_text, progress_at, TellsNext, Tells, TellsSome}
+
+-- before the first step nothing is told
+pub tells_at_start : (w : Writer) → Tells 0 w w (Ok tt)
+unfolding progress_lines
+tells_at_start w = record { bytes = λ told. sym (append-nil w.written); failures = refl }
+
+lines_more : (k : ℕ) → progress_lines (k + 1) ≡ progress_lines k ++ progress_line (2 ^ 20 * (k + 1))
+unfolding progress_lines
+lines_more k = subst (λ n. progress_lines n ≡ progress_lines k ++ progress_line (2 ^ 20 * (k + 1))) (sym (add-one k)) refl
+
+-- at the end of a slice
+slice_full : (k n : ℕ) → n ≡ 2 ^ 20 * (k + 1) → progress_text n ≡ progress_lines k ++ progress_at n
+slice_full k n e =
+    let quotient : n / 2 ^ 20 ≡ k + 1 = omega (arith, e) in
+    let rest : n % 2 ^ 20 ≡ 0 = omega (arith, e) in
+    rw (quotient, rest, lines_more k, e) refl
+
+slice_short : (k n : ℕ) → 2 ^ 20 * k < n → n < 2 ^ 20 * (k + 1) → progress_text n ≡ progress_lines k ++ progress_at n
+slice_short k n low high =
+    let quotient : n / 2 ^ 20 ≡ k = omega (arith, low, high) in
+    let rest : (n % 2 ^ 20 == 0) ≡ false = grind (arith, nat_tests) in
+    rw (quotient, rest) (sym (append-nil (progress_lines k)))
+
+text_by : (b : Bool) (k n : ℕ) → b ≡ (n == 2 ^ 20 * (k + 1)) → 2 ^ 20 * k < n → n ≤ 2 ^ 20 * (k + 1) → progress_text n ≡ progress_lines k ++ progress_at n
+text_by true k n e low high = let full : n ≡ 2 ^ 20 * (k + 1) = grind (arith, nat_tests) in slice_full k n full
+text_by false k n e low high = let short : n < 2 ^ 20 * (k + 1) = grind (arith, nat_tests) in slice_short k n low short
+
+text_more : (done n : ℕ) → done % 2 ^ 20 ≡ 0 → done < n → n ≤ done + 2 ^ 20 → progress_text n ≡ progress_text done ++ progress_at n
+text_more done n whole low high =
+    let is : done ≡ 2 ^ 20 * (done / 2 ^ 20) = omega (arith, whole) in
+    text_by (n == 2 ^ 20 * ((done / 2 ^ 20) + 1)) (done / 2 ^ 20) n refl (omega (arith, is, low)) (omega (arith, is, high))
+
+-- a slice more
+pub tells_more : (done n : ℕ) (a b c : Writer) (told next : Result (Unit {0}) WriteFailed) → done % 2 ^ 20 ≡ 0 → done < n → n ≤ done + 2 ^ 20 → a.told ≡ b.told
+    → Tells done a b told → TellsNext n b c told next → Tells n a c next
+tells_more done n a b c (Ok x) next whole low high same before more =
+    record {
+      bytes = λ told. rw (text_more done n whole low high) (Writes-after a.written b.written c.written (progress_text done) (progress_at n) next (before.bytes told) (more.0 (sym same ∙ told)));
+      failures = more.1 ∙ ap (λ f. failures_after f next) before.failures;
+    }
+tells_more done n a b c (Err e) next whole low high same before more =
+    rw (more.1, more.0) record {
+      bytes = λ told. rw (text_more done n whole low high) (beginning-longer a.written b.written (progress_text done) (progress_at n) (before.bytes told));
+      failures = before.failures;
+    }
+
+-- where a run stands in the midst of its steps, it has told a slice or more
+pub tells_some : (steps n : ℕ) (a b : Writer) (told : Result (Unit {0}) WriteFailed) → n ≤ steps → Tells n a b told → TellsSome steps a b
+tells_some steps n a b told within tells = record { made = n; within = within; told = told; tells = tells }
+
+-- a run of no step has told nothing
+pub tells_none : (steps : ℕ) (w : Writer) → TellsSome steps w w
+tells_none steps w = tells_some steps 0 w w (Ok tt) (omega arith) (tells_at_start w)

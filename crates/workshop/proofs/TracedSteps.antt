@@ -1,0 +1,47 @@
+-- A run that is traced, step by step.
+use Rattle.std.proofs.Common.{◌≡◌, ℕ, ◌+◌, ◌-◌, ◌<◌, ◌≤◌, Bool, true, List, ◌++◌, ◌∙◌, arith, subst}
+use Rattle.words.specs.Devices.{WritesBeginning}
+use Rattle.words.proofs.Texts.{append-then, beginning-after, beginning-whole}
+use Rattle.cpu.specs.State.{Scenario, State}
+use Rattle.cpu.specs.Next.{next}
+use Rattle.cpu.specs.Run.{run}
+use Rattle.symbols.specs.Values.{SymbolTable}
+use Rattle.trace.specs.TraceLines.{line_from, trace_lines}
+use Rattle.trace.proofs.Lines.{no_lines, lines_more, begins_longer}
+use Rattle.workshop.proofs.RunSteps.{state_more}
+
+-- where a run stands after n steps: its machine, and what is written besides what was old
+pub record Stands (told : Bool) (symbols : SymbolTable) (scenario : Scenario) (first n : ℕ) (machine : State) (old new : List ℕ) : Type 0 where
+  pub state : machine ≡ run scenario n
+  pub written : told ≡ true → new ≡ old ++ trace_lines symbols scenario first n
+
+pub stands_at_start : (told : Bool) (symbols : SymbolTable) (scenario : Scenario) (first : ℕ) (s : State) (a : List ℕ) → s ≡ run scenario 0 → Stands told symbols scenario first 0 s a a
+stands_at_start told symbols scenario first s a e = record { state = e; written = λ _. no_lines symbols scenario first a }
+
+pub stands_after_step : (told : Bool) (symbols : SymbolTable) (scenario now : Scenario) (first n : ℕ) (s t : State) (a b c : List ℕ) → now ≡ scenario → Stands told symbols scenario first n s a b
+    → t ≡ (next now s).0 → (told ≡ true → c ≡ b ++ line_from symbols now first (n + 1) s) → Stands told symbols scenario first (n + 1) t a c
+stands_after_step told symbols scenario now first n s t a b c same before e w =
+    record {
+      state = state_more scenario n s t before.state (subst (λ (u : Scenario). t ≡ (next u s).0) same e);
+      written = λ is_told.
+          let line : c ≡ b ++ line_from symbols scenario first (n + 1) (run scenario n) =
+          subst (λ (u : State). c ≡ b ++ line_from symbols scenario first (n + 1) u) before.state
+          (subst (λ (u : Scenario). c ≡ b ++ line_from symbols u first (n + 1) s) same (w is_told)) in
+          rw (lines_more symbols scenario first n) (append-then a b c _ _ (before.written is_told) line);
+    }
+
+-- a run that ends in step n + 1
+pub breaks_off : (told : Bool) (symbols : SymbolTable) (scenario now : Scenario) (first steps n : ℕ) (s : State) (a b c : List ℕ) → n < steps → now ≡ scenario → Stands told symbols scenario first n s a b
+    → told ≡ true → WritesBeginning b c (line_from symbols now first (n + 1) s) → WritesBeginning a c (trace_lines symbols scenario first steps)
+breaks_off told symbols scenario now first steps n s a b c h same before is_told part =
+    let here : WritesBeginning b c (line_from symbols scenario first (n + 1) (run scenario n)) =
+    subst (λ (u : State). WritesBeginning b c (line_from symbols scenario first (n + 1) u)) before.state
+    (subst (λ (u : Scenario). WritesBeginning b c (line_from symbols u first (n + 1) s)) same part) in
+    let more : WritesBeginning a c (trace_lines symbols scenario first (n + 1)) = rw (lines_more symbols scenario first n) (beginning-after a b c _ _ (before.written is_told) here) in
+    begins_longer symbols scenario first (n + 1) (steps - (n + 1)) steps a c (omega (arith, h)) more
+
+-- a run that ends after step n, where its lines could not be handed on
+pub breaks_off_after : (told : Bool) (symbols : SymbolTable) (scenario : Scenario) (first steps n : ℕ) (s : State) (a b c : List ℕ) → n ≤ steps → Stands told symbols scenario first n s a b
+    → told ≡ true → c ≡ b → WritesBeginning a c (trace_lines symbols scenario first steps)
+breaks_off_after told symbols scenario first steps n s a b c h before is_told same =
+    begins_longer symbols scenario first n (steps - n) steps a c (omega (arith, h)) (beginning-whole a c _ (same ∙ before.written is_told))

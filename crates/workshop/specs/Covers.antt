@@ -1,0 +1,73 @@
+-- What an engine that profiles a run answers, and what it has then written.
+use Rattle.std.specs.Prelude.{◌≡◌, ℕ, ◌⊎◌, List, Option, Some, None, Result, Ok, Err, OnOk}
+use Rattle.rope.specs.Places.{Words}
+use Rattle.rope.specs.Reading.{ReadsImage}
+use Rattle.rope.specs.declared.fault.RopeFault.{RopeFault}
+use Rattle.rope.specs.declared.spelling.Version.{Version}
+use Rattle.feed.specs.declared.entry.Entry.{Entry}
+use Rattle.yayul.specs.Program.{Program}
+use Rattle.cover.specs.CoverText.{cover_text}
+use Rattle.cover.specs.Tallies.{AllAddUp}
+use Rattle.cpu.specs.State.{Scenario}
+use Rattle.workshop.specs.declared.fault.WorkshopFault.{WorkshopFault}
+use Rattle.workshop.specs.declared.fault.WorkshopFault.TheVariants.{NoMemory}
+use Rattle.workshop.specs.declared.origin.Origin.{Origin}
+use Rattle.workshop.specs.declared.origin.Origin.TheVariants as origin
+use Rattle.workshop.specs.Failures.{Reader, Writer}
+use Rattle.workshop.specs.Faults.{of_rope_fault}
+use Rattle.workshop.specs.Inputs.{assembled}
+use Rattle.workshop.specs.Loading.{Reads, ReadsInputs, ReadsText}
+use Rattle.workshop.specs.Ropes.{WritesText}
+use Rattle.workshop.specs.Runs.{Running}
+
+-- what is covered: the words of a program, and of a source its text
+abbrev pub Subject : Type 0
+Subject = Words × Option (List ℕ)
+
+-- what a source gives, and what an image does
+abbrev pub subject_of : Result Program WorkshopFault → Result Subject WorkshopFault
+subject_of (Ok p) = Ok (p.rope, Some p.source)
+subject_of (Err fault) = Err fault
+
+abbrev pub imaged_subject : Result Words RopeFault → Result Subject WorkshopFault
+imaged_subject (Ok words) = Ok (words, None)
+imaged_subject (Err fault) = Err (of_rope_fault fault)
+
+-- an image is read
+pub record ReadsImaged (version : Version) (old new : List ℕ) (result : Result Subject WorkshopFault) : Type 0 where
+  pub read : Result Words RopeFault
+  pub reads : ReadsImage version old new read
+  pub gives : result ≡ imaged_subject read
+
+-- what is covered is read, from where its words come
+abbrev pub ReadsSubject : Origin → List ℕ → List ℕ → Result Subject WorkshopFault → Type 0
+ReadsSubject origin.Source old new result = ReadsText (subject_of (assembled old)) old new result
+ReadsSubject (origin.Image version) old new result = ReadsImaged version old new result
+
+-- memory for the figures is refused before the first step, and nothing is written; or all steps are made and counted, each once,
+-- and their profile is written
+abbrev pub CoversRun : Option (List ℕ) → Scenario → ℕ → Writer → Writer → Result (Unit {0}) WorkshopFault → Type 0
+CoversRun source scenario steps before after result =
+    ((result ≡ Err NoMemory) × (after ≡ before))
+    ⊎ (WritesText (cover_text source scenario steps) before after result × AllAddUp scenario steps)
+
+-- where the feed was read the run is covered, and after a fault nothing is written
+abbrev pub CoversThen : Subject → ℕ → Result (List Entry) WorkshopFault → Writer → Writer → Result (Unit {0}) WorkshopFault → Type 0
+CoversThen subject steps (Ok inputs) before after result = CoversRun subject.1 (record { rope = subject.0; inputs = inputs }) steps before after result
+CoversThen subject steps (Err fault) before after result = (result ≡ Err fault) × (after ≡ before)
+
+pub record CoversNext (subject : Subject) (steps : ℕ) (before after : Running) (result : Result (Unit {0}) WorkshopFault) : Type 0 where
+  pub inputs : Result (List Entry) WorkshopFault
+  pub reads : Reads ReadsInputs before.files.feed after.files.feed inputs
+  pub next : CoversThen subject steps inputs before.out after.out result
+
+-- where the program was read the feed is, and after a fault nothing of it
+abbrev pub CoversProgram : Result Subject WorkshopFault → ℕ → Running → Running → Result (Unit {0}) WorkshopFault → Type 0
+CoversProgram (Ok subject) steps before after result = CoversNext subject steps before after result
+CoversProgram (Err fault) steps before after result = (result ≡ Err fault) × (after.files.feed ≡ before.files.feed) × (after.out ≡ before.out)
+
+-- a program and a feed are read, and what was read decides what is written
+pub record Covers (from : Origin) (steps : ℕ) (before after : Running) (result : Result (Unit {0}) WorkshopFault) : Type 0 where
+  pub subject : Result Subject WorkshopFault
+  pub reads : Reads (ReadsSubject from) before.files.program after.files.program subject
+  pub next : CoversProgram subject steps before after result

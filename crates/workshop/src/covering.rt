@@ -1,0 +1,125 @@
+//! The engine that profiles a run.
+
+ghost use Rattle.std.specs.Prelude.{◌≡◌, ◌-◌, ◌≤◌, ◌^◌, true};
+ghost use Rattle.words.specs.Devices.{Writes, failures_after};
+ghost use Rattle.cover.specs.CoverText.{cover_text, profile_text, total_of};
+ghost use Rattle.cover.specs.Tallies.{AllAddUp, Counts, figures_at};
+ghost use Rattle.cpu.specs.Run.{run};
+ghost use Rattle.workshop.specs.Covers.{Covers, CoversRun, ReadsSubject};
+ghost use Rattle.workshop.specs.Failures.{reader, writer};
+ghost use Rattle.workshop.specs.Loading.{Reads};
+
+use crate::engine::STEPS_BETWEEN_FLUSHES;
+use crate::fault::WorkshopFault;
+use crate::inputs::{read_feed, read_program};
+use crate::origin::Origin;
+use cover::{Figures, Tally, write_image_profile, write_source_profile};
+use cpu::{Machine, Processor};
+use rope::Rope;
+use std::alloc::Global;
+use words::{Read, Write, WriteFailed};
+use yayul::SourceRows;
+
+/// Reads a program and then a feed, makes some steps, and writes how often each word was executed and the cycles that this took:
+/// before the rows of a source's listing, or before the words of an image.
+///
+/// The first fault of the program is answered, else that of the feed, else that memory ran out, and then nothing is written.
+/// Memory for the figures is taken once, before the first step. After a write that failed a beginning of the text was written.
+pub fn cover_program<P: Read, F: Read, W: Write>(
+    alloc: Global,
+    origin: Origin,
+    program: &mut P,
+    feed: &mut F,
+    steps: u64,
+    out: &mut W,
+) -> Result<(), WorkshopFault>
+    requires { steps ≤ 2 ^ 40 - 2 }
+    ensures { Covers origin steps
+        (record { files = record { program = reader P.told P.left P.failures program.old; feed = reader F.told F.left F.failures feed.old }; out = writer W.told W.written W.failures out.old })
+        (record { files = record { program = reader P.told P.left P.failures program.new; feed = reader F.told F.left F.failures feed.new }; out = writer W.told W.written W.failures out.new }) result }
+{
+    let (rope, rows) = read_subject(alloc, origin, program)?;
+    let mut processor = Processor::new(rope, read_feed(alloc, feed)?);
+    cover(alloc, &rows, &mut processor, steps, out)
+}
+
+/// Reads the words of a program, and of a source its lines.
+fn read_subject<P: Read>(
+    alloc: Global,
+    origin: Origin,
+    program: &mut P,
+) -> Result<(Rope, Option<SourceRows>), WorkshopFault>
+    ensures { Reads (ReadsSubject origin)
+        (reader P.told P.left P.failures program.old) (reader P.told P.left P.failures program.new) result }
+{
+    match origin {
+        Origin::Source => {
+            let (rope, rows) = read_program(alloc, program)?.split_rows();
+            Ok((rope, Some(rows)))
+        }
+        Origin::Image(version) => {
+            let rope = Rope::read(alloc, program, version)?;
+            Ok((rope, None))
+        }
+    }
+}
+
+/// Makes some steps from the start, and writes their profile.
+fn cover<W: Write>(
+    alloc: Global,
+    rows: &Option<SourceRows>,
+    processor: &mut Processor,
+    steps: u64,
+    out: &mut W,
+) -> Result<(), WorkshopFault>
+    requires { steps ≤ 2 ^ 40 - 2 }
+    ensures { CoversRun rows.now processor.old.scenario steps
+        (writer W.told W.written W.failures out.old) (writer W.told W.written W.failures out.new) result }
+{
+    let Ok(mut tally) = Tally::new(alloc) else {
+        return Err(WorkshopFault::NoMemory);
+    };
+    let cycles = make_steps(processor, &mut tally, steps);
+    let total = Figures {
+        count: steps,
+        cycles,
+    };
+    write_profile(&tally, total, processor.rope(), rows, out)?;
+    Ok(())
+}
+
+/// Writes a profile: of a source its rows, of an image its words.
+fn write_profile<W: Write>(
+    tally: &Tally,
+    total: Figures,
+    rope: &Rope,
+    rows: &Option<SourceRows>,
+    out: &mut W,
+) -> Result<(), WriteFailed>
+    ensures written { W.told ≡ true → Writes (W.written out.old) (W.written out.new) (profile_text (figures_at tally.now) total rope.now rows.now) result }
+    ensures failures { W.failures out.new ≡ failures_after (W.failures out.old) result }
+{
+    match rows {
+        Some(rows) => write_source_profile(tally, total, rope, rows, out),
+        None => write_image_profile(tally, total, rope, out),
+    }
+}
+
+/// Makes some steps from the start, counts each, and answers their cycles.
+fn make_steps(processor: &mut Processor, tally: &mut Tally, steps: u64) -> u64
+    requires few { steps ≤ 2 ^ 40 - 2 }
+    requires none { Counts processor.old.scenario 0 tally.old }
+    ensures scenario { processor.new.scenario ≡ processor.old.scenario }
+    ensures counts { Counts processor.old.scenario steps tally.new }
+    ensures cycles { result ≡ (run processor.old.scenario steps).cycles }
+    ensures adds_up { AllAddUp processor.old.scenario steps }
+{
+    let mut machine = Machine::start();
+    let mut done = 0;
+    while done < steps {
+        let stop = steps.min(done + STEPS_BETWEEN_FLUSHES);
+        tally.make_steps(processor, &mut machine, done, stop);
+        done = stop;
+    }
+    machine.cycles()
+}

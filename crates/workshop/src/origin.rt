@@ -1,0 +1,40 @@
+//! Where the words of a program come from.
+
+ghost use Rattle.workshop.specs.Failures.{reader};
+ghost use Rattle.workshop.specs.Loading.{Reads, ReadsProgram};
+
+use crate::fault::WorkshopFault;
+use crate::inputs::read_program;
+use rope::{Rope, Version};
+use std::alloc::Global;
+use words::Read;
+use yayul::Symbols;
+
+/// Where the words of a program come from.
+#[derive(Clone, Copy, PartialEq, Eq, Debug, Drop)]
+pub enum Origin {
+    /// The text of a source, which is assembled.
+    Source,
+    /// A rope image of a version, which has no symbols.
+    Image(Version),
+}
+
+impl Origin {
+    /// Reads a program: its words in their places, and its symbols. A source has at most 8,388,608 bytes.
+    pub(crate) fn read<R: Read>(
+        self,
+        alloc: Global,
+        file: &mut R,
+    ) -> Result<(Rope, Symbols), WorkshopFault>
+        ensures { Reads (ReadsProgram self)
+            (reader R.told R.left R.failures file.old) (reader R.told R.left R.failures file.new) result }
+    {
+        match self {
+            Origin::Source => Ok(read_program(alloc, file)?.split()),
+            Origin::Image(version) => {
+                let rope = Rope::read(alloc, file, version)?;
+                Ok((rope, Symbols::new(alloc)))
+            }
+        }
+    }
+}

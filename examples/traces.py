@@ -1,0 +1,115 @@
+"""Compares the lines of `agcws trace` with what `agcws debug` replies of the same steps: step 1, changed, regs, mem and chan."""
+import re
+import subprocess
+
+STEPS = 10_000
+REGISTERS = {"A": 0, "L": 1, "Q": 2, "EB": 3, "FB": 4, "Z": 5, "BB": 6}
+# Z changes in nearly every step, and BB with EB or FB: neither is shown.
+NOT_SHOWN = {5, 6}
+
+
+def replies(program, files, commands):
+    """What a session replies to commands."""
+    return subprocess.run([program, "debug", *files], input="".join(f"{it}\n" for it in commands), capture_output=True, text=True, timeout=600).stdout.splitlines()
+
+
+def symbols_of(program, source):
+    """The symbols that stand for places, each with the erasable place or the address of the fixed one."""
+    listing = subprocess.run([program, "asm", source, "/dev/null"], capture_output=True, text=True, timeout=60).stdout
+    found = {}
+    for name, kind, value in re.findall(r"^(\S+) +(ERASABLE|FIXED) (\S+)$", listing.split("\nSYMBOLS ")[-1], re.M):
+        if kind == "ERASABLE":
+            found[name] = int(value, 8)
+        else:
+            bank, offset = (int(it, 8) for it in value.split(","))
+            found[name] = {2: 0o4000, 3: 0o6000}.get(bank, 0o2000) + offset
+    return found
+
+
+class Line:
+    """A line of a trace."""
+
+    def __init__(self, text):
+        fields = re.split("  +", text)
+        self.step, self.cycles, self.place, self.kind, self.text, written = fields[:6]
+        self.written = [] if written == "-" else [it.split("=") for it in written.split(" ")]
+        self.output = fields[6:]
+
+    def is_instruction(self):
+        return self.kind not in ("INPUT", "ENTRY")
+
+
+class Step:
+    """What a session tells after a step."""
+
+    def __init__(self, lines):
+        self.output = [it for it in lines if " CH " in it]
+        rest = [it for it in lines if " CH " not in it]
+        _, self.step, self.cycles, self.z = rest[0].split()
+        count = next(i for i, it in enumerate(rest) if it.startswith("COUNT "))
+        self.changed = {int(it, 8) for it in rest[1:count]}
+        words = rest[count + 1].split()
+        self.registers = dict(zip(words[::2], words[1::2]))
+        self.next = rest[count + 2].split()[1:]
+
+
+def steps_of(program, files):
+    commands = ["step 0", "changed 0", "regs"]
+    for step in range(STEPS):
+        commands += ["step 1", f"changed {step}", "regs"]
+    lines = replies(program, files, commands)
+    ends = [i + 1 for i, it in enumerate(lines) if it.startswith("NEXT ")]
+    return [Step(lines[a:b]) for a, b in zip([0] + ends, ends)]
+
+
+def place_asked(name, symbols):
+    """The command that asks for the word at a place of a line."""
+    if name.startswith("CH") and name not in symbols:
+        return f"chan {name[2:]}"
+    number = REGISTERS.get(name, symbols.get(name))
+    return f"mem {int(name, 8) if number is None else number:o}"
+
+
+def is_same_text(line, told, symbols):
+    """Whether a line's instruction is the one that was told, but for the name of a place."""
+    if re.search(r" [+-][0-7]+$", line.text):
+        return True
+    name, _, operand = line.text.partition(" ")
+    if line.text == " ".join(told[1:]):
+        return operand not in symbols
+    number = REGISTERS.get(operand, symbols.get(operand))
+    if number is None or name != told[1]:
+        return False
+    address = int(told[2], 8)
+    return number == address or 0o1400 <= address < 0o2000 and number % 0o400 == address % 0o400
+
+
+def is_right(line, before, after, symbols):
+    """Whether a line says what the session told before and after the step."""
+    shown = {int(place_asked(name, symbols).split()[1], 8) for name, _ in line.written if not name.startswith("CH") or name in symbols}
+    enters = (before.registers["INT"], after.registers["INT"]) == ("0", "1")
+    kind = line.kind == "ENTRY" if enters else line.kind != "ENTRY"
+    if line.is_instruction():
+        what = line.kind == before.next[0] and is_same_text(line, before.next, symbols)
+        place = line.place == "BRUPT" or line.place.split(",")[1] == before.z
+    else:
+        what = line.kind == "INPUT" or line.text.startswith(("T", "KEY", "UP", "DOWN", "RADAR", "RUPT"))
+        place = line.place == "-" if line.kind == "INPUT" else line.place.split(",")[1] == after.z
+    return (line.step, line.cycles, line.output) == (after.step, after.cycles, after.output) and kind and what and place and after.changed - NOT_SHOWN <= shown
+
+
+def check_trace(program, told, name, files):
+    """Compares the first steps of a program."""
+    text = subprocess.run([program, "trace", *files, str(STEPS)], capture_output=True, text=True, timeout=60).stdout
+    lines = [Line(it) for it in text.splitlines()]
+    symbols, steps = symbols_of(program, files[0]), steps_of(program, files)
+    wrong = [it for it, before, after in zip(lines, steps, steps[1:]) if not is_right(it, before, after, symbols)]
+    told(f"trace of {name} beside debug", len(lines) == STEPS and not wrong, f"{len(lines)} lines, {vars(wrong[0]) if wrong else ''}")
+    commands, wanted = [], []
+    for line in lines:
+        commands += ["step 1"] + [place_asked(place, symbols) for place, _ in line.written]
+        wanted += [word[-5:] if place not in ("A", "Q") else word for place, word in line.written]
+    got = [it.split()[1] for it in replies(program, files, commands) if it.startswith(("MEM ", "CHAN "))]
+    # (mem shows the 15 bits of A and Q that a word has)
+    same = [a if len(a) == 5 else f"{int(a, 8) >> 1 & 0o40000 | int(a, 8) & 0o37777:05o}" for a in wanted]
+    told(f"what trace of {name} shows written", got == same, f"{len(got)} and {len(same)}")

@@ -1,0 +1,259 @@
+#!/usr/bin/env python3
+"""Tests of quick and passed: what they take for changed, and the whole on a repository of two small libraries, a program and tests. The last line is 'N passed, M failed'."""
+import os
+import shutil
+import subprocess
+import sys
+import tempfile
+import unittest
+
+sys.dont_write_bytecode = True
+from files import write_text
+GATE = os.path.dirname(os.path.realpath(__file__))
+sys.path.insert(0, GATE)
+import passed
+
+HEAD = "//! A small crate.\n#![tactic(auto)]\n\n"
+PLUS = "ghost use Rattle.std.specs.Prelude.{◌≡◌, ◌+◌};\n"
+LOW = f"""{HEAD}{PLUS}ghost use Rattle.words.specs.Sums.{{more}};
+
+/// More by the number that is the rule.
+pub fn one_more(x: u8) -> u16
+    ensures {{ result ≡ more x }}
+{{
+    u16::from(x) + 1
+}}
+
+/// The other way round.
+pub fn sum(x: u8, y: u8) -> u16
+    ensures {{ result ≡ x + y }}
+{{
+    u16::from(x) + u16::from(y)
+}}
+"""
+SUMS = """-- Sums.
+use Rattle.std.specs.Prelude.{ℕ, ◌+◌}
+
+-- one more
+abbrev pub more : ℕ → ℕ
+more x = x + 1
+"""
+HIGH = f"""{HEAD}{PLUS}
+use words::one_more;
+
+/// Two more.
+pub fn two_more(x: u8) -> u16
+    ensures {{ result ≡ x + 2 }}
+{{
+    one_more(x) + 1
+}}
+
+/// The other way round.
+pub fn sum(x: u8, y: u8) -> u16
+    ensures {{ result ≡ x + y }}
+{{
+    u16::from(x) + u16::from(y)
+}}
+"""
+PROGRAM = HEAD + "use workshop::two_more;\n\nfn main() {\n    let _sum = two_more(1);\n}\n"
+TESTS = HEAD + """#[cfg(test)]
+mod tests {
+    use words::one_more;
+
+    #[test]
+    fn one_and_one(rt: HostRuntime) {
+        assert_eq!(rt; one_more(1), 2);
+    }
+}
+"""
+HARMLESS = "file: src/lib.rt\nold:     u16::from(x) + u16::from(y)\nnew:     u16::from(y) + u16::from(x)\n"
+SCRIPT = """import subprocess
+ran = subprocess.run(["crates/agcws/out/agcws"])
+right = open("examples/example").read() == "sound" and "harmful" not in open("docs/MANUAL.md").read()
+print("1 passed, 0 failed" if right and not ran.returncode else "0 passed, 1 failed")
+"""
+
+
+def repository(room):
+    """Writes a small repository with this one's scripts."""
+    os.mkdir(f"{room}/.git")
+    files = {
+        "crates.txt": "words:\nworkshop: words\nagcws: words workshop\nlow_tests: words\n",
+        "crates/words/src/lib.rt": LOW,
+        "crates/words/specs/Lib.antt": "pub mod Sums\n",
+        "crates/words/specs/Sums.antt": SUMS,
+        "crates/workshop/src/lib.rt": HIGH,
+        "crates/workshop/wrong-bodies/harmless.edit": HARMLESS,
+        "crates/workshop/wrong-bodies/two_more_adds_one.edit": "why: one\nclause: `two_more`\nfile: src/lib.rt\nold:     one_more(x) + 1\nnew:     one_more(x)\n",
+        "crates/agcws/src/main.rt": PROGRAM,
+        "crates/low_tests/src/lib.rt": TESTS,
+        "docs/THEOREMS.md": "| `words`: `more` (1 definitions, 2 lines) |\n",
+        "docs/MANUAL.md": "sound",
+        "examples/example": "sound",
+        "examples/check.py": SCRIPT,
+        "views/check.py": 'print("1 passed, 0 failed")\n',
+        "hostile/check.py": 'print("1 passed, 0 failed")\n',
+    }
+    for path, text in files.items():
+        write_text(f"{room}/{path}", text)
+    shutil.copytree(GATE, f"{room}/gate", ignore=shutil.ignore_patterns("test_*", "__pycache__"))
+    run(room, "gate/edits_page")
+
+
+def run(room, *words):
+    env = {**os.environ, "CI": ""}
+    return subprocess.run(words or ["gate/quick"], cwd=room, capture_output=True, text=True, check=False, env=env)
+
+
+def last(ran):
+    return ran.stdout.split("\n")[-2]
+
+
+class Bodies(unittest.TestCase):
+    def test_bodies_go_and_all_else_stays(self):
+        text = """use a;
+
+impl A {
+    pub fn long(
+        a: u8,
+    ) -> u8 {
+        if a {
+            gone
+        }
+    }
+
+    fn plain(&self)
+        ensures { kept }
+    {
+        gone
+    }
+}
+
+trait T {
+    fn none(&self)
+        ensures { kept };
+}
+
+pub const fn counted() -> u8 {
+    kept
+}
+
+fn small() {}
+
+struct S {
+    kept: u8,
+}
+
+fn last<T>()
+where
+    T: Kept,
+{
+    gone
+}
+"""
+        left = passed.without_bodies(text)
+        self.assertNotIn("gone", left)
+        self.assertEqual(left.count("kept"), text.count("kept"))
+        for line in ("    pub fn long(", "    ) -> u8 {", "    fn plain(&self)", "fn small() {}", "    T: Kept,"):
+            self.assertIn(line, left.split("\n"))
+
+    def test_body_without_an_end_stays(self):
+        text = "fn f() {\n  gone\n  }\n"
+        self.assertEqual(passed.without_bodies(text), text)
+
+
+class WholeRuns(unittest.TestCase):
+    """One repository through several changes, since its first build takes longest."""
+
+    def setUp(self):
+        self.room = tempfile.mkdtemp()
+        repository(self.room)
+
+    def tearDown(self):
+        shutil.rmtree(self.room)
+
+    def put(self, path, old, new):
+        with open(f"{self.room}/{path}", encoding="utf-8") as it:
+            text = it.read()
+        self.assertEqual(text.count(old), 1)
+        write_text(f"{self.room}/{path}", text.replace(old, new))
+
+    def quick(self, *wanted, counts=None, others=()):
+        """Runs quick: lines that it says and none that it doesn't, and its last one."""
+        ran = run(self.room)
+        for it in wanted:
+            self.assertIn(it, ran.stdout, ran.stderr)
+        for it in others:
+            self.assertNotIn(it, ran.stdout, ran.stderr)
+        if counts:
+            self.assertEqual((last(ran), ran.returncode), (counts, int(not counts.endswith(" 0 failed"))), ran.stdout + ran.stderr)
+
+    def tried(self):
+        """How many wrong edits are tried, of one."""
+        ran = run(self.room, "gate/wrong_bodies")
+        self.assertEqual(ran.returncode, 0, ran.stdout + ran.stderr)
+        return last(ran)
+
+    def test_changes_are_found_and_nothing_else_is_done(self):
+        all_new = "changed: words workshop agcws; tests to run: low_tests; the program is to be built"
+        # two edits read, their page, a row of definitions, three crates, tests, examples, views, hostile inputs
+        self.quick(all_new, "low_tests: tests passed", "not done by --quick: ", counts="11 passed, 0 failed")
+        nothing = "changed: no crate; tests to run: none; the program is as it was built"
+        self.quick(nothing, counts="7 passed, 0 failed", others=["proof passed"])
+        self.assertEqual(last(run(self.room, "gate/wrong_bodies", "--all")), "1 passed, 0 failed")
+        self.assertEqual(self.tried(), "0 passed, 0 failed")
+        self.documents_and_examples()
+        self.bodies()
+        self.definitions()
+        self.quick("changed: no crate; tests to run: none; the program is as it was built")
+
+    def documents_and_examples(self):
+        """A wrong edit of a document, of an example, of a page that counts definitions, and of a wrong edit's text."""
+        for path, old, new, said in (
+            ("docs/MANUAL.md", "sound", "harmful", "examples and manual: 0 passed, 1 failed"),
+            ("examples/example", "sound", "other", "examples and manual: 0 passed, 1 failed"),
+            ("docs/THEOREMS.md", "2 lines", "3 lines", "counts: 0 passed, 1 failed"),
+            ("docs/EDITS.md", "| one |", "| two |", "the page of wrong edits: 0 passed, 1 failed"),
+            ("crates/workshop/wrong-bodies/two_more_adds_one.edit", "(x) + 1", "(x) + 9", "wrong edits, read: 1 passed, 1 failed"),
+        ):
+            self.put(path, old, new)
+            self.quick(said, counts="6 passed, 1 failed")
+            self.put(path, new, old)
+
+    def bodies(self):
+        """A wrong body at the top, and at the bottom; a right body at the bottom leaves what stands on it, and its edits, as they are."""
+        self.put("crates/workshop/src/lib.rt", "one_more(x) + 1", "one_more(x) + 0")
+        self.put("crates/workshop/wrong-bodies/two_more_adds_one.edit", "old:     one_more(x) + 1", "old:     one_more(x) + 0")
+        self.quick("changed: workshop; tests to run: none; the program is to be built", "fn workshop::two_more: no proof", others=["words: proof passed"])
+        self.assertIn("to be tried: 1 of workshop", run(self.room, "gate/wrong_bodies", "--read").stdout)
+        self.put("crates/workshop/src/lib.rt", "one_more(x) + 0", "one_more(x) + 1")
+        self.put("crates/workshop/wrong-bodies/two_more_adds_one.edit", "old:     one_more(x) + 0", "old:     one_more(x) + 1")
+        self.assertIn("to be tried: none", run(self.room, "gate/wrong_bodies", "--read").stdout)
+        self.put("crates/words/src/lib.rt", "u16::from(x) + 1", "u16::from(x) + 2")
+        self.quick("fn words::one_more: no proof", "workshop: proof LEFT", "low_tests: tests LEFT", "the program is not built")
+        self.put("crates/words/src/lib.rt", "u16::from(x) + 2", "1 + u16::from(x)")
+        self.quick("changed: words; tests to run: low_tests; the program is to be built", "words: proof passed", others=["workshop: proof passed"], counts="10 passed, 0 failed")
+        self.assertEqual(self.tried(), "0 passed, 0 failed")
+
+    def definitions(self):
+        """A definition below: what stands on it is proved again, and its edits are tried again."""
+        self.put("crates/words/specs/Sums.antt", "more x = x + 1", "more x = 1 + x")
+        self.quick("changed: words workshop", "workshop: proof passed")
+        self.assertEqual(self.tried(), "1 passed, 0 failed")
+
+    def test_scripts_that_change_try_all_again(self):
+        for path in ("wrong_bodies", "passed.py", "toolchain.py"):
+            trial = "import passed\nprint(passed.Trial('k', ['a'], lambda sums, name: '', 'gate/wrong_bodies').before['a'])"
+            tell = lambda trial=trial: run(self.room, sys.executable, "-c", f"import sys\nsys.path.insert(0, 'gate')\n{trial}").stdout
+            before = tell()
+            with open(f"{self.room}/gate/{path}", "a", encoding="utf-8") as it:
+                it.write("\n")
+            self.assertTrue(before)
+            self.assertNotEqual(before, tell())
+
+
+if __name__ == "__main__":
+    result = unittest.main(exit=False).result
+    failed = len(result.failures) + len(result.errors)
+    print(f"{result.testsRun - failed} passed, {failed} failed")
+    sys.exit(1 if failed else 0)

@@ -1,0 +1,109 @@
+"""All that the scripts of this repository use of the toolchain's insides: its command rt, taken as a Python module, and what that knows of crates and edits.
+
+It was written for the kit WRITTEN_FOR. What another kit no longer has under these names is told by its name, when a script starts; where a script fails
+in another way under another kit, this file is what to compare with the kit's rt and rtlib.py.
+"""
+import copy
+import functools
+import hashlib
+import importlib.machinery
+import importlib.util
+import os
+import shutil
+import sys
+import tempfile
+
+WRITTEN_FOR = "rattle-kit-13b logic dac8208d650f15bf"
+# Of rt, and of rtlib, which rt loads.
+NAMES = "KIT checked edited edits_of free in_lanes must_fail_all processors rtlib unread".split()
+LIBRARY_NAMES = "STALE crates_below files_of fmt guarded lock".split()
+CRATE_NAMES = "below build_and_run build_rlib check count has_tests is_built makes_rlib run".split()
+
+
+def stop(why):
+    """Ends the script that runs, with its name and why."""
+    sys.exit(f"{os.path.basename(sys.argv[0])}: {why}")
+
+
+def load():
+    """Returns the toolchain's command rt as a module."""
+    found = shutil.which("rt") or stop("the toolchain's command rt is not on the PATH")
+    loader = importlib.machinery.SourceFileLoader("rt", os.path.realpath(found))
+    made = importlib.util.module_from_spec(importlib.util.spec_from_loader("rt", loader))
+    loader.exec_module(made)
+    wanted = [(made, NAMES), (getattr(made, "rtlib", None), LIBRARY_NAMES), (getattr(getattr(made, "rtlib", None), "Crate", None), CRATE_NAMES)]
+    missing = [name for it, names in wanted for name in names if not hasattr(it, name)]
+    if missing:
+        stop(f"the toolchain's rt has no {' '.join(missing)}: gate/toolchain.py was written for {WRITTEN_FOR}")
+    return made
+
+
+rt = load()
+
+
+def start():
+    """Has what a script starts end with it. To be called first, by the main thread: it sets a signal's handler."""
+    rt.rtlib.guarded()
+
+
+@functools.lru_cache(maxsize=None)
+def version():
+    """Returns the kit's name and a sum of what it holds."""
+    with open(f"{rt.KIT}/KIT-ID", encoding="utf-8") as name, open(f"{rt.KIT}/WHAT", "rb") as parts:
+        return f"{name.read().strip()} {hashlib.sha256(parts.read()).hexdigest()}"
+
+
+# The crates below a folder, lowest first. Each has a name, a folder and below(), the crates of the repository under it.
+crates_below = rt.rtlib.crates_below
+# Keeps other runs of rt out of some crates until what it returns is closed.
+lock = rt.rtlib.lock
+# The files of a crate's src/, specs/ and proofs/.
+files_of = rt.rtlib.files_of
+# Runs tasks side by side, each once those it waits for have ended.
+in_lanes = rt.in_lanes
+# The texts of the files that an edit changes, or why it cannot be applied.
+edited = rt.edited
+# The files of a crate's edits of must-fail, and what stands beside them that is none.
+must_fail_of = rt.edits_of
+# Checks a copy of a crate with some texts in place of its own.
+checked = rt.checked
+# Whether a line of a check says that a text cannot be read.
+is_unread = rt.unread
+processors, free = rt.processors, rt.free
+
+
+def said_by(crate, work):
+    """Does some work on a crate, which answers a status. Returns whether that is well, and what was said."""
+    os.makedirs(f"{crate.folder}/out", exist_ok=True)
+    crate = copy.copy(crate)
+    crate.held = []
+    with tempfile.TemporaryFile("a+", errors="replace") as crate.out:
+        status = work(crate)
+        crate.out.seek(0)
+        return status == 0, crate.out.read()
+
+
+def prove(crate, jobs):
+    """Proves a crate over what is kept of it, and leaves what crates above a library load. Returns whether it is proved, and what was said."""
+    flags = ["--jobs", str(jobs)]
+    return said_by(crate, lambda it: it.build_rlib(flags, anew=False) if it.makes_rlib() else it.check(flags))
+
+
+def build(crate, jobs):
+    """Proves and builds a program over what is kept, and has it run with the word --version. Returns whether it is built, and what was said."""
+    return said_by(crate, lambda it: it.build_and_run(["--jobs", str(jobs)], ["--version"], False))
+
+
+def test(crate, jobs):
+    """Proves a crate's tests over what is kept, and runs them. Returns whether all pass, and what was said."""
+    return said_by(crate, lambda it: it.run(["--jobs", str(jobs)], [], tests=True))
+
+
+def is_formatted(crate):
+    """Returns whether a crate's files have rt fmt's layout, and what was said."""
+    return said_by(crate, lambda it: rt.rtlib.fmt(it.folder, "--check", it.out, diff=it.out))
+
+
+def has_stale(said):
+    """Returns whether a check could not use the kept work of a library."""
+    return bool(rt.rtlib.STALE.search(said))

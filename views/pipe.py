@@ -1,0 +1,167 @@
+"""Finds the program and drives it: as a process for a whole output, as a trace step by step, or as a session of commands. All views use this module.
+
+Nothing here knows the machine or the language: places, names and instructions are texts as the program writes them."""
+import os
+import re
+import shutil
+import subprocess
+import sys
+from typing import NamedTuple
+
+ROOT = os.path.dirname(os.path.dirname(os.path.realpath(__file__)))
+# A cycle is 12 pulses of 1.024 MHz.
+CYCLES_PER_SECOND = 1_024_000 / 12
+
+
+class Refused(Exception):
+    """Why the program did nothing, in its own words, and its exit status."""
+
+    def __init__(self, status, said):
+        super().__init__(said.strip())
+        self.status = status
+
+
+def program():
+    """Returns the path of the program: what AGCWS names, else the one that is built here, else agcws on the PATH."""
+    named = os.environ.get("AGCWS")
+    for path in [named] if named else [f"{ROOT}/crates/agcws/out/agcws", "agcws"]:
+        if shutil.which(path):
+            return path
+    raise Refused(3, f"{named or 'the program'} is not there: ./agcws --help builds the program first")
+
+
+def answer(*words, given=""):
+    """Runs the program to its end over a standard input. Returns what it writes to standard output and to standard error, or raises Refused."""
+    ran = subprocess.run([program(), *words], input=given, capture_output=True, text=True, errors="replace", check=False)
+    if ran.returncode:
+        raise Refused(ran.returncode, ran.stderr)
+    return ran.stdout, ran.stderr
+
+
+class Output(NamedTuple):
+    """A word that the program has put out on a channel: cycles in decimal, channel and word in octal."""
+
+    cycles: int
+    channel: int
+    word: int
+
+
+def output_of(line):
+    """Returns what a channel line tells, as `7 CH 010 00012`, or None for any other line."""
+    found = re.fullmatch(r"(\d+) CH ([0-7]{3}) ([0-7]{5})", line.strip())
+    return found and Output(int(found[1]), int(found[2], 8), int(found[3], 8))
+
+
+class Step(NamedTuple):
+    """A line of `agcws trace`: numbers in decimal, the rest as it is written. What was written is pairs of a place's name and the word there."""
+
+    number: int
+    cycles: int
+    place: str
+    word: str
+    text: str
+    written: list
+    output: Output
+
+
+def step_of(line):
+    """Returns the step that a line of a trace tells."""
+    fields = re.split("  +", line.rstrip("\n")) + [""]
+    number, cycles, place, word, text, written, output = fields[:7]
+    pairs = [] if written == "-" else [tuple(it.rsplit("=", 1)) for it in written.split(" ")]
+    return Step(int(number), int(cycles), place, word, text, pairs, output_of(output))
+
+
+def steps(*words):
+    """The steps of a trace, each as it comes. Raises Refused at the end where the program refuses."""
+    with subprocess.Popen([program(), "trace", *words], stdin=subprocess.DEVNULL, stdout=subprocess.PIPE, stderr=subprocess.PIPE, text=True) as ran:
+        for line in ran.stdout:
+            yield step_of(line)
+        said = ran.stderr.read()
+    if ran.returncode:
+        raise Refused(ran.returncode, said)
+
+
+class Row(NamedTuple):
+    """A row of a listing: its line's number, and place, word and text as they are written, or empty."""
+
+    line: int
+    place: str
+    word: str
+    text: str
+
+
+def listing_of(source):
+    """Returns the rows of a source's listing, and its symbols: each name with its kind and value as they are written."""
+    rows, symbols = re.split(r"^SYMBOLS \d+\n", answer("asm", source, "/dev/null")[0], flags=re.M)
+    parts = [Row(int(it[:5]), it[6:13].strip(), it[14:19].strip(), it[21:]) for it in rows.splitlines()]
+    return parts, {name: (kind, value) for name, kind, value in map(str.split, symbols.splitlines())}
+
+
+class Session:
+    """A session of `agcws debug`, whose input is closed at the end of a `with`."""
+
+    # After each command come two with replies that stand in this order nowhere else: a line that is no command, and a name that no label can have.
+    END, ENDED = "!\nsym 0\n", ["E50 COMMAND", "E17 UNDEFINED"]
+
+    def __init__(self, *words):
+        pipes = {"stdin": subprocess.PIPE, "stdout": subprocess.PIPE, "stderr": subprocess.PIPE}
+        self.process = subprocess.Popen([program(), "debug", *words], text=True, **pipes)
+
+    def ask(self, command):
+        """Returns the lines of the reply to a command, which is one line. Raises Refused where the session has ended, as after `quit`."""
+        lines = []
+        try:
+            self.process.stdin.write(f"{command}\n{self.END}")
+            self.process.stdin.flush()
+        except BrokenPipeError:
+            pass  # (standard error tells why)
+        while lines[-2:] != self.ENDED:
+            line = self.process.stdout.readline()
+            if not line:
+                raise Refused(self.process.wait(), self.process.stderr.read() or "the session has ended")
+            lines.append(line.rstrip("\n"))
+        return lines[:-2]
+
+    def __enter__(self):
+        return self
+
+    def __exit__(self, *_):
+        try:
+            self.process.stdin.close()
+        except BrokenPipeError:
+            pass
+        self.process.stdout.close()
+        self.process.stderr.close()
+        self.process.wait()
+
+
+def take_program(parser):
+    """Has a view take a source or an image, as the program does."""
+    parser.add_argument("source", metavar="SRC", help="the source, a file")
+    parser.add_argument("--image", action="store_true", help="SRC is a rope image")
+    parser.add_argument("--rope", choices=["1", "2"], default="2", metavar="VERSION", help="the image's version, 1 or 2 [default: 2]")
+
+
+def program_words(asked):
+    """The options and the source that a view was called with, as words for the program."""
+    return [*(["--image", "--rope", asked.rope] if asked.image else []), asked.source]
+
+
+def main(view):
+    """Runs a view and ends it with its status: the program's where that refuses, 3 where a file fails, and quietly where nobody reads on."""
+    try:
+        status = view()
+        sys.stdout.flush()
+    except Refused as refused:
+        print(refused, file=sys.stderr)
+        status = refused.status
+    except OSError as failed:
+        # (what was not written is not tried again)
+        os.dup2(os.open(os.devnull, os.O_WRONLY), sys.stdout.fileno())
+        if not isinstance(failed, BrokenPipeError):
+            print(f"{os.path.basename(sys.argv[0])}: {failed.filename or 'the output'}: {failed.strerror}", file=sys.stderr)
+        status = 3
+    except KeyboardInterrupt:
+        status = 130
+    sys.exit(status)
