@@ -1,5 +1,6 @@
 #!/usr/bin/env python3
 """Tests of the views on the built program, and of what README.md shows of them. The last line is 'N passed, M failed'."""
+import importlib.util
 import json
 import os
 import re
@@ -20,6 +21,7 @@ import check as examples
 import pipe
 from files import write
 from tally import end, is_built, told
+from terminal import CTRL_C, Terminal
 
 EMPTY = f"{EXAMPLES}/empty.feed"
 LOST = [f"{EXAMPLES}/lost_sum.agc", f"{EXAMPLES}/lost_sum.feed"]
@@ -61,7 +63,9 @@ def check_session(room):
             ("step 1", ["AT 1 2 4001"]),
             ("", []),
             ("# a comment", []),
-            ("!", ["E50 COMMAND"]),
+            ("!", ["E50 COMMAND no command !"]),
+            ("echo end", ["end"]),
+            ("echo of reply", ["of reply"]),
             ("sym 0", ["E17 UNDEFINED"]),
             ("sym NONE", ["E17 UNDEFINED"]),
             ("goto 2", ["E41 NOT YET"]),
@@ -101,7 +105,7 @@ def check_readings(room):
 
 def check_calls(room):
     """What all views do alike: help, files that are not there, a program that is not there, an output that nobody reads."""
-    for view in ["shake", "wave", "dsky", "report"]:
+    for view in ["talk", "dap", "shake", "wave", "dsky", "report"]:
         status, out, err = call(view, "--help")
         told(f"{view} --help", (status, err) == (0, "") and out.startswith(f"usage: {view} "), f"{out} {err}")
     same("a feed that is not there", call("shake", LOST[0], "4", "RUPT 1", "--feed", f"{room}/none"), (3, "", f"shake: {room}/none: No such file or directory\n"))
@@ -115,6 +119,272 @@ def check_calls(room):
     with open("/dev/full", "wb") as full:
         ran = subprocess.run([f"{VIEWS}/report", *LOST, "4"], stdout=full, stderr=subprocess.PIPE, timeout=60, check=False)
         same("an output that cannot be written", (ran.returncode, ran.stderr), (3, b"report: the output: No space left on device\n"))
+
+
+def talk(commands, *words, **more):
+    """What `talk` shows after each command, a list of lines for each; the first is what it shows before."""
+    status, out, err = call("talk", *words, given="".join(f"{it}\n" for it in commands), **more)
+    same(f"the end of talk about {commands[:2]}", (status, err), (0, ""))
+    parts = re.split(r"^\(\d+\) .*\n", out, flags=re.M)
+    return [it.splitlines() for it in parts]
+
+
+def check_talk(room):
+    """What talk makes of commands, beside what the manual shows of the same run in section 7."""
+    shown = talk(["goto 0", "r 60", "", "la SUM", "g 42", "mem SUM", "b :16", "seek", "p A L", "clear", "foo", "mem SUMM", "b", "run 5x", "goto 999", "add 5 RUPT 1", "p (", "p FOO", "b :99"], *LOST)
+    told("where a session begins", shown[0][-1] == ">    13 02,4000 14100          TCF     START", f"{shown[0]}")
+    for at, wanted in [
+        (2, ["87 CH 012 00075", "step 60, cycle 100: TCF DONE", ">    35 02,4116 14116  DONE    TCF     DONE"]),
+        (3, ["step 120, cycle 160: TCF DONE", ">    35 02,4116 14116  DONE    TCF     DONE"]),
+        (4, ["LAST 43"]),
+        (5, ["step 42, cycle 78: AD TABLE +0  A=000075", ">    29 02,4110 54101          TS      SUM"]),
+        (6, ["MEM 00063 = 51 = +0.00311 = 000 000 000 110 011"]),
+        (8, ["breakpoint 1: at 02,0014", "step 18, cycle 33: T3RUPT  0017=54101 0015=04111", ">    16 02,4014 34117          CAF     ONE"]),
+        (9, ["A 177765 = -10 = -0.00061 = 1 111 111 111 110 101", "L 00000 = 0 = +0.00000 = 000 000 000 000 000"]),
+        (10, ["CLEAR"]),
+        (11, ["no command foo"]),
+        (12, ["no symbol SUMM; did you mean SUM?"]),
+        (15, ["the run has not come so far: step and run make new steps"]),
+        (16, ["its cycle has passed: an input comes after the last step that was made"]),
+        (18, ["no place FOO"]),
+        (19, ["no word stands on line 99 or below"]),
+    ]:
+        same(f"what talk shows, {at}", shown[at], wanted)
+    shown = talk(["s 15", "s", "s", "s", "watch A", "c", "back", "watch", "unwatch", "s 2", "display SUM", "s", "undisplay", "list ONE", "p 17 + 1 17D [101] CH012"], *LOST)
+    same("an input", shown[1][1], "next: - INPUT TIME3 PINC ASKS T3RUPT")
+    same("an entry", shown[3][1], "next: 02,4014 ENTRY T3RUPT")
+    same("a watched register", shown[6][:2], ["changed: A 177765 -> 000001", "step 19, cycle 35: CA ONE  A=000001"])
+    same("what is watched, after a step back", shown[8], ["A 177765 = -10 = -0.00061 = 1 111 111 111 110 101"])
+    same("nothing is watched", shown[10][0], "step 20, cycle 37: ADS TICKS  TICKS=00001 A=000001")
+    same("what is displayed", shown[12][-1], "SUM 77715 = -50 = -0.00305 = 111 111 111 001 101")
+    told("a list", "     37 02,4117 00001  ONE     OCT     1" in shown[14] and len(shown[14]) == 11, f"{shown[14]}")
+    values = ["17 + 1 20 = 16", "17D 21 = 17", "[101] 77715 = -50 = -0.00305 = 111 111 111 001 101", "CH012 00000 = 0 = +0.00000 = 000 000 000 000 000"]
+    same("values", shown[15], values)
+    same("a refused source", call("talk", write(f"{room}/wrong.agc", b" FROB 1\n"), EMPTY)[::2][1].splitlines()[0], "agcws: E15 LINE 1")
+    check_saved(room)
+    check_reload(room)
+    check_ctrl_c(room)
+
+
+def check_saved(room):
+    """What is saved makes the same session and the same run again."""
+    kept = f"{room}/my.session"
+    shown = talk(["run 70", "add 200 TIME3 PINC", "add 150 CHAN 33 7", "run 90", "back 3", f"save {kept}", "regs"], *LOST)
+    debug, run = shown[6]
+    told("how to make it again", debug.startswith("agcws debug ") and run == f"agcws run {LOST[0]} {kept}.feed 160", f"{shown[6]}")
+    same("the saved commands", text_at(kept), "run 70\nadd 200 TIME3 PINC\nadd 150 CHAN 33 7\nrun 90\nback 3\n")
+    same("the saved feed", text_at(f"{kept}.feed").splitlines()[-3:], ["27 TIME3 PINC", "150 CHAN 33 7", "200 TIME3 PINC"])
+    with pipe.Session(*LOST) as session:
+        replies = [line for command in text_at(kept).splitlines() for line in session.ask(command)]
+        same("the saved session", (replies[-1].split()[1], session.ask("regs")), ("157", shown[7]))
+        lines = pipe.answer(*run.split()[1:])[0].splitlines()
+        same("the saved run", lines, [it for it in replies if pipe.output_of(it)])
+
+
+def check_reload(room):
+    """After an edit the same moves are made over the new source; one that is refused changes nothing."""
+    source = write(f"{room}/edited.agc", b" SETLOC 4000\n CAF X\n EXTEND\n WRITE 10\nX OCT 5\n")
+    with subprocess.Popen([f"{VIEWS}/talk", source, EMPTY], stdin=subprocess.PIPE, stdout=subprocess.PIPE, stderr=subprocess.STDOUT, text=True) as ran:
+        def until(text, command):
+            ran.stdin.write(f"{command}\n")
+            ran.stdin.flush()
+            lines = []
+            while not lines or text not in lines[-1]:
+                lines.append(ran.stdout.readline())
+                if not lines[-1]:
+                    break
+            return lines
+
+        until("4 02,4002", "step 2")
+        write(source, b" SETLOC 4000\n CAF X\n EXTEND\n FROB 10\nX OCT 5\n")
+        told("a refused source at reload", "agcws: E15 LINE 4\n" in until("stays", "reload"))
+        write(source, b"\n SETLOC 4000\n CAF X\n EXTEND\n WRITE 11\nX OCT 6\n")
+        told("a reload", until(">", "reload")[-1].startswith(">     5 02,4002 01011"))
+        told("the new source runs", "5 CH 011 00006\n" in until(">", "step"))
+        ran.stdin.close()
+
+
+def check_ctrl_c(room):
+    """At a terminal: Ctrl-C ends a move and keeps the session, and drops a line; names are completed; colour, and none where that is asked for."""
+    loop = write(f"{room}/loop.agc", b" SETLOC 4000\n CAF FIVE\n EXTEND\n WRITE 10\nLOOP TCF LOOP\nFIVE OCT 5\n")
+    at = Terminal(f"{VIEWS}/talk", loop, EMPTY)
+    shown = at.type(b"c\n", b"CH 010")
+    told("a channel line of a long move", b"5 CH 010 00005" in shown and b"\x1b[1m>" in shown, f"{shown!r}")
+    shown = at.type(CTRL_C, b"TCF     LOOP")
+    told("Ctrl-C ends a move", b"stopped" in shown and re.search(rb"step \d+, cycle \d+: TCF LOOP", shown), f"{shown!r}")
+    shown = at.type(b"goto 4\n", b"TCF     LOOP")
+    told("the session is kept", b"step 4, cycle 6: TCF LOOP" in shown, f"{shown!r}")
+    at.type(b"qui")
+    told("Ctrl-C drops a line", b"(4) " in at.type(CTRL_C, b"(4) "))
+    if importlib.util.find_spec("readline"):
+        told("completion", b"mem FIVE" in at.type(b"mem FI\t", b"FIVE") and b"MEM 00005" in at.type(b"\n", b"MEM 00005"))
+    else:
+        print("completion: skipped, since Python has no readline")
+    at.type(b"quit\n")
+    same("the end at a terminal", at.end(), 0)
+    at = Terminal("/usr/bin/env", "NO_COLOR=1", f"{VIEWS}/talk", loop, EMPTY)
+    shown = at.type(b"step\n", b"EXTEND")
+    told("no colour", b"EXTEND" in shown and b"\x1b[1m" not in shown, f"{shown!r}")
+    at.type(b"\x04")
+    same("Ctrl-D ends talk", at.end(), 0)
+    rope = f"{room}/talked.rope"
+    pipe.answer("asm", loop, rope)
+    shown = talk(["step 3", "list"], "--image", rope, EMPTY)
+    same("an image", (shown[1][-1], len(shown[2])), (">       02,4003 14003  TCF 4003", 11))
+
+
+class Client:
+    """An editor that speaks the Debug Adapter Protocol."""
+
+    def __init__(self):
+        self.ran = subprocess.Popen([f"{VIEWS}/dap"], stdin=subprocess.PIPE, stdout=subprocess.PIPE)
+        self.number, self.events = 0, []
+
+    def message(self):
+        head = self.ran.stdout.readline(), self.ran.stdout.readline()
+        return json.loads(self.ran.stdout.read(int(head[0].split(b":")[1]))) if head[1] == b"\r\n" else None
+
+    def ask(self, command, **arguments):
+        """The body of the response to a request, or the words of its refusal."""
+        self.number += 1
+        text = json.dumps({"seq": self.number, "type": "request", "command": command, "arguments": arguments}).encode()
+        self.ran.stdin.write(b"Content-Length: %d\r\n\r\n%s" % (len(text), text))
+        self.ran.stdin.flush()
+        while message := self.message():
+            if message["type"] == "response":
+                is_right = (message["request_seq"], message["command"]) == (self.number, command)
+                return (message["body"] if message["success"] else message["message"]) if is_right else message
+            self.events.append(message)
+        return None
+
+    def until(self, name):
+        """The body of the next event of a name. Others are kept."""
+        while True:
+            for i, it in enumerate(self.events):
+                if it["event"] == name:
+                    return self.events.pop(i)["body"]
+            self.events.append(self.message())
+
+    def go(self, command, **arguments):
+        """A move: why it has ended, and the line and the name of what comes next."""
+        self.ask(command, threadId=1, **arguments)
+        return self.stop()
+
+    def stop(self):
+        reason = self.until("stopped")["reason"]
+        [frame] = self.ask("stackTrace", threadId=1)["stackFrames"]
+        return reason, frame["line"], frame["name"]
+
+    def launch(self, lines=(), **arguments):
+        """Launches a program with breakpoints on lines of it."""
+        told("what an adapter can do", self.ask("initialize", adapterID="agcws")["supportsStepBack"])
+        answer = self.ask("launch", **arguments)
+        if isinstance(answer, str):
+            return answer
+        self.until("initialized")
+        verified = self.ask("setBreakpoints", source={"path": arguments["program"]}, breakpoints=[{"line": it} for it in lines])["breakpoints"]
+        self.ask("configurationDone")
+        return [it.get("line") for it in verified]
+
+    def words(self, reference):
+        """Variables and the words that they are."""
+        return {it["name"]: it["value"].split(" ")[0] for it in self.ask("variables", variablesReference=reference)["variables"]}
+
+    def evaluate(self, text, context="repl"):
+        answer = self.ask("evaluate", expression=text, context=context)
+        return answer if isinstance(answer, str) else answer["result"]
+
+    def end(self):
+        answer = self.ask("disconnect")
+        self.ran.stdin.close()
+        rest = self.ran.stdout.read()
+        same("the end of an adapter", (answer, self.ran.wait(), rest), ({}, 0, b""))
+        self.ran.stdout.close()
+
+
+def check_dap(room):
+    """The search of section 7 of the manual by an editor: the interrupt's first word takes A for itself."""
+    client = Client()
+    same("breakpoints on lines", client.launch([16, 20, 99], program=LOST[0], feed=LOST[1]), [16, 21, None])
+    same("the entry", client.stop(), ("entry", 13, "02,4000"))
+    same("a breakpoint in front", client.go("continue"), ("breakpoint", 21, "START"))
+    client.ask("setBreakpoints", source={"path": LOST[0]}, breakpoints=[{"line": 34}, {"line": 35}])
+    same("on to the next", client.go("continue")[:2], ("breakpoint", 34))
+    same("on to the end", client.go("continue"), ("breakpoint", 35, "DONE"))
+    same("what is put out", client.until("output"), {"category": "stdout", "output": "87 CH 012 00075\n"})
+    same("symbols", client.words(2), {"COUNT": "00000", "SUM": "00075", "TICKS": "00001"})
+    same("channels", client.words(3)["CH012"], "00075")
+    data = client.ask("dataBreakpointInfo", name="SUM")["dataId"]
+    same("a watched place", client.ask("setDataBreakpoints", breakpoints=[{"dataId": data}]), {"breakpoints": [{"verified": True}]})
+    client.ask("setBreakpoints", source={"path": LOST[0]}, breakpoints=[])
+    sums = []
+    while len(sums) < 9 and client.go("reverseContinue")[0] == "data breakpoint":
+        sums.append(client.words(2)["SUM"])
+    same("the sum's words, backwards", sums, ["00075", "00063", "00037", "00001", "77715"])
+    same("a command of the console", client.evaluate("goto 22"), "AT 22 41 4111")
+    same("where the sum goes wrong", client.stop(), ("goto", 30, "LOOP +5"))
+    same("a step back", client.go("stepBack")[0], "step")
+    same("A is wrong already", (client.words(1)["A"], client.words(2)["SUM"]), ("000001", "77715"))
+    client.ask("setBreakpoints", source={"path": LOST[0]}, breakpoints=[{"line": 16}])
+    same("the interrupt", client.go("reverseContinue"), ("breakpoint", 16, "02,4014"))
+    same("A was right", client.words(1)["A"], "177765")
+    same("a step on", client.go("next"), ("step", 17, "02,4015"))
+    same("the register is clobbered", client.words(1)["A"], "000001")
+    client.evaluate("goto 17")
+    same("an entry that comes next", client.stop(), ("goto", 16, "02,4014, after ENTRY T3RUPT"))
+    check_console(client)
+    client.end()
+    check_moves(room)
+    check_launches(room)
+
+
+def check_console(client):
+    """The console hands commands to the program, and knows sums."""
+    for text, context, wanted in [
+        ("mem SUMM", "repl", "E50 COMMAND no symbol SUMM"),
+        ("breaks", "repl", "BREAK 1 at 02,0014\nCOUNT 1"),
+        ("p ONE", "repl", "00001 = 1 = +0.00006 = 000 000 000 000 001"),
+        ("ONE +7", "watch", "10 = 8"),
+        ("NONE", "hover", "no place NONE"),
+    ]:
+        same(f"{text} in the console", client.evaluate(text, context), wanted)
+    same("a request that is not there", client.ask("stepOut"), "stepOut is not there")
+
+
+def check_moves(room):
+    """A move without an end is paused; the words of an image, with breakpoints on them."""
+    loop = write(f"{room}/loop.agc", b" SETLOC 4000\n CAF FIVE\n EXTEND\n WRITE 10\nLOOP TCF LOOP\nFIVE OCT 5\n")
+    client = Client()
+    client.launch(program=loop, stopOnEntry=False)
+    same("an output while it runs", client.until("output")["output"], "5 CH 010 00005\n")
+    same("a request while it runs", client.ask("threads"), {"threads": [{"id": 1, "name": "the machine"}]})
+    same("a pause", client.go("pause"), ("pause", 5, "LOOP"))
+    same("back from there", client.go("reverseContinue"), ("entry", 2, "02,4000"))
+    shown = client.ask("disassemble", memoryReference=client.ask("stackTrace")["stackFrames"][0]["instructionPointerReference"], instructionCount=4)["instructions"]
+    same("words of a source", [(it["instruction"], it["line"]) for it in shown], [("02,4000 CA 4004", 2), ("02,4001 EXTEND", 3), ("02,4002 WRITE 010", 4), ("02,4003 TCF 4003", 5)])
+    client.end()
+    rope = f"{room}/adapted.rope"
+    pipe.answer("asm", loop, rope)
+    client = Client()
+    client.launch(program=rope, image=True)
+    same("an image", client.stop(), ("entry", 0, "02,4000"))
+    at = client.ask("stackTrace")["stackFrames"][0]["instructionPointerReference"]
+    same("a breakpoint on a word", client.ask("setInstructionBreakpoints", breakpoints=[{"instructionReference": at, "offset": 3}]), {"breakpoints": [{"verified": True}]})
+    same("up to it", client.go("continue"), ("breakpoint", 0, "02,4003"))
+    shown = client.ask("disassemble", memoryReference="0", instructionOffset=-1, instructionCount=2)["instructions"]
+    same("words of an image", [it.get("presentationHint", it["instruction"][:7]) for it in shown], ["invalid", "00,2000"])
+    client.end()
+
+
+def check_launches(room):
+    """What is refused, and what is no message."""
+    client = Client()
+    answer = client.launch(program=write(f"{room}/wrong.agc", b" FROB 1\n"))
+    same("a refused source", str(answer).splitlines()[:1], ["agcws: E15 LINE 1"])
+    same("a request without a program", client.ask("threads"), "threads is not there")
+    client.end()
+    ran = subprocess.run([f"{VIEWS}/dap"], input=b"Content-Length: 3\r\n\r\n???", capture_output=True, timeout=60, check=False)
+    same("no message", (ran.returncode, ran.stdout, ran.stderr), (0, b"", b""))
 
 
 def check_shake(room):
@@ -331,7 +601,7 @@ def check_report(room):
         same(f"the account of line {line}", page.row(line, 3)[:2], wanted.split(" "))
     same("what the other steps were", [it[:3] for it in page.rows if len(it) == 4][1:], [
         ["words at their places", "19", "35"],
-        ["entries of T3RUPT", "1", "3"],
+        ["entries of interrupts", "1", "3"],
         ["inputs", "1", "1"],
         ["words that RESUME brought back", "1", "2"],
         ["all", "22", "41"],
@@ -364,12 +634,31 @@ def check_pages(room):
     source = write(f"{room}/<signs>.agc", b" SETLOC 4000\n<B>&X TCF 5000 # <script>\n")
     page = Page(call("report", source, EMPTY, "3")[1])
     same("a source with signs that a page has", (page.row("2", 3)[6], page.texts["h1"]), ("<B>&X TCF 5000 # <script>", ["<signs>.agc over empty.feed"]))
-    same("what is executed without a word", [it[:5] for it in page.rows if len(it) == 7][-2:], [["1", "1", "", "", "02,5000"], ["1", "1", "", "", "E0,0000"]])
+    same("what is executed without a word", [it[:5] for it in page.rows if len(it) == 7][-2:], [["1", "1", "", "", "E0,0000"], ["1", "1", "", "", "02,5000"]])
     page = Page(call("report", f"{EXAMPLES}/five_plus_five.agc", EMPTY, "10000")[1])
     same("the end of many lines", page.texts["pre"][-1].split("\n")[-2:], ["7999 CH 010 00012", ".. and 1000 more"])
     told("as many marks as there is room for", len(page.texts["title"]) < 1000, f"{len(page.texts['title'])}")
     wrong = write(f"{room}/wrong.agc", b" FROB 1\n")
     same("a page of a wrong source", call("report", wrong, EMPTY, "3"), (1, "", "agcws: E15 LINE 1\n"))
+
+
+def check_notes(room):
+    """What a program with further answers tells stands on the page, and in talk where a source is refused."""
+    other = write(f"{room}/other", f"""#!/bin/sh
+case "$1 $2" in
+    "--help ") echo "  check    Tells all faults" ;;
+    "run --help") echo "      --notes  Tells what no one meant" ;;
+    "run --notes") echo "NOTE <1>" >&2 ;;
+    "check "*) echo "$2:1:2: error E15: FROB is no operator"; exit 1 ;;
+    *) exec "{examples.PROGRAM}" "$@" ;;
+esac
+""".encode())
+    os.chmod(other, 0o755)
+    env = {**os.environ, "AGCWS": other}
+    page = Page(call("report", *LOST, "22", env=env)[1])
+    same("notes on a page", "".join(page.texts["pre"]), f"{LOST[0]}:1:2: error E15: FROB is no operator\nNOTE <1>")
+    wrong = write(f"{room}/wrong.agc", b" FROB 1\n")
+    same("a refused source in words", call("talk", wrong, EMPTY, env=env), (1, "", f"agcws: E15 LINE 1\n{wrong}:1:2: error E15: FROB is no operator\n"))
 
 
 # The groups of operators, as the grammar and the editors' files name them.
@@ -476,7 +765,10 @@ def check_package():
     """The package's files are there, and its matcher reads the lines that tell faults."""
     folder = f"{EDITORS}/vscode"
     package = json.loads(text_at(f"{folder}/package.json"))["contributes"]
-    [language], [grammar], [matcher] = package["languages"], package["grammars"], package["problemMatchers"]
+    [language], [grammar], [matcher], [debugger] = (package[it] for it in ("languages", "grammars", "problemMatchers", "debuggers"))
+    same("the package's debugger", (debugger["languages"], os.path.realpath(f"{folder}/{debugger['program']}")), ([language["id"]], f"{VIEWS}/dap"))
+    properties = debugger["configurationAttributes"]["launch"]["properties"]
+    told("what its launch takes", all(re.search(rf"^  {it}  ", text_at(f"{VIEWS}/dap"), re.M) or f'"{it}"' in text_at(f"{VIEWS}/dap") for it in properties))
     same("the package's scope", (grammar["language"], grammar["scopeName"]), (language["id"], Grammar(f"{folder}/{grammar['path']}").grammar["scopeName"]))
     same("the package's comments", json.loads(text_at(f"{folder}/{language['configuration']}"))["comments"], {"lineComment": "#"})
     pattern = matcher["pattern"]
@@ -511,10 +803,13 @@ def main():
         check_session(room)
         check_readings(room)
         check_calls(room)
+        check_talk(room)
+        check_dap(room)
         check_shake(room)
         check_wave(room)
         check_dsky()
         check_report(room)
+        check_notes(room)
         check_operators(room)
         check_grammar()
         check_package()

@@ -74,7 +74,8 @@ def step_of(line):
 
 def steps(*words):
     """The steps of a trace, each as it comes. Raises Refused at the end where the program refuses."""
-    with subprocess.Popen([program(), "trace", *words], stdin=subprocess.DEVNULL, stdout=subprocess.PIPE, stderr=subprocess.PIPE, text=True) as ran:
+    pipes = {"stdin": subprocess.DEVNULL, "stdout": subprocess.PIPE, "stderr": subprocess.PIPE}
+    with subprocess.Popen([program(), "trace", *words], text=True, start_new_session=True, **pipes) as ran:
         for line in ran.stdout:
             yield step_of(line)
         said = ran.stderr.read()
@@ -91,22 +92,70 @@ class Row(NamedTuple):
     text: str
 
 
+def row_of(line):
+    """Returns the row that a line of a listing is."""
+    return Row(int(line[:5]), line[6:13].strip(), line[14:19].strip(), line[21:])
+
+
 def listing_of(source):
     """Returns the rows of a source's listing, and its symbols: each name with its kind and value as they are written."""
     rows, symbols = re.split(r"^SYMBOLS \d+\n", answer("asm", source, "/dev/null")[0], flags=re.M)
-    parts = [Row(int(it[:5]), it[6:13].strip(), it[14:19].strip(), it[21:]) for it in rows.splitlines()]
+    parts = [row_of(it) for it in rows.splitlines()]
     return parts, {name: (kind, value) for name, kind, value in map(str.split, symbols.splitlines())}
 
 
-class Session:
-    """A session of `agcws debug`, whose input is closed at the end of a `with`."""
+class Account(NamedTuple):
+    """How often something was done, and the cycles that it took."""
 
-    # After each command come two with replies that stand in this order nowhere else: a line that is no command, and a name that no label can have.
-    END, ENDED = "!\nsym 0\n", ["E50 COMMAND", "E17 UNDEFINED"]
+    times: int
+    cycles: int
+
+
+def cover_of(source, feed, steps):
+    """Returns what `agcws cover` counts of a run of a source: the rows of the listing, each with its account or None, and the accounts of the other lines by name."""
+    rows, others = [], {}
+    for line in answer("cover", source, feed, steps)[0].splitlines():
+        figures, text = line[:21].split(), line[22:]
+        account = Account(*map(int, figures)) if figures and "-" not in figures else None
+        if text[:5].strip().isdigit():
+            rows.append((row_of(text), account))
+        else:
+            others[text] = account
+    return rows, others
+
+
+def knows(*words):
+    """Whether the program has a subcommand, or a subcommand an option."""
+    try:
+        return bool(re.search(rf"^ +{re.escape(words[-1])}\b", answer(*words[:-1], "--help")[0], re.M))
+    except Refused:
+        return False
+
+
+def faults_of(source):
+    """What the program tells of a refused source, line by line; nothing where it has no subcommand for that."""
+    if not knows("check"):
+        return []
+    ran = subprocess.run([program(), "check", source], stdin=subprocess.DEVNULL, capture_output=True, text=True, errors="replace", check=False)
+    return (ran.stdout or ran.stderr).splitlines()
+
+
+def words_of(image, *options):
+    """Returns the words of a rope image, as the rows of a listing that has no lines."""
+    lines = answer("words", *options, image)[0].splitlines()
+    return [Row(0, *it.split(" ", 2)) for it in lines]
+
+
+class Session:
+    """A session of `agcws debug --extended`, whose input is closed at the end of a `with`."""
+
+    # After each command come two, whose replies stand in this order nowhere else: one command draws at most one line of any text.
+    END, ENDED = "echo end\necho of reply\n", ["end", "of reply"]
 
     def __init__(self, *words):
         pipes = {"stdin": subprocess.PIPE, "stdout": subprocess.PIPE, "stderr": subprocess.PIPE}
-        self.process = subprocess.Popen([program(), "debug", *words], text=True, **pipes)
+        # (what is typed at a terminal to stop the view does not end the session)
+        self.process = subprocess.Popen([program(), "debug", "--extended", *words], text=True, errors="replace", start_new_session=True, **pipes)
 
     def ask(self, command):
         """Returns the lines of the reply to a command, which is one line. Raises Refused where the session has ended, as after `quit`."""
@@ -123,10 +172,8 @@ class Session:
             lines.append(line.rstrip("\n"))
         return lines[:-2]
 
-    def __enter__(self):
-        return self
-
-    def __exit__(self, *_):
+    def end(self):
+        """Ends the session."""
         try:
             self.process.stdin.close()
         except BrokenPipeError:
@@ -134,6 +181,22 @@ class Session:
         self.process.stdout.close()
         self.process.stderr.close()
         self.process.wait()
+
+    def __enter__(self):
+        return self
+
+    def __exit__(self, *_):
+        self.end()
+
+
+def with_input(feed, cycle, text):
+    """A feed with one line more, after those of its cycle. Where a series stands below, whose inputs may have any cycle, it is a series of one at the end."""
+    lines = feed.splitlines()
+    firsts = [(line.split() or [""])[0] for line in lines]
+    at = next((i for i, it in enumerate(firsts) if it.isdigit() and int(it) > cycle), len(lines))
+    if "EVERY" in firsts[at:]:
+        return "\n".join([*lines, f"EVERY {cycle} 1 1 1 {text}", ""])
+    return "\n".join([*lines[:at], f"{cycle} {text}", *lines[at:], ""])
 
 
 def take_program(parser):

@@ -1,0 +1,290 @@
+"""A session as people use it: where it stands in the listing, long moves in parts, places that are watched, values. `talk` and `dap` use this module."""
+import itertools
+import os
+import re
+import tempfile
+import time
+from typing import NamedTuple
+
+import pipe
+
+# The most steps of a run, and of the position up to which the rows of the listing are told: a run to there takes a second or so.
+MOST_STEPS, MOST_TOLD = 1_099_511_627_774, 100_000_000
+# A part of a long move takes about so many seconds.
+PART_SECONDS = 0.1
+
+
+class Coming(NamedTuple):
+    """What stands at the position: the step that led there, or None; the next step; and the row that is executed next, or None."""
+
+    last: pipe.Step
+    next: pipe.Step
+    row: pipe.Row
+
+
+class Desk:
+    """A session over a source or an image, with its listing. Its feed has the inputs that were added."""
+
+    def __init__(self, words, feed):
+        self.words, self.feed = list(words), feed
+        self.session = pipe.Session(*self.words, feed)
+        try:
+            self.commands = [line.split()[1] for line in self.session.ask("help")]
+            is_image = "--image" in words
+            self.rows, self.symbols = (pipe.words_of(words[-1], *words[1:-1]), {}) if is_image else pipe.listing_of(words[-1])
+        except pipe.Refused:
+            self.session.end()
+            raise
+        self.at = {row.place: row for row in self.rows if row.word}
+        self.position, self.cycles, self.made = 0, 0, 0
+        self.kept, self.outputs, self.watched, self.part = [], set(), {}, 1 << 12
+        self.feed_text, self.added = None, None
+
+    def end(self):
+        self.session.end()
+        if self.added:
+            os.remove(self.added.name)
+
+    def ask(self, command):
+        """Returns the lines of the reply to a command. What it has changed is kept in mind."""
+        lines = self.session.ask(command)
+        changes = False
+        for line in lines:
+            first, *rest = line.split() or [""]
+            changes |= first in ("AT", "BREAK", "CLEAR", "ADDED")
+            if first == "AT":
+                self.position, self.cycles = int(rest[0]), int(rest[1])
+                self.made = max(self.made, self.position)
+            elif output := pipe.output_of(line):
+                self.outputs.add(output.channel)
+        if lines[:1] == ["ADDED"]:
+            self.keep_input(command)
+        if changes and command != "breaks":
+            self.kept.append(command)
+        return lines
+
+    def keep_input(self, command):
+        """Writes the feed anew, with an input that was added."""
+        _, cycle, text = command.split("#")[0].split(None, 2)
+        self.feed_text = pipe.with_input(self.whole_feed(), int(cycle), text.strip())
+        if not self.added:
+            self.added = tempfile.NamedTemporaryFile("w", prefix="agcws-", suffix=".feed", delete=False, encoding="utf-8")
+        self.added.seek(0)
+        self.added.truncate()
+        self.added.write(self.feed_text)
+        self.added.flush()
+
+    def whole_feed(self):
+        """The feed with the inputs that were added: a run over it is the session's."""
+        if self.feed_text is None:
+            with open(self.feed, encoding="utf-8", errors="replace") as file:
+                self.feed_text = file.read()
+        return self.feed_text
+
+    def steps(self, last, *options):
+        """The steps of the session's run, as `agcws trace` tells them."""
+        return pipe.steps(*self.words, self.added.name if self.added else self.feed, str(last), *options)
+
+    def coming(self):
+        """What stands at the position, or None where that is far from the start."""
+        if self.position > MOST_TOLD:
+            return None
+        last = min(self.position + 6, MOST_STEPS)
+        found = list(self.steps(last, "--from", str(max(self.position, 1))))
+        led = found.pop(0) if self.position else None
+        row = next((self.at[it.place] for it in found if it.place in self.at and it.word != "ENTRY"), None)
+        return Coming(led, found[0] if found else None, row)
+
+    def forward(self):
+        """The name of the command that goes on from the position up to a breakpoint."""
+        return "on" if "on" in self.commands else "run"
+
+    def move(self, name, count=None):
+        """Goes on by a command that takes a number of steps, in parts: the lines of each reply but the AT lines, as they come. Ends where a reply has another
+        line than those of channels, as at a breakpoint, and right after a step that has changed a watched place."""
+        left, first, start = count, len(self.kept), self.made if name == "run" else self.position
+        begun = self.made if name == "run" else self.position
+        seen = self.steps(MOST_STEPS, "--from", str(start + 1)) if self.watched else iter(())
+        try:
+            while left is None or left > 0:
+                size = self.part if left is None else min(left, self.part)
+                change = self.first_change(seen, size)
+                size = change[0] - start if change else size
+                at = time.monotonic()
+                lines = [it for it in self.ask(f"{name} {size}") if not it.startswith("AT ")]
+                self.fit_part(time.monotonic() - at)
+                yield lines
+                start += size
+                left = None if left is None else left - size
+                if any(not pipe.output_of(it) for it in lines):
+                    return
+                if change:
+                    yield [change[1]]
+                    return
+        finally:
+            seen.close() if self.watched else None
+            # (one command in place of the parts)
+            made = self.position - begun
+            self.kept[first:] = [f"{name} {made}"] if len(self.kept) > first and made else self.kept[first:]
+
+    def reverse(self):
+        """Goes back to the last step before the position at which a breakpoint holds or that has changed a watched erasable place, else to the start: why it
+        stands there."""
+        start, changed = self.position, 0
+        if self.watched and start:
+            self.ask("back 1")
+            replies = [self.ask(f"last {name}")[0].split() for name in self.watched]
+            changed = max((int(it[1]) for it in replies if it[:1] == ["LAST"]), default=0)
+            self.ask(f"goto {start}")
+        hit = self.position if self.ask("seek")[0].startswith("HIT") else 0
+        reason = "breakpoint" if hit else "entry"
+        if changed > hit or not hit:
+            self.ask(f"goto {changed}")
+        return "data breakpoint" if changed > hit else reason
+
+    def fit_part(self, seconds):
+        if seconds < PART_SECONDS / 2:
+            self.part = min(self.part * 2, 1 << 24)
+        elif seconds > PART_SECONDS * 2:
+            self.part = max(self.part // 2, 1)
+
+    def first_change(self, steps, count):
+        """The first of so many steps that changes a watched place: its number, and what is told of it."""
+        for step in itertools.islice(steps, count if self.watched else 0):
+            changed = [f"{name} {self.watched[name]} -> {word}" for name, word in step.written if self.watched.get(name, word) != word]
+            self.watched.update({name: word for name, word in step.written if name in self.watched})
+            if changed:
+                return step.number, f"changed: {', '.join(changed)}"
+        return None
+
+    def watch(self, place):
+        """Watches a place: the name by which steps tell it, or None where there is no such place."""
+        word = self.word(place)
+        name = word and self.name_of(place)
+        if name:
+            self.watched[name] = word
+        return name
+
+    def name_of(self, place):
+        """The name by which `agcws trace` tells a place."""
+        kind, value = self.symbols.get(place, ("NUM", place))
+        if not re.fullmatch("[0-7]+", value):
+            return place
+        number = f"{int(value, 8):04o}"
+        return next((name for name, it in self.symbols.items() if it == ("ERASABLE", number)), number)
+
+    def look_again(self):
+        """The watched places have the words of the position."""
+        self.watched = {name: self.word(name) or word for name, word in self.watched.items()}
+
+    def registers(self):
+        """The registers and flags, each with its word as it is written."""
+        words = self.ask("regs")[0].split()
+        return dict(zip(words[::2], words[1::2]))
+
+    def word(self, place):
+        """The word at a place, a symbol, a register or a channel (CH010), as it is written, or None."""
+        channel = re.fullmatch("CH([0-7]{1,3})", place)
+        if place not in self.symbols:
+            if channel:
+                return self.one_word(f"chan {channel[1]}")
+            if not place[:1].isdigit():
+                return self.registers().get(place)
+        return self.one_word(f"mem {place}")
+
+    def one_word(self, command):
+        """The word of a reply as MEM 00012, or None."""
+        words = self.ask(command)[0].split()
+        return words[1] if len(words) == 2 and re.fullmatch("[0-7]{5,6}", words[1]) else None
+
+    def place_of_line(self, line):
+        """The first row from a line on that has a word, or None."""
+        return next((it for it in self.rows if it.line >= line and it.word), None)
+
+    def breakpoints(self):
+        """What each breakpoint is, by its number."""
+        return {int(it[1]): it[2] for line in self.ask("breaks") if (it := line.split(None, 2))[0] == "BREAK"}
+
+
+def place_in_command(place):
+    """A place as commands take it, from a place as a listing writes it: in fixed memory bank and offset, in erasable memory its number."""
+    bank, address = place.split(",")
+    if bank.startswith("E"):
+        return f"{int(bank[1:], 8) << 8 | int(address, 8) & 0o377:o}"
+    return f"{bank},{int(address, 8) & 0o1777:04o}"
+
+
+def value_of(word):
+    """The number that a word is, in ones' complement: of 16 bits where it has six digits, else of 15."""
+    sign, value = 1 << (15 if len(word) == 6 else 14), int(word, 8)
+    return value - (2 * sign - 1) if value & sign else value
+
+
+def forms_of(word):
+    """A word in octal, decimal, as a fraction and in binary."""
+    value, bits = value_of(word), 16 if len(word) == 6 else 15
+    digits = f"{int(word, 8):0{bits}b}"
+    groups = ([digits[0]] if bits == 16 else []) + [digits[i : i + 3] for i in range(bits % 3, bits, 3)]
+    return f"{word} = {value} = {value / 16384:+.5f} = {' '.join(groups)}"
+
+
+class Expression:
+    """Sums of words and numbers, several with blanks between them, as `SUM`, `A L`, `SUM +3` or `[100] & 77`. Numbers are octal, or decimal with D behind."""
+
+    TOKEN = re.compile(r"\s*(?:(\[[^\]]*\])|([0-7]+|[0-9]+D)(?![0-9A-Za-z])|([-+*&|^~()]))")
+
+    def __init__(self, desk, text):
+        self.desk, self.text, self.start, self.tokens = desk, text, 0, []
+        names = "|".join(sorted(map(re.escape, desk.symbols), key=len, reverse=True))
+        self.name = re.compile(rf"\s*({names + '|' if names else ''}[A-Z][A-Z0-9]*)(?![^\s\]()*&|^~<>+-])")
+
+    def results(self):
+        """Each expression with the word that it is where it is one place, or its value. Raises ValueError with words."""
+        parts, ends = [[]], True
+        while self.text[self.start :].strip():
+            begin = self.start
+            kind, token = self.take()
+            is_operand = kind != "operator" or token in "(~"
+            if is_operand and not ends and parts[-1]:
+                parts.append([])
+            parts[-1].append((kind, token, begin, self.start))
+            ends = kind == "operator" and token != ")"
+        for part in parts:
+            if part:
+                yield self.text[part[0][2] : part[-1][3]].strip(), self.result(part)
+
+    def take(self):
+        """The next token."""
+        found = self.name.match(self.text, self.start)
+        if found:
+            self.start = found.end()
+            return "place", found[1]
+        found = self.TOKEN.match(self.text, self.start)
+        if not found:
+            raise ValueError(f"{self.text[self.start:].split()[0]} is no number, place or operator")
+        self.start = found.end()
+        place, number, operator = found.groups()
+        return ("place", place[1:-1].strip()) if place else ("number", number) if number else ("operator", operator)
+
+    def result(self, part):
+        if len(part) == 1 and part[0][0] == "place":
+            return self.word(part[0][1])
+        code = "".join(self.term(kind, token) for kind, token, _, _ in part)
+        try:
+            # (numbers and operators alone stand in it)
+            return eval(code, {"__builtins__": {}})
+        except (SyntaxError, TypeError, ValueError, OverflowError, MemoryError):
+            raise ValueError(f"{self.text.strip()} is no expression") from None
+
+    def term(self, kind, token):
+        if kind == "operator":
+            return token
+        if kind == "place":
+            return f"({value_of(self.word(token))})"
+        return token[:-1].lstrip("0") or "0" if token.endswith("D") else f"0o{token}"
+
+    def word(self, place):
+        word = self.desk.word(place)
+        if word is None:
+            raise ValueError(f"no place {place}")
+        return word
