@@ -761,12 +761,19 @@ def check_grammar():
     told("scopes of the examples", True)
 
 
+# The first request of a client of the debug adapter.
+INITIALIZE = b'Content-Length: 54\r\n\r\n{"seq": 1, "type": "request", "command": "initialize"}'
+
+
 def check_package():
     """The package's files are there, and its matcher reads the lines that tell faults."""
     folder = f"{EDITORS}/vscode"
     package = json.loads(text_at(f"{folder}/package.json"))["contributes"]
     [language], [grammar], [matcher], [debugger] = (package[it] for it in ("languages", "grammars", "problemMatchers", "debuggers"))
-    same("the package's debugger", (debugger["languages"], os.path.realpath(f"{folder}/{debugger['program']}")), ([language["id"]], f"{VIEWS}/dap"))
+    adapters = [f"{VIEWS}/dap", os.path.normpath(f"{folder}/{debugger['program']}")]
+    answers = [subprocess.run([it], input=INITIALIZE, capture_output=True, timeout=60).stdout for it in adapters]
+    same("the package's debugger", (debugger["languages"], answers[1]), ([language["id"]], answers[0]))
+    told("the package's debugger answers", b'"initialize"' in answers[1])
     properties = debugger["configurationAttributes"]["launch"]["properties"]
     told("what its launch takes", all(re.search(rf"^  {it}  ", text_at(f"{VIEWS}/dap"), re.M) or f'"{it}"' in text_at(f"{VIEWS}/dap") for it in properties))
     same("the package's scope", (grammar["language"], grammar["scopeName"]), (language["id"], Grammar(f"{folder}/{grammar['path']}").grammar["scopeName"]))
