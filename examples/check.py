@@ -42,6 +42,7 @@ from one_processor import second_makers
 from rows import check_rows
 from tally import end, is_built, told
 from terminal import CTRL_C, Terminal
+from checks import check_checks
 from traces import check_trace
 
 PROGRAM = f"{ROOT}/crates/agcws/out/agcws"
@@ -579,7 +580,7 @@ def check_parities(room):
 
 def check_command_line():
     """Help, and command lines that are wrong, against the texts of examples/help; and the version."""
-    for name in ["agcws", "asm", "run", "trace", "cover", "debug", "upgrade", "words", "compare", "sums", "parity"]:
+    for name in ["agcws", "asm", "run", "trace", "cover", "debug", "check", "explain", "upgrade", "words", "compare", "sums", "parity"]:
         got = agcws(*([] if name == "agcws" else [name]), "--help")
         compare(f"the help of {name}", got, 0, read(f"{EXAMPLES}/help/{name}.txt"))
         told(f"the width of the help of {name}", all(len(it) <= 80 for it in got[1].decode().split("\n")))
@@ -729,11 +730,50 @@ def check_progress(room):
         compare(f"the progress of {steps} steps", agcws("run", "--progress", source, feed, steps), 0, line, wanted)
     traced = ("--from", "2097150", "--to", "2097152")
     compare("the progress of a trace", agcws("trace", "--progress", source, feed, "2097152", *traced), 0, agcws("trace", source, feed, "2097152", *traced)[1], lines)
+    compare("the progress of a profile", agcws("cover", "--progress", source, feed, "2097152"), 0, agcws("cover", source, feed, "2097152")[1], lines)
     compare("progress, and then the end", agcws("run", "--progress", "--end", source, feed, "1048576"), 0, line, lines[:21] + b"END STEPS 1048576 CYCLES 1048578 OUTPUTS 1 Z 4003\n")
     with open("/dev/full", "wb") as full:
         ran = subprocess.run([PROGRAM, "run", "--progress", source, feed, "2097152"], stdout=subprocess.PIPE, stderr=full, timeout=60)
         told("progress that cannot be told", (ran.returncode, ran.stdout) == (0, line))
     compare("no progress that is not asked for", agcws("run", source, feed, "1048576"), 0, line)
+
+
+def check_notes(room):
+    """What `agcws run --notes` tells on standard error, worked by hand: a quotient, a word in erasable memory, an interrupt without a handler, an end within one, and interrupts that wait."""
+    empty = f"{EXAMPLES}/empty.feed"
+    five = write(f"{room}/quotient.agc", b" SETLOC 100\nD ERASE\n SETLOC 4000\n CA ONE\n TS D\n CA FIVE\n EXTEND\n DV D\nDONE TCF DONE\nONE OCT 1\nFIVE OCT 5\n")
+    note = b"NOTE QUOTIENT   02,4004  10100  DV D               STEP 5 CYCLES 13 TIMES 1\n"
+    compare("a quotient that does not fit", agcws("run", "--notes", five, empty, "10"), 0, b"", note)
+    compare("notes, and then the end", agcws("run", "--notes", "--end", five, empty, "6"), 0, b"", note + b"END STEPS 6 CYCLES 14 OUTPUTS 0 Z 4005\n")
+    compare("no note of later steps", agcws("run", "--notes", five, empty, "4"), 0, b"")
+    away = write(f"{room}/noted_away.agc", b" SETLOC 4000\n TC 1000\n")
+    compare("a word in erasable memory", agcws("run", "--notes", away, empty, "2"), 0, b"", b"NOTE ERASABLE   E2,1000  00000  TC A               STEP 2 CYCLES 2 TIMES 1\n")
+    lost, feed = text_of("examples/lost_sum.agc").split("\n"), f"{EXAMPLES}/lost_sum.feed"
+    without = write(f"{room}/no_handler.agc", "\n".join(lost[:14] + lost[18:]).encode())
+    lines = [b"NOTE NOHANDLER  02,4014  ENTRY  T3RUPT             STEP 18 CYCLES 33 TIMES 1\n", b"NOTE NOWORD     02,4014  00000  TC A               STEP 19 CYCLES 34 TIMES 1\n", b"NOTE INSIDE STEP 19\n"]
+    compare("an interrupt without a handler", agcws("run", "--notes", without, feed, "19"), 0, b"", b"".join(lines))
+    compare("an end within an interrupt", agcws("run", "--notes", f"{EXAMPLES}/lost_sum.agc", feed, "20"), 0, b"", b"NOTE INSIDE STEP 20\n")
+    waiting = write(f"{room}/waiting.agc", b" SETLOC 4000\nHERE TCF HERE\n")
+    asked = write(f"{room}/waiting.feed", b"5 RUPT 10\n5 RUPT 3\n9 RUPT 3\n100 RUPT 4\n")
+    lines = [b"NOTE WAITING T3RUPT STEP 7 CYCLES 5\n", b"NOTE WAITING RUPT10 STEP 6 CYCLES 5\n"]
+    compare("interrupts that wait long", agcws("run", "--notes", waiting, asked, "862"), 0, b"", b"".join(lines))
+    compare("interrupts that do not wait long", agcws("run", "--notes", waiting, asked, "861"), 0, b"")
+    rope = f"{room}/noted.rope"
+    agcws("asm", five, rope)
+    compare("notes of an image", agcws("run", "--image", "--notes", rope, empty, "10"), 0, b"", note.replace(b"DV D   ", b"DV 0100"))
+    compare("notes of a refused feed", agcws("run", "--notes", five, five, "4"), 1, b"", b"agcws: E30 LINE 1\n")
+    with open("/dev/full", "wb") as full:
+        ran = subprocess.run([PROGRAM, "run", "--notes", five, empty, "10"], stdout=subprocess.PIPE, stderr=full, timeout=60)
+        told("notes that cannot be told", (ran.returncode, ran.stdout) == (3, b""))
+    noted = set()
+    for line in text_of("examples/runs.txt").split("\n"):
+        if line and not line.startswith("#"):
+            name, feed, steps = line.split()
+            source = f"{EXAMPLES}/{name}.agc"
+            _, out, notes = agcws("run", "--notes", source, f"{EXAMPLES}/{feed}", steps)
+            told(f"the lines of {name} with notes", out == agcws("run", source, f"{EXAMPLES}/{feed}", steps)[1])
+            noted |= {name} if notes else set()
+    told("the examples that draw notes", noted == {"division", "bank_sum", "instructions"}, " ".join(sorted(noted)))
 
 
 def check_handed_on(room):
@@ -819,6 +859,7 @@ def main():
         check_rows(PROGRAM, told, room)
         check_traces(room)
         check_covers(room)
+        check_checks(PROGRAM, room, told, text_of("docs/MANUAL.md"))
         check_operators()
         check_links()
         check_documents(room)
@@ -834,6 +875,7 @@ def main():
         check_whole_images(room)
         check_end(room)
         check_progress(room)
+        check_notes(room)
         check_handed_on(room)
         check_made_anew(room)
         check_slips(room)

@@ -1,7 +1,7 @@
 """Copies of functions: a wrong body stands in a copy of its function, under a name of its own, so that one check tries several of one function, and nothing that calls it waits.
 
 A copy is judged by its own contract, as the function is. It is only made where it shows what the function would: of a function outside traits and their impls that does not name itself,
-stands in no cycle, and is proved without proof files, for these are found by its name; and of an edit that changes nothing else.
+and stands in no cycle; and of an edit that changes nothing else. Its proof files, which are found by its name, are copied too.
 """
 import dataclasses
 import difflib
@@ -18,6 +18,13 @@ class Copy:
     function: str
     path: str
     lines: tuple
+
+    def proofs(self, pristine):
+        """Returns the proof files of the function for its copy, each with its text: they name its goals by its path."""
+        old, new = ("proofs/" + "/".join(it.split("::")[1:]) for it in (self.function, self.path))
+        dotted = lambda it: it.replace("/", ".")
+        named = rf"\b{re.escape(dotted(old))}(?=\.)"
+        return {new + file.removeprefix(old): re.sub(named, dotted(new), text) for file, text in pristine.items() if file.startswith((f"{old}/", f"{old}."))}
 
 
 def extent(lines, owners, function):
@@ -83,6 +90,8 @@ def with_copies(texts, pristine, copies, owners_of):
         for last, text in places:
             lines[last + 1 : last + 1] = ["", *text]
         texts[file] = "\n".join(lines)
+    for it in copies:
+        texts.update(it.proofs(pristine))
     return texts
 
 

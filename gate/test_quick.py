@@ -93,10 +93,12 @@ def repository(room):
         "examples/check.py": SCRIPT,
         "views/check.py": 'print("1 passed, 0 failed")\n',
         "hostile/check.py": 'print("1 passed, 0 failed")\n',
+        # (what the page of wrong edits leads to)
+        "gate/README.md": "## Wrong edits\n",
     }
+    shutil.copytree(GATE, f"{room}/gate", ignore=shutil.ignore_patterns("test_*", "__pycache__", "*.md"))
     for path, text in files.items():
         write_text(f"{room}/{path}", text)
-    shutil.copytree(GATE, f"{room}/gate", ignore=shutil.ignore_patterns("test_*", "__pycache__"))
     run(room, "gate/edits_page")
 
 
@@ -196,10 +198,10 @@ class WholeRuns(unittest.TestCase):
 
     def test_changes_are_found_and_nothing_else_is_done(self):
         all_new = "changed: words workshop agcws; tests to run: low_tests; the program is to be built"
-        # two edits read, their page, a row of definitions, three crates, tests, examples, views, hostile inputs
-        self.quick(all_new, "low_tests: tests passed", "not done by --quick: ", counts="11 passed, 0 failed")
+        # two edits read, their page, a row of definitions, four links and files that pages name, three crates, tests, examples, views, hostile inputs
+        self.quick(all_new, "low_tests: tests passed", "not done by --quick: ", counts="15 passed, 0 failed")
         nothing = "changed: no crate; tests to run: none; the program is as it was built"
-        self.quick(nothing, counts="7 passed, 0 failed", others=["proof passed"])
+        self.quick(nothing, counts="11 passed, 0 failed", others=["proof passed"])
         self.assertEqual(last(run(self.room, "gate/wrong_bodies", "--all")), "1 passed, 0 failed")
         self.assertEqual(self.tried(), "0 passed, 0 failed")
         self.documents_and_examples()
@@ -208,16 +210,17 @@ class WholeRuns(unittest.TestCase):
         self.quick("changed: no crate; tests to run: none; the program is as it was built")
 
     def documents_and_examples(self):
-        """A wrong edit of a document, of an example, of a page that counts definitions, and of a wrong edit's text."""
+        """A wrong edit of a document, of an example, of a page that counts definitions, of a heading that a link names, and of a wrong edit's text."""
         for path, old, new, said in (
             ("docs/MANUAL.md", "sound", "harmful", "examples and manual: 0 passed, 1 failed"),
             ("examples/example", "sound", "other", "examples and manual: 0 passed, 1 failed"),
             ("docs/THEOREMS.md", "2 lines", "3 lines", "counts: 0 passed, 1 failed"),
             ("docs/EDITS.md", "| one |", "| two |", "the page of wrong edits: 0 passed, 1 failed"),
+            ("gate/README.md", "Wrong edits", "Edits", "links of the pages: 3 passed, 1 failed"),
             ("crates/workshop/wrong-bodies/two_more_adds_one.edit", "(x) + 1", "(x) + 9", "wrong edits, read: 1 passed, 1 failed"),
         ):
             self.put(path, old, new)
-            self.quick(said, counts="6 passed, 1 failed")
+            self.quick(said, counts="10 passed, 1 failed")
             self.put(path, new, old)
 
     def bodies(self):
@@ -232,7 +235,7 @@ class WholeRuns(unittest.TestCase):
         self.put("crates/words/src/lib.rt", "u16::from(x) + 1", "u16::from(x) + 2")
         self.quick("fn words::one_more: no proof", "workshop: proof LEFT", "low_tests: tests LEFT", "the program is not built")
         self.put("crates/words/src/lib.rt", "u16::from(x) + 2", "1 + u16::from(x)")
-        self.quick("changed: words; tests to run: low_tests; the program is to be built", "words: proof passed", others=["workshop: proof passed"], counts="10 passed, 0 failed")
+        self.quick("changed: words; tests to run: low_tests; the program is to be built", "words: proof passed", others=["workshop: proof passed"], counts="14 passed, 0 failed")
         self.assertEqual(self.tried(), "0 passed, 0 failed")
 
     def definitions(self):

@@ -316,6 +316,12 @@ class Copies(unittest.TestCase):
         self.assertEqual([in_a_trait, naming_itself, two_functions, beside_it], [None] * 4)
         self.assertIsNotNone(self.copies("    3", "    4"))
 
+    def test_proof_files_are_copied_under_the_path_of_the_copy(self):
+        copy = runner.Copy("src/a.rt", "c::a::Here::one", "c::a::Here::one_wrong", ())
+        files = {"proofs/a/Here/one/Answers.antt": "use Rattle.c.proofs.a.Here.one.Goals as goal\nuse Rattle.c.proofs.a.Here.one_more.Goals", "proofs/a/Here/one_more/Answers.antt": ""}
+        wanted = "use Rattle.c.proofs.a.Here.one_wrong.Goals as goal\nuse Rattle.c.proofs.a.Here.one_more.Goals"
+        self.assertEqual(copy.proofs(files), {"proofs/a/Here/one_wrong/Answers.antt": wanted})
+
     def test_what_copies_may_call(self):
         copy = runner.Copy("src/a.rt", "c::f", "c::f_wrong", ("fn f_wrong() {", "    g()", "}"))
         sources = [("f", "    g()"), ("g", "    h()"), ("h", "    1"), ("k", "    f()")]

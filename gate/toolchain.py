@@ -16,7 +16,7 @@ import tempfile
 WRITTEN_FOR = "rattle-kit-13b logic dac8208d650f15bf"
 # Of rt, and of rtlib, which rt loads.
 NAMES = "KIT checked edited edits_of free in_lanes must_fail_all processors rtlib unread".split()
-LIBRARY_NAMES = "STALE crates_below files_of fmt guarded lock".split()
+LIBRARY_NAMES = "PARTS STALE crates_below files_of fmt guarded lock".split()
 CRATE_NAMES = "below build_and_run build_rlib check count has_tests is_built makes_rlib run".split()
 
 
@@ -65,8 +65,6 @@ in_lanes = rt.in_lanes
 edited = rt.edited
 # The files of a crate's edits of must-fail, and what stands beside them that is none.
 must_fail_of = rt.edits_of
-# Checks a copy of a crate with some texts in place of its own.
-checked = rt.checked
 # Whether a line of a check says that a text cannot be read.
 is_unread = rt.unread
 processors, free = rt.processors, rt.free
@@ -102,6 +100,21 @@ def test(crate, jobs):
 def is_formatted(crate):
     """Returns whether a crate's files have rt fmt's layout, and what was said."""
     return said_by(crate, lambda it: rt.rtlib.fmt(it.folder, "--check", it.out, diff=it.out))
+
+
+def checked(crate, texts, flags, kept):
+    """Checks a copy of a crate with some texts in place of its own, or beside them, over what kept holds."""
+    with tempfile.TemporaryDirectory(prefix="checked-") as room:
+        new = {os.path.dirname(it) for it in texts if not os.path.isdir(f"{crate.folder}/{os.path.dirname(it)}")}
+        if new:
+            folder, crate = crate.folder, copy.copy(crate)
+            crate.folder = room
+            for part in rt.rtlib.PARTS:
+                if os.path.isdir(f"{folder}/{part}"):
+                    shutil.copytree(f"{folder}/{part}", f"{room}/{part}")
+            for it in new:
+                os.makedirs(f"{room}/{it}", exist_ok=True)
+        return rt.checked(crate, texts, flags, kept)
 
 
 def has_stale(said):

@@ -38,7 +38,7 @@ CALLS = {
     ],
 }
 
-# A session of 30 commands, two of which add an input.
+# A session of 34 commands, two of which add an input, and three of which only an extended session has.
 ADDED = b"add 5000 TIME1 PINC"
 COMMANDS = b"""run 100
 break at FIVE
@@ -58,6 +58,10 @@ tail
 step 3
 %s
 run 50
+goto 3
+on 40
+regs all
+until 400
 clear
 run 900
 mem 25

@@ -10,7 +10,7 @@ memory   each single request for memory is refused, by itself and with all after
 devices  full devices, closed pipes, folders, files that aren't there or may not be read, devices without an end, closed standard streams, no file or memory to be had
 sizes    one byte, line or input too many, or a byte too few
 bytes    N sources, feeds, command files and images (cases.py; if not said 600 of each, and 20,000 where CI is true), each in a process of its own: it ends in time and in little memory, with a refusal
-         that exists. What hostile/long_run tries in one process gives the same answers; and in one process N more of each are tried with a failure besides
+         that exists; and `check` tells a fault of each source exactly where `asm` does, and that one among its own. What hostile/long_run tries in one process gives the same answers; and in one process N more of each are tried with a failure besides
 
 The last line is 'N passed, M failed'. The built programs are crates/agcws/out/agcws, or what AGCWS names, and crates/vector_session/out/vector_session, or what VECTOR_SESSION names; `./check` leaves both, and `rt run`
 in a crate's folder makes its own."""
@@ -107,6 +107,8 @@ def memory(room):
         "run": ("run", source, feed, "300"),
         "run --end": ("run", "--end", source, feed, "300"),
         "run --progress": ("run", "--progress", source, feed, "300"),
+        "run --notes": ("run", "--notes", source, feed, "300"),
+        "cover --progress": ("cover", "--progress", source, feed, "300"),
         "run --image": ("run", "--image", "--rope", "1", "--end", old, feed, "300"),
         "trace": ("trace", source, feed, "300"),
         "trace --image": ("trace", "--image", "--rope", "1", old, feed, "300"),
@@ -116,10 +118,16 @@ def memory(room):
         "upgrade": ("upgrade", old, made),
         "words": ("words", new),
         "words of a bank": ("words", "--rope", "1", old, "02"),
+        "words as a source": ("words", "--source", new),
+        "compare with a source": ("compare", "--only", source, other),
         "compare": ("compare", "--old", "1", old, other),
         "compare of equal images": ("compare", "--old", "1", old, new),
         "sums": ("sums", new),
         "parity": ("parity", old),
+        "check": ("check", source),
+        "check of a source with faults": ("check", feed),
+        "explain": ("explain",),
+        "explain of a number": ("explain", "E16"),
         "a refused source": ("run", feed, feed, "300"),
         "a refused image": ("words", source),
         "--help": ("--help",),
@@ -268,7 +276,7 @@ def files_without_memory(refusing, source, feed, old, made):
     if os.path.exists(made):
         os.remove(made)
     upgrade, images = ("upgrade", old, made), ("--image", "--rope=1", old, feed)
-    calls = [(("asm", source, made), (source, made)), (("run", source, feed, "1"), (source, feed)), (("trace", source, feed, "1"), (source, feed)), (("cover", source, feed, "1"), (source, feed)), (("debug", source, feed), (source, feed)), (upgrade, (old, made))]
+    calls = [(("asm", source, made), (source, made)), (("run", source, feed, "1"), (source, feed)), (("trace", source, feed, "1"), (source, feed)), (("cover", source, feed, "1"), (source, feed)), (("debug", source, feed), (source, feed)), (("check", source), (source,)), (upgrade, (old, made))]
     calls += [(("words", "--rope=1", old), (old,)), (("sums", "--rope=1", old), (old,)), (("run", *images, "1"), (old, feed)), (("debug", *images), (old, feed))]
     for words, files in calls:
         for file in files:
@@ -293,7 +301,8 @@ def devices(room):
     image, other = write(f"{room}/image", bytes(IMAGE_BYTES)), f"{room}/other"
     agcws("asm", "--rope", "1", FIVE, other)
     # Calls that write some output, the last two a session's.
-    writing = [("run", FIVE, EMPTY, "100"), ("trace", FIVE, EMPTY, "100"), ("cover", FIVE, EMPTY, "100"), ("run", "--end", FIVE, EMPTY, "100"), ("run", "--progress", FIVE, EMPTY, "100"), ("run", "--image", "--rope=1", other, EMPTY, "100"), ("asm", FIVE, made), ("words", "--rope=1", image)]
+    writing = [("run", FIVE, EMPTY, "100"), ("trace", FIVE, EMPTY, "100"), ("cover", FIVE, EMPTY, "100"), ("run", "--end", FIVE, EMPTY, "100"), ("run", "--progress", FIVE, EMPTY, "100"), ("run", "--notes", FIVE, EMPTY, "100"), ("run", "--image", "--rope=1", other, EMPTY, "100"), ("asm", FIVE, made), ("words", "--rope=1", image)]
+    writing += [("check", FIVE), ("explain",), ("explain", "17")]
     writing += [("compare", "--old=1", "--new=1", image, other), ("sums", "--rope=1", image), ("parity", image), ("--help",), ("words", "--help"), ("--version",)]
     writing += [("debug", FIVE, EMPTY), ("debug", "--image", "--rope=1", other, EMPTY)]
     outputs_that_fail(writing)
@@ -305,7 +314,7 @@ def devices(room):
     for bad in (none, folder):
         reading = [("run", bad, EMPTY, "1"), ("run", FIVE, bad, "1"), ("trace", bad, EMPTY, "1"), ("trace", FIVE, bad, "1"), ("cover", bad, EMPTY, "1"), ("cover", FIVE, bad, "1"), ("asm", bad, made), ("debug", bad, EMPTY), ("debug", FIVE, bad), ("upgrade", bad, made), ("words", bad), ("words", bad, "02"), ("sums", bad), ("parity", bad)]
         reading += [("compare", bad, image), ("compare", "--old=1", image, bad), ("run", "--image", bad, EMPTY, "1"), ("run", "--image", "--rope=1", image, bad, "1")]
-        reading += [("debug", "--image", bad, EMPTY), ("debug", "--image", "--rope=1", image, bad)]
+        reading += [("debug", "--image", bad, EMPTY), ("debug", "--image", "--rope=1", image, bad), ("check", bad)]
         for words in reading:
             answer = agcws(*words)
             told(f"devices: {name_of(words)}", answer == (3, b"", E6), f"{answer}")
@@ -469,6 +478,8 @@ def image_sizes(room, zeros):
             ("sums", "--rope=1", image),
             ("parity", image),
             ("words", "--parity=ignore", image),
+            ("words", "--source", "--rope=1", image),
+            ("compare", "--only", "--new=1", FIVE, image),
             ("compare", "--old=1", "--new=1", image, zeros),
             ("compare", "--old=1", "--new=1", zeros, image),
             ("run", "--image", "--rope=1", image, EMPTY, "1"),
@@ -563,8 +574,85 @@ def hostile_bytes(room, count, seed):
         slowest, largest = max(it for _, it, _ in results), max(it for _, _, it in results)
         told(f"bytes: {kind}, {len(wrong)} of {count}", not wrong, f"seed {seed}, the first: {wrong[:5]}")
         print(f"bytes: {count} of {kind}: {time.monotonic() - started:.0f} s; the slowest call took {slowest:.2f} s, the largest {largest >> 10} KiB", flush=True)
+    checks(made, count, seed)
+    readings(made, count, seed)
     alike(made, seed)
     with_failures(made, count, seed)
+
+
+# A fault that `check` tells, and the one that `asm` does.
+TOLD_FAULT = re.compile(rb"^.*:(\d+):\d+: error E(\d+): .+$", re.M)
+ONE_FAULT = re.compile(rb"agcws: E(\d+) LINE (\d+)\n")
+
+
+def some_checks(made, seed, first, last):
+    """Sources of which `check` does not tell that they have a fault exactly where `asm` does, and that one among those that it tells, each once; and how many are refused."""
+    worker, wrong, refused = Worker(made, seed), [], 0
+    try:
+        for number in range(first, last):
+            write(worker.case, worker.maker.case("source", number))
+            one = ONE_FAULT.fullmatch(worker.run(["asm", worker.case, "/dev/null"], worker.case)[2])
+            status, out, err, _, _ = worker.run(["check", worker.case], worker.case)
+            found = [(int(line), int(kind)) for line, kind in TOLD_FAULT.findall(out)]
+            refused += bool(one)
+            count = f"{len(found)} error{'' if len(found) == 1 else 's'}\n".encode()
+            is_right = (int(one[2]), int(one[1])) in found if one else not found
+            if not is_right or status != int(bool(one)) or err or not out.endswith(count) or len(set(found)) != len(found):
+                wrong.append((number, status, one and one[0], found[:5], err))
+    finally:
+        shutil.rmtree(worker.room)
+    return wrong, refused
+
+
+def checks(made, count, seed):
+    step = max(1, min(1000, count // 8 + 1))
+    with ProcessPoolExecutor() as pool:
+        parts = [pool.submit(some_checks, made, seed, first, min(first + step, count)) for first in range(0, count, step)]
+        results = [part.result() for part in parts]
+    wrong, refused = [it for part, _ in results for it in part], sum(it for _, it in results)
+    told(f"bytes: check, {len(wrong)} of {count}", not wrong and 0 < refused < count, f"seed {seed}, {refused} refused, the first: {wrong[:5]}")
+
+
+READ_STEPS = 300
+NOTES = re.compile(rb"(NOTE ((QUOTIENT|SKIP|NOWORD|ERASABLE|NOHANDLER) +\S.* STEP [1-9]\d* CYCLES \d+ TIMES [1-9]\d*|INSIDE STEP \d+|WAITING \w+ STEP [1-9]\d* CYCLES \d+)\n)*")
+
+
+def is_read_alike(run, notes, trace, cover):
+    """Whether the same run is told by `run` and by those that read it; or the same refusal, and nothing else."""
+    if run[0]:
+        return all(it == (run[0], b"", run[2]) for it in (notes, trace, cover))
+    lines = b"".join(it + b"\n" for it in re.findall(rb"\d+ CH [0-7]{3} [0-7]{5}$", trace[1], re.M))
+    is_noted = notes[:2] == run[:2] and NOTES.fullmatch(notes[2])
+    is_traced = (trace[0], trace[2], trace[1].count(b"\n"), lines) == (0, b"", READ_STEPS, run[1])
+    cycles = trace[1].splitlines()[-1].split()[1]
+    return is_noted and is_traced and (cover[0], cover[2]) == (0, b"") and cover[1].endswith(b"%10d %10d TOTAL\n" % (READ_STEPS, int(cycles)))
+
+
+def some_readings(made, seed, kind, first, last):
+    """Cases whose run is told in another way by `run --notes`, `trace` or `cover`; and how many run, and how many of these draw notes."""
+    worker, wrong, ran, noted = Worker(made, seed), [], 0, 0
+    files = [*(["--image"] if kind == "image" else []), worker.case, cases.CLOCK, str(READ_STEPS)]
+    try:
+        for number in range(first, last):
+            write(worker.case, worker.maker.case(kind, number))
+            run, notes, trace, cover = (worker.run([*words, *files], worker.case)[:3] for words in (["run"], ["run", "--notes"], ["trace"], ["cover"]))
+            ran, noted = ran + (run[0] == 0), noted + notes[2].startswith(b"NOTE ")
+            if not is_read_alike(run, notes, trace, cover):
+                wrong.append((number, run[0], notes[2][:200]))
+    finally:
+        shutil.rmtree(worker.room)
+    return wrong, ran, noted
+
+
+def readings(made, count, seed):
+    """Runs of hostile sources and images, as those tell them that read a run."""
+    step = max(1, min(1000, count // 8 + 1))
+    for kind in ("source", "image"):
+        with ProcessPoolExecutor() as pool:
+            parts = [pool.submit(some_readings, made, seed, kind, first, min(first + step, count)) for first in range(0, count, step)]
+            results = [part.result() for part in parts]
+        wrong, ran, noted = [it for part, _, _ in results for it in part], sum(it for _, it, _ in results), sum(it for _, _, it in results)
+        told(f"bytes: {kind} as it is read, {len(wrong)} of {count}", not wrong and ran > 0 and noted > 0, f"seed {seed}, {ran} were run, {noted} drew notes; the first: {wrong[:5]}")
 
 
 def with_failures(made, count, seed):

@@ -1,10 +1,12 @@
 #!/usr/bin/env python3
 """Tests of the views on the built program, and of what README.md shows of them. The last line is 'N passed, M failed'."""
+import importlib.machinery
 import importlib.util
 import json
 import os
 import re
 import signal
+import socket
 import subprocess
 import sys
 import tempfile
@@ -105,7 +107,7 @@ def check_readings(room):
 
 def check_calls(room):
     """What all views do alike: help, files that are not there, a program that is not there, an output that nobody reads."""
-    for view in ["talk", "dap", "shake", "wave", "dsky", "report"]:
+    for view in ["talk", "dap", "shake", "wave", "dsky", "bridge", "report"]:
         status, out, err = call(view, "--help")
         told(f"{view} --help", (status, err) == (0, "") and out.startswith(f"usage: {view} "), f"{out} {err}")
     same("a feed that is not there", call("shake", LOST[0], "4", "RUPT 1", "--feed", f"{room}/none"), (3, "", f"shake: {room}/none: No such file or directory\n"))
@@ -161,9 +163,20 @@ def check_talk(room):
     values = ["17 + 1 20 = 16", "17D 21 = 17", "[101] 77715 = -50 = -0.00305 = 111 111 111 001 101", "CH012 00000 = 0 = +0.00000 = 000 000 000 000 000"]
     same("values", shown[15], values)
     same("a refused source", call("talk", write(f"{room}/wrong.agc", b" FROB 1\n"), EMPTY)[::2][1].splitlines()[0], "agcws: E15 LINE 1")
+    check_display_in_talk()
     check_saved(room)
     check_reload(room)
     check_ctrl_c(room)
+
+
+def check_display_in_talk():
+    """The display at the position, forwards and backwards: decimal_digits puts out +07093 in three words, as it tells by hand."""
+    shown = talk(["until 150", "dsky", "until 186", "display dsky", "back 1", "goto 120", "undisplay", "until 10", "p A BB"], f"{EXAMPLES}/decimal_digits.agc", EMPTY)
+    same("until some cycles", (shown[1][0], shown[1][1].split()[2:4], shown[3][:2]), ("148 CH 010 40025", ["cycle", "150:"], ["167 CH 010 37165", "186 CH 010 31773"]))
+    for at, wanted in [(2, " 0    "), (4, "+07093"), (5, "+070  ")]:
+        told(f"the display, {at}", any(f" {wanted} |" in it for it in shown[at]), f"{shown[at]}")
+    same("no display", ([len(it) for it in shown[6:9]], shown[8][0].split()[2:4]), ([1, 0, 2], ["cycle", "10:"]))
+    same("a register that regs all alone has", shown[9][1], "BB 00000 = 0 = +0.00000 = 000 000 000 000 000")
 
 
 def check_saved(room):
@@ -223,7 +236,7 @@ def check_ctrl_c(room):
     at.type(b"quit\n")
     same("the end at a terminal", at.end(), 0)
     at = Terminal("/usr/bin/env", "NO_COLOR=1", f"{VIEWS}/talk", loop, EMPTY)
-    shown = at.type(b"step\n", b"EXTEND")
+    shown = at.type(b"step\n", b"(1) ")
     told("no colour", b"EXTEND" in shown and b"\x1b[1m" not in shown, f"{shown!r}")
     at.type(b"\x04")
     same("Ctrl-D ends talk", at.end(), 0)
@@ -552,6 +565,159 @@ def check_dsky():
         ran.stdin.close()
 
 
+# Puts out each word of channel 032 that is new, with that of CDUX; a key, and a word of the uplink, in their interrupts.
+HEARS = b""" SETLOC 4000
+ RELINT
+ TCF SEEN
+ SETLOC 4024
+ XCH 10
+ TCF KEY
+ SETLOC 4034
+ XCH 10
+ TCF UPLINK
+ SETLOC 4100
+KEY EXTEND
+ READ 15
+ EXTEND
+ WRITE 10
+ EXTEND
+ WRITE 11
+ XCH 10
+ RESUME
+UPLINK CA 45
+ EXTEND
+ WRITE 13
+ CAF ZERO
+ TS 45
+ XCH 10
+ RESUME
+SEEN EXTEND
+ READ 32
+ EXTEND
+ RXOR 14
+ EXTEND
+ BZF SEEN
+ EXTEND
+ READ 32
+ EXTEND
+ WRITE 14
+ CA 32
+ EXTEND
+ WRITE 30
+ TCF SEEN
+ZERO OCT 0
+"""
+
+
+class Display:
+    """A display and keyboard at a socket, by packets of its own making: 00u and the channel's bits 8 to 4, 01 and its lower three with the word's upper three,
+    10 and 11 with six bits of the word each."""
+
+    def __init__(self, port):
+        self.connection, self.words = socket.create_connection(("127.0.0.1", port), timeout=60), []
+
+    def send(self, channel, word, mask=""):
+        bits = f"{channel:08b}{word:015b}"
+        groups = [f"00{1 if mask else 0}{bits[:5]}", f"01{bits[5:11]}", f"10{bits[11:17]}", f"11{bits[17:]}"]
+        self.connection.sendall(bytes(int(it, 2) for it in groups))
+
+    def until(self, channel, word):
+        """The packets up to that of a word on a channel, as pairs."""
+        got = []
+        while not got or got[-1] != (channel, word):
+            bits = "".join(f"{it:08b}" for it in self.some(4))
+            same("the marks of a packet", (bits[:3], bits[8:10], bits[16:18], bits[24:26]), ("000", "01", "10", "11"))
+            got.append((int(bits[3:8] + bits[10:13], 2), int(bits[13:16] + bits[18:24] + bits[26:], 2)))
+        return got
+
+    def some(self, count):
+        data = b""
+        while len(data) < count:
+            part = self.connection.recv(count - len(data))
+            if not part:
+                raise EOFError("the bridge has ended")
+            data += part
+        return data
+
+
+def check_bridge(room):
+    """Displays at the bridge, and the run made again from what was recorded, to the same bytes."""
+    source, base, kept = write(f"{room}/hears.agc", HEARS), write(f"{room}/hears.feed", b"# switches\n0 CHAN 32 37777\nEVERY 0 1 1 10 TIME1 PINC\n999999999 RUPT 1\n"), f"{room}/heard.feed"
+    asked = [f"{VIEWS}/bridge", source, base, "--record", kept, "--port", "0"]
+    with subprocess.Popen(asked, stdout=subprocess.PIPE, stderr=subprocess.PIPE, text=True) as ran:
+        port = int(re.search(r"port (\d+)", ran.stderr.readline())[1])
+        first = Display(port)
+        first.until(0o14, 0o37777)
+        first.send(0o15, 0o11)
+        got = [it for it in first.until(0o163, 0o10) if it[0] in (0o10, 0o11, 0o163)]
+        same("a key, and the lamp TEMP", got, [(0o10, 0o11), (0o11, 0o11), (0o163, 0o10)])
+        # PRO: a bit of channel 032 alone, which is 0 while the key is held
+        first.send(0o32, 0o20000, mask="u")
+        first.send(0o32, 0)
+        first.until(0o14, 0o17777)
+        first.send(0o32, 0o20000)
+        first.send(0o173, 0o12345)
+        first.until(0o13, 0o12345)
+        second = Display(port)
+        second.send(0o32, 0o1, mask="u")
+        second.connection.sendall(b"\xff\x00")
+        second.send(0o32, 0)
+        second.until(0o14, 0o37776)
+        second.send(0o32 | 0o200, 1)
+        second.send(0o32 | 0o200, 1)
+        second.send(0o15, 0o4000)
+        second.until(0o10, 0o4000)
+        second.send(0o26 | 0o200, 1)
+        second.connection.close()
+        # (11 and 4000 are words of two rows of relays, 0 and 1)
+        third = Display(port)
+        third.send(0o15, 0o4001)
+        got = third.until(0o10, 0o4001)
+        told("what a new client gets", {(0o10, 0o11), (0o10, 0o4000), (0o14, 0o37776), (0o13, 0o12345)} <= {*got}, f"{got}")
+        ran.send_signal(signal.SIGINT)
+        lines, said = ran.communicate(timeout=60)
+    same("the end of a bridge", ran.returncode, 0)
+    told("a pulse that no counter takes", "not taken: " in said and "TIME3 PCDU: E33 COUNTER" in said, said)
+    run = re.search(r"bridge: agcws (run .*)\n", said)[1].split()
+    same("the recorded run", pipe.answer(*run)[0], lines)
+    inputs = text_at(kept).splitlines()
+    same("the recorded feed", ([it.split(" ", 1)[1] for it in inputs[3:-1] if "INLINK" not in it], inputs[:3], inputs[-1]), (
+        ["CHAN 015 00011", "CHAN 032 17777", "CHAN 032 37777", "CHAN 032 37776", "CDUX PCDU", "CDUX PCDU", "CHAN 015 04000", "CHAN 015 04001"],
+        ["# switches", "0 CHAN 32 37777", "EVERY 0 1 1 10 TIME1 PINC"],
+        "999999999 RUPT 1",
+    ))
+    same("a word of the uplink, from its first bit on", "".join("1" if it.endswith("SHANC") else "0" for it in inputs if "INLINK" in it), "1001010011100101")
+
+
+def check_bridge_parts(room):
+    """Masks of bits that are not taken yet, series that leave cycles free, and a session that is made anew."""
+    loader = importlib.machinery.SourceFileLoader("bridge", f"{VIEWS}/bridge")
+    bridge = importlib.util.module_from_spec(importlib.util.spec_from_loader("bridge", loader))
+    loader.exec_module(bridge)
+    # 3 0 7 is the cycles 0, 3, 6 ..; 5 2 9 the cycles 9, 11, 14, 16 ..; num below den has some cycles twice
+    recording = bridge.Recording("EVERY 0 3 1 7 RUPT 1\nEVERY 9 5 2 4 RUPT 2 # two\n\n20 RUPT 3\nEVERY 30 1 2 4 RUPT 4\n")
+    same("cycles that are free", [recording.free(it) for it in (0, 3, 9, 10, 14, 15, 18, 19, 30, 31, 32)], [1, 4, 10, 10, 17, 17, 19, 19, 32, 32, 32])
+    recording.added = [(10, "RUPT 5"), (20, "RUPT 6"), (21, "RUPT 7"), (21, "RUPT 8")]
+    same("a feed with more", recording.text().splitlines()[2:], ["", "10 RUPT 5", "20 RUPT 3", "EVERY 30 1 2 4 RUPT 4", "20 RUPT 6", "21 RUPT 7", "21 RUPT 8"])
+    same("packets", bridge.packets_of(b"\x01\x01\x68\x80\xd1\x21\x50\xa0\xc0\x0e"), ([(False, 0o15, 0o21), (True, 0o12, 0o4000)], b"\x0e"))
+    same("a packet", bridge.packet_of(0o10, 0o55274), b"\x01\x45\xaa\xfc")
+    # A second is 85,333 cycles; KEY REL and OPR ERR go out, and the digits, for 0.32 s of 1.28
+    same("lamps that flash", [bridge.lamps_of(0o160, it) for it in (0, 27306, 27307, 109226, 109227)], [0o40, 0o40, 0o120, 0o120, 0o40])
+    source, kept = write(f"{room}/hears.agc", HEARS), f"{room}/renewed.feed"
+    machine = bridge.Machine([source], EMPTY)
+    machine.set(0o32, 0o7, 0o5)
+    machine.set(0o32, 0o10, 0o10)
+    lines = machine.until(3000)
+    machine.set(0o32, 0o1, 0)
+    write(kept, machine.recording.text().encode())
+    machine.renew(kept)
+    lines += machine.until(6000)
+    machine.session.end()
+    same("masks", [f"{it.channel:o} {it.word:o}" for it in lines if it.channel == 0o14], ["14 15", "14 14"])
+    run = pipe.answer("run", source, kept, str(machine.steps))[0].splitlines()
+    same("a session made anew", [pipe.output_of(it) for it in run], lines)
+
+
 class Page(HTMLParser):
     """A page's cells by rows, its texts by tag, and its tags and attributes."""
 
@@ -623,7 +789,10 @@ def check_sums(source, feed, steps):
         in_rows = sum(int(it[at]) for it in rows)
         elsewhere = sum(int(it[at + 1]) for it in others)
         same(f"the accounts of {source}", (placed[at + 1], whole[at + 1], in_rows + elsewhere), (str(in_rows), total, int(total)))
-    same(f"the lines of {source}", "".join(page.texts["pre"]).split("\n"), out.rstrip("\n").split("\n"))
+    texts = "".join(page.texts["pre"])
+    told(f"the lines of {source}", texts.endswith(out.rstrip("\n")), f"wanted {out!r}, got {texts!r}")
+    notes = pipe.answer("run", "--notes", source, feed, steps)[1].rstrip("\n")
+    same(f"the notes of {source}", texts[: len(texts) - len(out.rstrip("\n"))], notes)
 
 
 def check_pages(room):
@@ -789,6 +958,15 @@ def check_package():
         same(f"the matcher of {line!r}", found and tuple(found[pattern[it]] for it in ("file", "line", "column", "severity", "code", "message")), wanted)
 
 
+def check_faults(room):
+    """What `agcws check` tells of a source leads to its places by the package's matcher, and no other line of it does."""
+    pattern = json.loads(text_at(f"{EDITORS}/vscode/package.json"))["contributes"]["problemMatchers"][0]["pattern"]
+    source = write(f"{room}/two faults.agc", b" FROB 1\n SETLOC 4000\n CA X\n")
+    found = [re.match(pattern["regexp"], it) for it in pipe.faults_of(source)]
+    same("the places of faults", [tuple(it[pattern[part]] for part in ("file", "line", "column", "code")) for it in found if it], [(source, "1", "2", "E15"), (source, "3", "5", "E17")])
+    same("faults of a source that has none", pipe.faults_of(LOST[0]), [])
+
+
 def check_readme(room):
     """What README.md shows, and that it names each view."""
     os.symlink(examples.PROGRAM, f"{room}/agcws")
@@ -815,11 +993,14 @@ def main():
         check_shake(room)
         check_wave(room)
         check_dsky()
+        check_bridge(room)
+        check_bridge_parts(room)
         check_report(room)
         check_notes(room)
         check_operators(room)
         check_grammar()
         check_package()
+        check_faults(room)
         check_readme(room)
     return end()
 

@@ -6,6 +6,7 @@ import tempfile
 import time
 from typing import NamedTuple
 
+import panel
 import pipe
 
 # The most steps of a run, and of the position up to which the rows of the listing are told: a run to there takes a second or so.
@@ -38,6 +39,7 @@ class Desk:
         self.at = {row.place: row for row in self.rows if row.word}
         self.position, self.cycles, self.made = 0, 0, 0
         self.kept, self.outputs, self.watched, self.part = [], set(), {}, 1 << 12
+        self.display_words = []
         self.feed_text, self.added = None, None
 
     def end(self):
@@ -57,6 +59,7 @@ class Desk:
                 self.made = max(self.made, self.position)
             elif output := pipe.output_of(line):
                 self.outputs.add(output.channel)
+                self.display_words += [output] if output.channel in panel.CHANNELS else []
         if lines[:1] == ["ADDED"]:
             self.keep_input(command)
         if changes and command != "breaks":
@@ -127,6 +130,27 @@ class Desk:
             made = self.position - begun
             self.kept[first:] = [f"{name} {made}"] if len(self.kept) > first and made else self.kept[first:]
 
+    def until(self, cycles):
+        """Moves to the first step after which so many cycles have passed, in parts: the lines of each reply but the AT lines, as they come."""
+        first, target = len(self.kept), None
+        try:
+            while target != cycles:
+                is_far = cycles > self.cycles + self.part
+                target = self.cycles + self.part if is_far else cycles
+                at = time.monotonic()
+                lines = [it for it in self.ask(f"until {target}") if not it.startswith("AT ")]
+                self.fit_part(time.monotonic() - at)
+                yield lines
+                if any(not pipe.output_of(it) for it in lines):
+                    return
+        finally:
+            # (one command in place of the parts)
+            self.kept[first:] = self.kept[-1:] if len(self.kept) > first else []
+
+    def display(self):
+        """The display and keyboard (DSKY) at the position."""
+        return panel.Display(it for it in self.display_words if it.cycles <= self.cycles)
+
     def reverse(self):
         """Goes back to the last step before the position at which a breakpoint holds or that has changed a watched erasable place, else to the start: why it
         stands there."""
@@ -178,9 +202,13 @@ class Desk:
         self.watched = {name: self.word(name) or word for name, word in self.watched.items()}
 
     def registers(self):
-        """The registers and flags, each with its word as it is written."""
-        words = self.ask("regs")[0].split()
-        return dict(zip(words[::2], words[1::2]))
+        """The registers and flags, each with its word as it is written, and what is asked for, where the program tells that."""
+        lines = [it.split(" ", 1) for it in self.ask("regs all")]
+        if lines[0][0] == "E50":
+            words = self.ask("regs")[0].split()
+            lines = list(zip(words[::2], words[1::2]))
+        # (the cycles are no word)
+        return {name: word for name, word in lines if name != "CYCLES"}
 
     def word(self, place):
         """The word at a place, a symbol, a register or a channel (CH010), as it is written, or None."""

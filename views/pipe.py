@@ -133,11 +133,13 @@ def knows(*words):
 
 
 def faults_of(source):
-    """What the program tells of a refused source, line by line; nothing where it has no subcommand for that."""
+    """What the program tells of a source, line by line: its faults and warnings. Nothing where there are none, or where it has no subcommand for that."""
     if not knows("check"):
         return []
     ran = subprocess.run([program(), "check", source], stdin=subprocess.DEVNULL, capture_output=True, text=True, errors="replace", check=False)
-    return (ran.stdout or ran.stderr).splitlines()
+    lines = (ran.stdout or ran.stderr).splitlines()
+    # (the last one counts them)
+    return lines if len(lines) > 1 or ran.returncode else []
 
 
 def words_of(image, *options):

@@ -77,17 +77,6 @@ pub ended_lines-part : (part : List ℕ) → HasNoFeed part → ended_lines part
 unfolding ended_lines
 ended_lines-part part none = ap without_end (pieces-last part none)
 
--- the lines are those that line feeds end and, where a last one is left, that one
-pub lines-by_ended : (text : List ℕ) → (last : List (List ℕ)) × (lines text ≡ ended_lines text ++ last) × (length last ≤ 1)
-unfolding lines ended_lines
-lines-by_ended text = by_pieces (pieces text)
-  where
-    by_pieces : (ps : List (List ℕ)) → (last : List (List ℕ)) × (without_empty_end ps ≡ without_end ps ++ last) × (length last ≤ 1)
-    by_pieces [] = ([], refl, omega arith)
-    by_pieces ([] ∷ []) = ([], refl, omega arith)
-    by_pieces ((byte ∷ line) ∷ []) = ((byte ∷ line) ∷ [], refl, omega arith)
-    by_pieces (line ∷ next ∷ more) = let r = by_pieces (next ∷ more) in (r.0, with_more line (next ∷ more) (omega arith) ∙ ap (λ ls. line ∷ ls) r.1, r.2)
-
 -- one more byte of a line
 pub HasNoFeed-push : (part : List ℕ) (byte : ℕ) → HasNoFeed part → byte ≢ line_feed → HasNoFeed (part ++ byte ∷ [])
 HasNoFeed-push [] byte none other = (other, tt)

@@ -22,6 +22,15 @@ pub const COVER: &str = "cover";
 /// The name of the subcommand that debugs a program.
 pub const DEBUG: &str = "debug";
 
+/// The name of the subcommand that tells all faults of a source.
+pub const CHECK: &str = "check";
+
+/// The name of the subcommand that tells what a number of a refusal means.
+pub const EXPLAIN: &str = "explain";
+
+/// The argument that is the number of a refusal.
+pub const NUMBER: &str = "NUMBER";
+
 /// The name of the subcommand that upgrades an image.
 pub const UPGRADE: &str = "upgrade";
 
@@ -42,6 +51,12 @@ pub const IGNORED_PARITY: &str = "IGNORED_PARITY";
 
 /// How parity is passed over, as it is named.
 static PARITIES: [&str; 1] = ["ignore"];
+
+/// The option by which the words of an image are shown as a source that gives them.
+pub const AS_SOURCE: &str = "AS_SOURCE";
+
+/// The option by which a source is compared with an image, at the places that it fills.
+pub const ONLY: &str = "ONLY";
 
 /// The option that is the form of an image.
 pub const FORM: &str = "FORM";
@@ -121,6 +136,9 @@ pub const END: &str = "END";
 /// The option that tells how many steps are made, while they are made.
 pub const PROGRESS: &str = "PROGRESS";
 
+/// The option by which notes of a run are told.
+pub const NOTES: &str = "NOTES";
+
 const ASM_HELP: &str = "Files:
   SRC   a source in the assembler's language, at most 65536 lines of at most
         120 bytes. A label begins at the first byte of its line; operator,
@@ -142,7 +160,8 @@ Exit status:
   1  the source is refused
   2  the command line is wrong
   3  a file, a device or memory failed
-Status 1 and 3 print one line to standard error, as agcws: E14 LINE 9.";
+Status 1 and 3 print one line to standard error, as agcws: E14 LINE 9. What the
+number means: agcws explain E14. All faults of a source: agcws check SRC.";
 
 const UPGRADE_HELP: &str = "Files:
   OLD  a rope image of version 1, 73728 bytes: banks 2, 3, 0, 1, 4 to 43
@@ -177,6 +196,9 @@ word is. A word is read as an extracode where the words before it in its bank
 put extracode in force: EXTEND does for the next word, and INDEX that is read as
 an extracode keeps it. So a number that stands among the instructions may be
 shown as an instruction, and the word after it as an extracode that it is not.
+With --source a source that gives these words to agcws asm: for each bank a line
+BANK, and for each of its words a line as
+          OCT     64005   # 02,4001 AD 4005
 
 Exit status:
   0  done
@@ -192,6 +214,8 @@ const COMPARE_HELP: &str = "Files:
        With --parity ignore the lowest bit of each two bytes is passed over,
        whatever --old and --new say; with --old-form hardware and --new-form
        hardware a parity bit stands below the highest bit of each two bytes.
+       With --only OLD is a source, as agcws asm takes it, and only the places
+       that it fills are compared.
 
 Output: one line for each place where the words differ, banks in the order of
 their numbers, as
@@ -203,7 +227,7 @@ places differ.
 Exit status:
   0  the words are equal
   1  they differ; or an image is refused: it is short (E3) or long (E4), or the
-     lowest bit of two of its bytes is wrong (E5)
+     lowest bit of two of its bytes is wrong (E5); or the source is refused
   2  the command line is wrong
   3  a file, a device or memory failed
 A refusal and status 3 print one line to standard error, as agcws: E5, and write
@@ -281,13 +305,27 @@ With --end, when all steps are made, also one line to standard error, as
 with the lines written as OUTPUTS, and in octal Z, where the program stands.
 With --progress, after each 1048576 steps one line to standard error, as
   agcws: STEPS 1048576
+With --notes, when all steps are made and before the line of --end, lines to
+standard error of what has happened that is seldom meant, each kind at each
+place in one, with its first step, the cycles after it, and how often, as
+  NOTE QUOTIENT   02,4004  10100  DV D               STEP 5 CYCLES 13 TIMES 1
+    QUOTIENT   DV whose quotient does not fit
+    SKIP       TS that skips, since A overflows
+    NOWORD     a word is executed in fixed memory where none stands
+    ERASABLE   a word is executed in erasable memory, but at Q
+    NOHANDLER  an interrupt is entered where no word stands
+  and NOTE INSIDE STEP 20 where the run ends within an interrupt, and
+  NOTE WAITING T3RUPT STEP 7 CYCLES 5 where one is asked for since that step,
+  and is not entered, for 853 cycles or more
+The steps are then made twice.
 
 Exit status:
   0  done
   1  the source, or the image, or the feed is refused
   2  the command line is wrong
   3  a file, a device or memory failed
-Status 1 and 3 print one line to standard error, as agcws: E14 LINE 9.";
+Status 1 and 3 print one line to standard error, as agcws: E14 LINE 9. What the
+number means: agcws explain E14. All faults of a source: agcws check SRC.";
 
 const TRACE_HELP: &str = "Files:
   SRC   a source, as agcws run takes it, or with --image a rope image: then
@@ -317,7 +355,8 @@ Exit status:
   1  the source, or the image, or the feed is refused
   2  the command line is wrong
   3  a file, a device or memory failed
-Status 1 and 3 print one line to standard error, as agcws: E14 LINE 9.";
+Status 1 and 3 print one line to standard error, as agcws: E14 LINE 9. What the
+number means: agcws explain E14. All faults of a source: agcws check SRC.";
 
 const COVER_HELP: &str = "Files:
   SRC   a source, as agcws run takes it, or with --image a rope image
@@ -335,14 +374,17 @@ stand, with the same columns, one in each row:
   ENTRY  the interrupts that were entered
   BRUPT  the words that RESUME brought
   TOTAL  all steps, and all cycles
-Each step is counted once.
+Each step is counted once, so that the figures add up to those of TOTAL.
+With --progress, after each 1048576 steps one line to standard error, as
+  agcws: STEPS 1048576
 
 Exit status:
   0  done
   1  the source, or the image, or the feed is refused
   2  the command line is wrong
   3  a file, a device or memory failed
-Status 1 and 3 print one line to standard error, as agcws: E14 LINE 9.";
+Status 1 and 3 print one line to standard error, as agcws: E14 LINE 9. What the
+number means: agcws explain E14. All faults of a source: agcws check SRC.";
 
 const DEBUG_HELP: &str = "Files:
   SRC   a source, as agcws run takes it, or with --image a rope image: then
@@ -385,6 +427,11 @@ no reply, any other line E50 COMMAND, or E51 LONG above 80 bytes. E40 LIMIT ends
 a command at the last step, 1099511627774; E2 MEMORY leaves all as it was.
 
 With --extended there are these besides, and after E50 COMMAND stands why:
+  on, on K             from P on, over steps that stand and then new ones, to
+                       the next at which a breakpoint holds, at most K: AT line
+  until CYCLES         to the first step with so many cycles, back or on
+  regs all             all registers and flags, a line each; ASKED, the
+                       interrupts asked for; SUM and WORD, what waits; CYCLES
   breaks               the breakpoints, one a line, as BREAK I at PLACE; COUNT
   clear I              breakpoint I is taken away: CLEAR I, or NONE
   echo TEXT            TEXT, as it stands, so that a reply's end can be told
@@ -395,7 +442,36 @@ Exit status:
   1  the source, or the image, or the feed is refused
   2  the command line is wrong
   3  a file, a device or memory failed
-Status 1 and 3 print one line to standard error, as agcws: E14 LINE 9.";
+Status 1 and 3 print one line to standard error, as agcws: E14 LINE 9. What the
+number means: agcws explain E14. All faults of a source: agcws check SRC.";
+
+const CHECK_HELP: &str = "Files:
+  SRC  a source, as agcws asm takes it
+
+Output: for each fault, in the order of lines and columns,
+  my.agc:2:17: error E17: no line defines this symbol
+      2 | START   CA      FIV
+        |                 ^^^
+with the file, the line and the column, and then how many there are. A fault
+that follows from another, as that of a symbol whose own line is refused, is
+left out. agcws explain E17 tells what draws E17, and its cures.
+
+Exit status:
+  0  there is no fault: agcws asm takes the source
+  1  there is a fault; or the source is too long (E34)
+  2  the command line is wrong
+  3  a file, a device or memory failed
+E34 and status 3 print one line to standard error, as agcws: E6.";
+
+const EXPLAIN_HELP: &str =
+    "Output: what the number means, and each mistake that draws it, with a source or
+a feed where one is short, > before its line that is told, and the cure. Without
+a number a line for each.
+
+Exit status:
+  0  done
+  2  the command line is wrong, or no refusal has the number
+  3  a device or memory failed";
 
 /// The programs and their arguments.
 pub fn command<'a>(alloc: Global) -> Result<Command<'a>, AllocError> {
@@ -409,6 +485,8 @@ pub fn command<'a>(alloc: Global) -> Result<Command<'a>, AllocError> {
         .subcommand(trace_command(alloc)?)?
         .subcommand(cover_command(alloc)?)?
         .subcommand(debug_command(alloc)?)?
+        .subcommand(check_command(alloc)?)?
+        .subcommand(explain_command(alloc)?)?
         .subcommand(upgrade_command(alloc)?)?
         .subcommand(words_command(alloc)?)?
         .subcommand(compare_command(alloc)?)?
@@ -436,6 +514,28 @@ fn asm_command<'a>(alloc: Global) -> Result<Command<'a>, AllocError> {
         )
 }
 
+/// `agcws check SRC`.
+fn check_command<'a>(alloc: Global) -> Result<Command<'a>, AllocError> {
+    Command::new(alloc, CHECK)
+        .about("Tells all faults of a source, in words")
+        .after_help(CHECK_HELP)
+        .arg(
+            Arg::new(alloc, SOURCE)
+                .required(true)
+                .help("The source, a file"),
+        )
+}
+
+/// `agcws explain [NUMBER]`.
+fn explain_command<'a>(alloc: Global) -> Result<Command<'a>, AllocError> {
+    Command::new(alloc, EXPLAIN)
+        .about("Tells what the number of a refusal means")
+        .after_help(EXPLAIN_HELP)
+        .arg(Arg::new(alloc, NUMBER).help(
+            "The number, as E17 or 17; all are listed where none is given",
+        ))
+}
+
 /// `agcws upgrade OLD NEW`.
 fn upgrade_command<'a>(alloc: Global) -> Result<Command<'a>, AllocError> {
     Command::new(alloc, UPGRADE)
@@ -453,7 +553,7 @@ fn upgrade_command<'a>(alloc: Global) -> Result<Command<'a>, AllocError> {
         )
 }
 
-/// `agcws words [--rope VERSION] [--parity ignore] [--form FORM] ROPE [BANK]`.
+/// `agcws words [--source] [--rope VERSION] [--parity ignore] [--form FORM] ROPE [BANK]`.
 fn words_command<'a>(alloc: Global) -> Result<Command<'a>, AllocError> {
     Command::new(alloc, WORDS)
         .about("Shows the words of a rope image as instructions")
@@ -465,18 +565,32 @@ fn words_command<'a>(alloc: Global) -> Result<Command<'a>, AllocError> {
                 .hide_possible_values(true)
                 .help("The bank, 0 to 43 (octal); all where none is given"),
         )?
+        .arg(
+            Arg::new(alloc, AS_SOURCE)
+                .long("source")
+                .action(ArgAction::SetTrue)
+                .help("Writes a source that gives the words"),
+        )?
         .arg(version_option(alloc, VERSION, "rope"))?
         .arg(parity_option(alloc))?
         .arg(form_option(alloc, FORM, "form"))
 }
 
-/// `agcws compare [--old VERSION] [--new VERSION] [--parity ignore] [--old-form FORM] [--new-form FORM] OLD NEW`.
+/// `agcws compare [--only] [--old VERSION] [--new VERSION] [--parity ignore] [--old-form FORM] [--new-form FORM] OLD NEW`.
 fn compare_command<'a>(alloc: Global) -> Result<Command<'a>, AllocError> {
     Command::new(alloc, COMPARE)
         .about("Shows where the words of two rope images differ")
         .after_help(COMPARE_HELP)
         .arg(image_argument(alloc, OLD))?
         .arg(image_argument(alloc, NEW))?
+        .arg(
+            Arg::new(alloc, ONLY)
+                .long("only")
+                .action(ArgAction::SetTrue)
+                .conflicts_with(OLD_VERSION)?
+                .conflicts_with(OLD_FORM)?
+                .help("OLD is a source: its places alone"),
+        )?
         .arg(version_option(alloc, OLD_VERSION, "old"))?
         .arg(version_option(alloc, NEW_VERSION, "new"))?
         .arg(parity_option(alloc))?
@@ -578,7 +692,7 @@ fn steps_argument<'a>(alloc: Global) -> Arg<'a> {
         .help("How many steps, 0 to 1099511627774")
 }
 
-/// `agcws run [--end] [--progress] [--image] [--rope VERSION] [--parity ignore] [--form FORM] SRC FEED N`.
+/// `agcws run [--end] [--progress] [--notes] [--image] [--rope VERSION] [--parity ignore] [--form FORM] SRC FEED N`.
 fn run_command<'a>(alloc: Global) -> Result<Command<'a>, AllocError> {
     let command = Command::new(alloc, RUN)
         .about("Writes what a program puts out on channels in some steps")
@@ -591,7 +705,13 @@ fn run_command<'a>(alloc: Global) -> Result<Command<'a>, AllocError> {
                 .action(ArgAction::SetTrue)
                 .help("Tells how the run has ended, on standard error"),
         )?
-        .arg(progress_option(alloc))
+        .arg(progress_option(alloc))?
+        .arg(
+            Arg::new(alloc, NOTES)
+                .long("notes")
+                .action(ArgAction::SetTrue)
+                .help("Tells what is seldom meant, on standard error"),
+        )
 }
 
 /// `agcws trace [--progress] [--image] [--rope VERSION] [--parity ignore] [--form FORM] SRC FEED N [--from T] [--to T]`.
@@ -618,12 +738,14 @@ fn progress_option<'a>(alloc: Global) -> Arg<'a> {
         .help("Tells the steps made so far, on standard error")
 }
 
-/// `agcws cover [--image] [--rope VERSION] [--parity ignore] [--form FORM] SRC FEED N`.
+/// `agcws cover [--progress] [--image] [--rope VERSION] [--parity ignore] [--form FORM] SRC FEED N`.
 fn cover_command<'a>(alloc: Global) -> Result<Command<'a>, AllocError> {
     let command = Command::new(alloc, COVER)
         .about("Shows how often each word is executed, and for how many cycles")
         .after_help(COVER_HELP);
-    program_arguments(alloc, command)?.arg(steps_argument(alloc))
+    program_arguments(alloc, command)?
+        .arg(steps_argument(alloc))?
+        .arg(progress_option(alloc))
 }
 
 /// An option that is a step.

@@ -11,10 +11,10 @@ mod target;
 use clap::ArgMatches;
 use clap::error::ErrorKind;
 use command_line::{
-    ASM, BANK, BANK_COUNT, BANKS, COMPARE, COVER, DEBUG, END, EXTENDED, FEED, FORM, FROM,
-    IGNORED_PARITY, IMAGE, NEW, NEW_FORM, NEW_VERSION, OLD, OLD_FORM, OLD_VERSION, PARITY,
-    PROGRESS, ROPE, RUN, SOURCE, STEPS, SUMS, TO, TRACE, UPGRADE, VERSION, VERSION_ONE,
-    VERSION_TWO, WORDS, command,
+    AS_SOURCE, ASM, BANK, BANK_COUNT, BANKS, CHECK, COMPARE, COVER, DEBUG, END, EXPLAIN, EXTENDED,
+    FEED, FORM, FROM, IGNORED_PARITY, IMAGE, NEW, NEW_FORM, NEW_VERSION, NOTES, NUMBER, OLD,
+    OLD_FORM, OLD_VERSION, ONLY, PARITY, PROGRESS, ROPE, RUN, SOURCE, STEPS, SUMS, TO, TRACE,
+    UPGRADE, VERSION, VERSION_ONE, VERSION_TWO, WORDS, command,
 };
 use gathered::Gathered;
 use image_file::ImageFile;
@@ -23,12 +23,13 @@ use std::cell::Cell;
 use std::process::ExitCode;
 use std::{env, fs, io};
 use target::wrong_target;
-use words::{ReadAhead, Std, Write, write_all};
+use words::{Read, ReadAhead, Std, Write, write_all};
 use workshop::{
-    Bank, Form, InForm, Origin, Summary, Version, WorkshopFault, asm_engine, compare_engine,
-    cover_program, debug_extended, debug_program, may_run, parity_engine, report, run_and_tell,
-    run_program, sums_engine, trace_and_tell, trace_program, upgrade_engine, words_engine,
-    write_end,
+    Bank, Form, InForm, Origin, Refusal, Summary, Unheard, Version, WorkshopFault, all_headings,
+    asm_engine, check_engine, compare_engine, compare_only_engine, cover_and_tell, cover_program,
+    debug_extended, debug_program, explanation, may_run, parity_engine, refusal_of, report,
+    run_and_tell, run_program, run_with_notes, source_engine, sums_engine, trace_and_tell,
+    trace_program, upgrade_engine, words_engine, write_end,
 };
 
 /// The exit status where all is done.
@@ -36,6 +37,9 @@ const DONE: u8 = 0;
 
 /// The exit status where two images differ, or an image has a wrong parity.
 const DIFFERENT: u8 = 1;
+
+/// The exit status where a source has a fault.
+const REFUSED: u8 = 1;
 
 /// The exit status where the arguments are wrong.
 const WRONG_ARGUMENTS: u8 = 2;
@@ -50,6 +54,9 @@ const NO_FEED: &[u8] =
 /// What is said of a session without a feed.
 const NO_FEED_OF_SESSION: &[u8] =
     b"\nFEED is missing: where a program takes no inputs, it is /dev/null.\n";
+
+/// What is said of a number that no refusal has.
+const NO_REFUSAL: &[u8] = b"error: no refusal has this number; agcws explain lists them\n";
 
 /// The exit status where not even a fault's line can be written.
 const NOT_REPORTED: u8 = 3;
@@ -88,6 +95,8 @@ fn perform(rt: &HostRuntime) -> Result<u8, WorkshopFault> {
             Some((TRACE, matches)) => trace(rt, matches),
             Some((COVER, matches)) => cover(rt, matches),
             Some((DEBUG, matches)) => debug(rt, matches),
+            Some((CHECK, matches)) => check(rt, matches),
+            Some((EXPLAIN, matches)) => explain(rt, matches),
             Some((UPGRADE, matches)) => upgrade(rt, matches),
             Some((WORDS, matches)) => show_words(rt, matches),
             Some((COMPARE, matches)) => compare(rt, matches),
@@ -244,7 +253,7 @@ fn steps(matches: &ArgMatches<'_>) -> Option<u64>
     }
 }
 
-/// `agcws run [--end] [--progress] [--image] [--rope VERSION] [--parity ignore] [--form FORM] SRC FEED N`. Both files are opened before anything is read.
+/// `agcws run [--end] [--progress] [--notes] [--image] [--rope VERSION] [--parity ignore] [--form FORM] SRC FEED N`. Both files are opened before anything is read.
 fn run(rt: &HostRuntime, matches: &ArgMatches<'_>) -> Result<u8, WorkshopFault> {
     let (Some(origin), Some(source), Some(feed), Some(steps)) = (
         origin(matches),
@@ -257,8 +266,11 @@ fn run(rt: &HostRuntime, matches: &ArgMatches<'_>) -> Result<u8, WorkshopFault> 
     let mut program = InForm::new(opened(rt, source)?, form(matches, FORM));
     let mut feed = Std::new(fs::open(rt, feed).map_err(not_opened)?);
     let tells = matches.get_flag(PROGRESS);
+    let notes = matches.get_flag(NOTES);
     let summary = with_stdout(rt, |out| {
-        if tells {
+        if notes {
+            run_noted(rt, origin, &mut program, &mut feed, steps, out, tells)
+        } else if tells {
             let mut progress = Std::new(rt.stderr());
             run_and_tell(
                 rt.alloc(),
@@ -274,6 +286,45 @@ fn run(rt: &HostRuntime, matches: &ArgMatches<'_>) -> Result<u8, WorkshopFault> 
         }
     })?;
     end(rt, matches, &summary)
+}
+
+/// Runs a program, and tells then on standard error what has happened that is seldom meant.
+fn run_noted<P: Read, F: Read, W: Write>(
+    rt: &HostRuntime,
+    origin: Origin,
+    program: &mut P,
+    feed: &mut F,
+    steps: u64,
+    out: &mut W,
+    tells: bool,
+) -> Result<Summary, WorkshopFault>
+    requires { steps ≤ 2 ^ 40 - 2 }
+{
+    let mut notes = Std::new(rt.stderr());
+    if tells {
+        let mut progress = Std::new(rt.stderr());
+        run_with_notes(
+            rt.alloc(),
+            origin,
+            program,
+            feed,
+            steps,
+            out,
+            &mut progress,
+            &mut notes,
+        )
+    } else {
+        run_with_notes(
+            rt.alloc(),
+            origin,
+            program,
+            feed,
+            steps,
+            out,
+            &mut Unheard,
+            &mut notes,
+        )
+    }
 }
 
 /// Ends a run that is done: where `--end` stands, its summary is told on standard error.
@@ -330,7 +381,7 @@ fn trace(rt: &HostRuntime, matches: &ArgMatches<'_>) -> Result<u8, WorkshopFault
     Ok(DONE)
 }
 
-/// `agcws cover [--image] [--rope VERSION] [--parity ignore] [--form FORM] SRC FEED N`. Both files are opened before anything is read.
+/// `agcws cover [--progress] [--image] [--rope VERSION] [--parity ignore] [--form FORM] SRC FEED N`. Both files are opened before anything is read.
 fn cover(rt: &HostRuntime, matches: &ArgMatches<'_>) -> Result<u8, WorkshopFault> {
     let (Some(origin), Some(source), Some(feed), Some(steps)) = (
         origin(matches),
@@ -342,8 +393,22 @@ fn cover(rt: &HostRuntime, matches: &ArgMatches<'_>) -> Result<u8, WorkshopFault
     };
     let mut program = InForm::new(opened(rt, source)?, form(matches, FORM));
     let mut feed = Std::new(fs::open(rt, feed).map_err(not_opened)?);
+    let tells = matches.get_flag(PROGRESS);
     with_stdout(rt, |out| {
-        cover_program(rt.alloc(), origin, &mut program, &mut feed, steps, out)
+        if tells {
+            let mut progress = Std::new(rt.stderr());
+            cover_and_tell(
+                rt.alloc(),
+                origin,
+                &mut program,
+                &mut feed,
+                steps,
+                out,
+                &mut progress,
+            )
+        } else {
+            cover_program(rt.alloc(), origin, &mut program, &mut feed, steps, out)
+        }
     })?;
     Ok(DONE)
 }
@@ -383,6 +448,38 @@ fn debug(rt: &HostRuntime, matches: &ArgMatches<'_>) -> Result<u8, WorkshopFault
     Ok(DONE)
 }
 
+/// `agcws check SRC`.
+fn check(rt: &HostRuntime, matches: &ArgMatches<'_>) -> Result<u8, WorkshopFault> {
+    let Some(name) = matches.get_str(SOURCE) else {
+        return Ok(WRONG_ARGUMENTS);
+    };
+    let mut source = opened(rt, name)?;
+    let count = with_stdout(rt, |out| {
+        check_engine(rt.alloc(), name.as_bytes(), &mut source, out)
+    })?;
+    Ok(if count == 0 { DONE } else { REFUSED })
+}
+
+/// `agcws explain [NUMBER]`.
+fn explain(rt: &HostRuntime, matches: &ArgMatches<'_>) -> Result<u8, WorkshopFault> {
+    let text = match matches.get_str(NUMBER) {
+        None => all_headings(rt.alloc()),
+        Some(name) => match refusal_named(name) {
+            Some(refusal) => explanation(rt.alloc(), &refusal),
+            None => return refuse_arguments(rt, NO_REFUSAL),
+        },
+    };
+    let text = text.map_err(no_memory)?;
+    with_stdout(rt, |out| Ok(write_all(out, text.as_slice())?))?;
+    Ok(DONE)
+}
+
+/// The refusal of a number as it is named: 17, or E17.
+fn refusal_named(name: &str) -> Option<Refusal> {
+    let number = name.strip_prefix('E').unwrap_or(name).parse::<u8>().ok()?;
+    refusal_of(number)
+}
+
 /// `agcws upgrade OLD NEW`. The file NEW is made at the first write, so that a refused image leaves none. A path of the old
 /// image, or of a source, is refused for NEW before anything is opened.
 fn upgrade(rt: &HostRuntime, matches: &ArgMatches<'_>) -> Result<u8, WorkshopFault> {
@@ -411,17 +508,21 @@ fn ended<T: Drop>(
     }
 }
 
-/// `agcws words [--rope VERSION] [--parity ignore] [--form FORM] ROPE [BANK]`.
+/// `agcws words [--source] [--rope VERSION] [--parity ignore] [--form FORM] ROPE [BANK]`.
 fn show_words(rt: &HostRuntime, matches: &ArgMatches<'_>) -> Result<u8, WorkshopFault> {
     let (Some(rope), Some(version)) = (matches.get_str(ROPE), version(matches, VERSION)) else {
         return Ok(WRONG_ARGUMENTS);
     };
     let bank = matches.get_str(BANK).and_then(bank_named);
     let mut image = InForm::new(opened(rt, rope)?, form(matches, FORM));
-    with_stdout(
-        rt,
-        |out| words_engine(rt.alloc(), &mut image, version, bank, out),
-    )?;
+    let is_source = matches.get_flag(AS_SOURCE);
+    with_stdout(rt, |out| {
+        if is_source {
+            source_engine(rt.alloc(), &mut image, version, bank, out)
+        } else {
+            words_engine(rt.alloc(), &mut image, version, bank, out)
+        }
+    })?;
     Ok(DONE)
 }
 
@@ -435,7 +536,7 @@ fn bank_named(name: &str) -> Option<Bank> {
     None
 }
 
-/// `agcws compare [--old VERSION] [--new VERSION] [--parity ignore] [--old-form FORM] [--new-form FORM] OLD NEW`. Both files are opened before anything is read.
+/// `agcws compare [--only] [--old VERSION] [--new VERSION] [--parity ignore] [--old-form FORM] [--new-form FORM] OLD NEW`. Both files are opened before anything is read.
 fn compare(rt: &HostRuntime, matches: &ArgMatches<'_>) -> Result<u8, WorkshopFault> {
     let (Some(old), Some(new)) = (matches.get_str(OLD), matches.get_str(NEW)) else {
         return Ok(WRONG_ARGUMENTS);
@@ -446,6 +547,9 @@ fn compare(rt: &HostRuntime, matches: &ArgMatches<'_>) -> Result<u8, WorkshopFau
     ) else {
         return Ok(WRONG_ARGUMENTS);
     };
+    if matches.get_flag(ONLY) {
+        return compare_only(rt, matches, old, new, new_version);
+    }
     let mut old = InForm::new(opened(rt, old)?, form(matches, OLD_FORM));
     let mut new = InForm::new(opened(rt, new)?, form(matches, NEW_FORM));
     let count = with_stdout(rt, |out| {
@@ -457,6 +561,22 @@ fn compare(rt: &HostRuntime, matches: &ArgMatches<'_>) -> Result<u8, WorkshopFau
             new_version,
             out,
         )
+    })?;
+    Ok(if count == 0 { DONE } else { DIFFERENT })
+}
+
+/// `agcws compare --only [--new VERSION] [--parity ignore] [--new-form FORM] SRC ROPE`. Both files are opened before anything is read.
+fn compare_only(
+    rt: &HostRuntime,
+    matches: &ArgMatches<'_>,
+    source: &str,
+    rope: &str,
+    version: Version,
+) -> Result<u8, WorkshopFault> {
+    let mut source = Std::new(fs::open(rt, source).map_err(not_opened)?);
+    let mut image = InForm::new(opened(rt, rope)?, form(matches, NEW_FORM));
+    let count = with_stdout(rt, |out| {
+        compare_only_engine(rt.alloc(), &mut source, &mut image, version, out)
     })?;
     Ok(if count == 0 { DONE } else { DIFFERENT })
 }

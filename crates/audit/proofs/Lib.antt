@@ -2,3 +2,4 @@ pub mod Fronts
 pub mod Listed
 pub mod Places
 pub mod Steps
+pub mod TextRows

@@ -3,6 +3,7 @@ use Rattle.std.proofs.Common.{◌≡◌, ℕ, ◌+◌, ◌<◌, List, [], ◌++�
 use Rattle.words.specs.Devices.{WritesBeginning}
 use Rattle.words.proofs.Texts.{append-then, beginning-after, beginning-longer}
 use Rattle.rope.specs.Places.{Words}
+use Rattle.audit.specs.declared.differences.Extent.{Extent}
 use Rattle.audit.specs.Differences.{difference_line, difference_lines, differing, differences, count_line}
 use Rattle.audit.proofs.Fronts.{front}
 use Rattle.audit.proofs.Listed.{listed_none, writes_listed, begins_listed, listed_end}
@@ -30,14 +31,14 @@ unfolding difference_lines
 places_end old new f n count a b e written = listed_end (difference_line old new) f n count a b e written
 
 -- the lines of all places, and then how many there are
-pub differences_after : (old new : Words) (a b c count : List ℕ) → count ≡ count_line (length (differing old new)) → b ≡ a ++ difference_lines old new (differing old new) → c ≡ b ++ count → c ≡ a ++ differences old new
+pub differences_after : (extent : Extent) (old new : Words) (a b c count : List ℕ) → count ≡ count_line (length (differing extent old new)) → b ≡ a ++ difference_lines old new (differing extent old new) → c ≡ b ++ count → c ≡ a ++ differences extent old new
 unfolding differences
-differences_after old new a b c count e written next = append-then a b c _ _ written (rw e at next)
+differences_after extent old new a b c count e written next = append-then a b c _ _ written (rw e at next)
 
-pub differences_begin_after : (old new : Words) (a b c count : List ℕ) → count ≡ count_line (length (differing old new)) → b ≡ a ++ difference_lines old new (differing old new) → WritesBeginning b c count → WritesBeginning a c (differences old new)
+pub differences_begin_after : (extent : Extent) (old new : Words) (a b c count : List ℕ) → count ≡ count_line (length (differing extent old new)) → b ≡ a ++ difference_lines old new (differing extent old new) → WritesBeginning b c count → WritesBeginning a c (differences extent old new)
 unfolding differences
-differences_begin_after old new a b c count e written next = beginning-after a b c _ _ written (rw e at next)
+differences_begin_after extent old new a b c count e written next = beginning-after a b c _ _ written (rw e at next)
 
-pub differences_begin : (old new : Words) (a b : List ℕ) → WritesBeginning a b (difference_lines old new (differing old new)) → WritesBeginning a b (differences old new)
+pub differences_begin : (extent : Extent) (old new : Words) (a b : List ℕ) → WritesBeginning a b (difference_lines old new (differing extent old new)) → WritesBeginning a b (differences extent old new)
 unfolding differences
-differences_begin old new a b part = beginning-longer a b _ _ part
+differences_begin extent old new a b part = beginning-longer a b _ _ part

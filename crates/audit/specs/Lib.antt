@@ -1,4 +1,5 @@
 pub mod Differences
 pub mod Parities
+pub mod SourceLines
 pub mod Sums
 pub mod WordLines

@@ -1,9 +1,8 @@
 //! The places at which two fixed memories differ.
 
-ghost use Rattle.std.specs.Prelude.{◌≡◌, ◌<◌, ◌≤◌, ◌++◌, true, length, IfOk, decimal};
-ghost use Rattle.std.specs.List.{range_with_len, flat_map};
+ghost use Rattle.std.specs.Prelude.{◌≡◌, ◌<◌, ◌≤◌, true, length, IfOk};
 ghost use Rattle.words.specs.Devices.{Writes, failures_after};
-ghost use Rattle.audit.specs.Differences.{differing_at, differing_in, differing, difference_line, difference_lines, count_line, differences};
+ghost use Rattle.audit.specs.Differences.{is_compared, differing_at, differing_in, differing, difference_line, difference_lines, count_line, differences};
 ghost use Rattle.audit.specs.WordLines.{extracode_at};
 
 use crate::lines::{Line, bank_of, offset_of, push_instruction, push_place};
@@ -13,38 +12,75 @@ use rope::Rope;
 use space::{BANK_WORDS, Bank, FIXED_BANKS, Offset};
 use words::{Write, WriteFailed, push_all, push_decimal, push_octal, write_all};
 
-/// Writes a line for each place where the words of two fixed memories differ, banks by their numbers and offsets rising, as
+/// At which places the words of two fixed memories are compared.
+#[derive(Clone, Copy, PartialEq, Eq, Debug, Drop)]
+pub enum Extent {
+    /// At all.
+    All,
+    /// At those where a word stands in the old one.
+    Filled,
+}
+
+impl Extent {
+    /// Whether words are compared at a place.
+    fn has(self, old: &Rope, bank: Bank, offset: Offset) -> bool
+        ensures { result ≡ is_compared self old.now bank offset }
+    {
+        match self {
+            Extent::All => true,
+            Extent::Filled => old.has(bank, offset),
+        }
+    }
+}
+
+/// Writes a line for each place of an extent where the words of two fixed memories differ, banks by their numbers and offsets rising, as
 /// `02,4001 64005 64006 AD 4005, AD 4006`: the place, both words, and the instruction that each is. Then it writes how many
 /// places there are, as `COUNT 1`, and answers that.
 ///
 /// After a failure a beginning of it was written.
-pub fn write_differences<W: Write>(old: &Rope, new: &Rope, out: &mut W) -> Result<u32, WriteFailed>
-    ensures written { W.told ≡ true → Writes (W.written out.old) (W.written out.new) (differences old.now new.now) result }
-    ensures count { IfOk result (λ count. count ≡ length (differing old.now new.now)) }
+pub fn write_differences<W: Write>(
+    old: &Rope,
+    new: &Rope,
+    extent: Extent,
+    out: &mut W,
+) -> Result<u32, WriteFailed>
+    ensures written { W.told ≡ true → Writes (W.written out.old) (W.written out.new) (differences extent old.now new.now) result }
+    ensures count { IfOk result (λ count. count ≡ length (differing extent old.now new.now)) }
     ensures failures { W.failures out.new ≡ failures_after (W.failures out.old) result }
 {
-    let count = write_places(old, new, out)?;
+    let count = write_places(old, new, extent, out)?;
     write_all(out, count_line(count).as_slice())?;
     Ok(count)
 }
 
 /// Writes the lines of all places, and answers how many.
-fn write_places<W: Write>(old: &Rope, new: &Rope, out: &mut W) -> Result<u32, WriteFailed>
-    ensures written { W.told ≡ true → Writes (W.written out.old) (W.written out.new) (difference_lines old.now new.now (differing old.now new.now)) result }
-    ensures count { IfOk result (λ count. count ≡ length (differing old.now new.now)) }
+fn write_places<W: Write>(
+    old: &Rope,
+    new: &Rope,
+    extent: Extent,
+    out: &mut W,
+) -> Result<u32, WriteFailed>
+    ensures written { W.told ≡ true → Writes (W.written out.old) (W.written out.new) (difference_lines old.now new.now (differing extent old.now new.now)) result }
+    ensures count { IfOk result (λ count. count ≡ length (differing extent old.now new.now)) }
     ensures failures { W.failures out.new ≡ failures_after (W.failures out.old) result }
 {
     let mut count = 0;
     for bank in 0..FIXED_BANKS {
-        count += write_bank(old, new, bank_of(bank), out)?;
+        count += write_bank(old, new, extent, bank_of(bank), out)?;
     }
     Ok(count)
 }
 
 /// Writes the lines of a bank's places, and answers how many.
-fn write_bank<W: Write>(old: &Rope, new: &Rope, bank: Bank, out: &mut W) -> Result<u32, WriteFailed>
-    ensures written { W.told ≡ true → Writes (W.written out.old) (W.written out.new) (difference_lines old.now new.now (differing_in old.now new.now bank)) result }
-    ensures count { IfOk result (λ count. count ≡ length (differing_in old.now new.now bank)) }
+fn write_bank<W: Write>(
+    old: &Rope,
+    new: &Rope,
+    extent: Extent,
+    bank: Bank,
+    out: &mut W,
+) -> Result<u32, WriteFailed>
+    ensures written { W.told ≡ true → Writes (W.written out.old) (W.written out.new) (difference_lines old.now new.now (differing_in extent old.now new.now bank)) result }
+    ensures count { IfOk result (λ count. count ≡ length (differing_in extent old.now new.now bank)) }
     ensures few { IfOk result (λ count. count ≤ 1024) }
     ensures failures { W.failures out.new ≡ failures_after (W.failures out.old) result }
 {
@@ -52,7 +88,7 @@ fn write_bank<W: Write>(old: &Rope, new: &Rope, bank: Bank, out: &mut W) -> Resu
     let mut extra = (false, false);
     for number in 0..BANK_WORDS {
         let offset = offset_of(number);
-        count += write_place(old, new, bank, offset, extra, out)?;
+        count += write_place(old, new, extent, bank, offset, extra, out)?;
         extra = (
             extracode_after(old.word(bank, offset), extra.0),
             extracode_after(new.word(bank, offset), extra.1),
@@ -62,10 +98,11 @@ fn write_bank<W: Write>(old: &Rope, new: &Rope, bank: Bank, out: &mut W) -> Resu
 }
 
 /// Writes the line of a place where the words differ, and answers how many lines that is.
-#[tactic(auto, unfolding(crate::specs::Differences::difference_lines))]
+#[tactic(auto, unfolding(crate::specs::Differences::difference_lines, crate::specs::Differences::differing_at))]
 fn write_place<W: Write>(
     old: &Rope,
     new: &Rope,
+    extent: Extent,
     bank: Bank,
     offset: Offset,
     extra: (bool, bool),
@@ -73,11 +110,14 @@ fn write_place<W: Write>(
 ) -> Result<u32, WriteFailed>
     requires old { extra.0 ≡ extracode_at old.now bank offset }
     requires new { extra.1 ≡ extracode_at new.now bank offset }
-    ensures written { W.told ≡ true → Writes (W.written out.old) (W.written out.new) (difference_lines old.now new.now (differing_at old.now new.now bank offset)) result }
-    ensures count { IfOk result (λ count. count ≡ length (differing_at old.now new.now bank offset)) }
+    ensures written { W.told ≡ true → Writes (W.written out.old) (W.written out.new) (difference_lines old.now new.now (differing_at extent old.now new.now bank offset)) result }
+    ensures count { IfOk result (λ count. count ≡ length (differing_at extent old.now new.now bank offset)) }
     ensures few { IfOk result (λ count. count ≤ 1) }
     ensures failures { W.failures out.new ≡ failures_after (W.failures out.old) result }
 {
+    if !extent.has(old, bank, offset) {
+        return Ok(0);
+    }
     if old.word(bank, offset) == new.word(bank, offset) {
         return Ok(0);
     }

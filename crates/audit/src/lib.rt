@@ -1,12 +1,14 @@
-//! Fixed memory as text: its words, its differences from another, and the sums of its banks.
+//! Fixed memory as text: its words, a source that gives them, its differences from another, and the sums of its banks.
 #![tactic(auto)]
 
 mod differences;
 mod lines;
 mod parities;
+mod source;
 mod sums;
 
-pub use differences::write_differences;
+pub use differences::{Extent, write_differences};
 pub use lines::{word_line, write_words};
 pub use parities::write_parities;
+pub use source::write_source;
 pub use sums::write_sums;

@@ -1,6 +1,6 @@
 //! The words of fixed memory, a line for each.
 
-ghost use Rattle.std.specs.Prelude.{◌≡◌, ◌+◌, ◌<◌, ◌≤◌, ◌++◌, true, length};
+ghost use Rattle.std.specs.Prelude.{◌≡◌, ◌+◌, ◌<◌, ◌≤◌, ◌++◌, true};
 ghost use Rattle.std.specs.List.{range_with_len, flat_map};
 ghost use Rattle.arrayvec.specs.ArrayVec.{array_vec_len};
 ghost use Rattle.words.specs.Devices.{Writes, failures_after};
@@ -79,7 +79,7 @@ pub fn word_line(rope: &Rope, bank: Bank, offset: Offset, extra: bool) -> Line
 /// Appends a place.
 #[tactic(auto, unfolding(crate::specs::WordLines::place_text))]
 pub(crate) fn push_place(line: &mut Line, bank: Bank, offset: Offset)
-    requires { array_vec_len line.old ≤ 10 }
+    requires { array_vec_len line.old ≤ 40 }
     ensures items { line.new.items ≡ line.old.items ++ place_text bank offset }
     ensures len { array_vec_len line.new ≡ array_vec_len line.old + 7 }
 {

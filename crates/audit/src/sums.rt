@@ -3,7 +3,7 @@
 ghost use Rattle.std.specs.Prelude.{◌≡◌, ◌<◌, true};
 ghost use Rattle.words.specs.Devices.{Writes, failures_after};
 ghost use Rattle.rope.specs.Places.{bank_words};
-ghost use Rattle.audit.specs.Sums.{added, carried, sum_before, sum_line, sum_lines};
+ghost use Rattle.audit.specs.Sums.{added, sum_before, sum_line, sum_lines};
 
 use crate::lines::{Line, bank_of, offset_of};
 use arrayvec::ArrayVec;

@@ -29,7 +29,7 @@ none-taken (entry ∷ more) name texts none =
 -- two fields are too many after any name
 pub two-too-many : (name a b : List ℕ) (more : List (List ℕ)) → option_and_then (λ form. form (a ∷ b ∷ more)) (value_in extended_forms name) ≡ None
 unfolding extended_forms
-two-too-many name a b more = none-taken extended_forms name (a ∷ b ∷ more) (refl, (refl, (refl, tt)))
+two-too-many name a b more = none-taken extended_forms name (a ∷ b ∷ more) (refl, (refl, (refl, (refl, (refl, (refl, tt))))))
 
 -- what a line asks for that is kept whole
 pub extended-kept : (symbols : SymbolTable) (line text : List ℕ) → Some text ≡ kept line → extended_in symbols text (fields text) ≡ extended_request_of symbols line

@@ -13,10 +13,10 @@ use Rattle.symbols.specs.Values.{SymbolTable}
 use Rattle.commands.specs.Commands.{forms}
 use Rattle.commands.specs.Extended.{extended_request_of, extended_forms}
 use Rattle.commands.specs.Usages.{usages}
-use Rattle.commands.specs.declared.command.Command.TheVariants.{Memory, Clear, Step, Add}
+use Rattle.commands.specs.declared.command.Command.TheVariants.{Registers, Memory, Clear, Step, Add}
 use Rattle.commands.specs.declared.command.Request.TheVariants.{Nothing, TooLong, WrongCounter, Known}
 use Rattle.commands.specs.declared.extended.ExtendedRequest.{ExtendedRequest}
-use Rattle.commands.specs.declared.extended.ExtendedRequest.TheVariants.{Plain, Says, Help, Breaks, ClearOne}
+use Rattle.commands.specs.declared.extended.ExtendedRequest.TheVariants.{Plain, Says, Help, Breaks, ClearOne, On, AllRegisters, Until}
 
 -- a place in fixed memory, and a number that is no place
 abbrev symbols : SymbolTable
@@ -26,8 +26,8 @@ abbrev asked : List (List ℕ) → List ExtendedRequest
 asked lines = map (extended_request_of symbols) lines
 
 -- what no other session is asked for
-further : asked (codes "breaks" ∷ codes "clear 2 # the second" ∷ codes "help" ∷ codes "help mem" ∷ [])
-    ≡ Breaks ∷ ClearOne 2 ∷ Help ∷ Says (codes "HELP mem takes a place: the word there\n") ∷ []
+further : asked (codes "breaks" ∷ codes "clear 2 # the second" ∷ codes "help" ∷ codes "help mem" ∷ codes "on" ∷ codes "on 5" ∷ codes "regs all" ∷ codes "regs" ∷ codes "until 123456789012345" ∷ [])
+    ≡ Breaks ∷ ClearOne 2 ∷ Help ∷ Says (codes "HELP mem takes a place: the word there\n") ∷ On 999999999999999 ∷ On 5 ∷ AllRegisters ∷ Plain (Known Registers) ∷ Until 123456789012345 ∷ []
 unfolding extended_request_of extended_forms usages forms runs parsed counters sequences
 further = refl
 
@@ -44,13 +44,16 @@ unfolding extended_request_of extended_forms usages forms runs parsed counters s
 echoes = refl
 
 -- refusals say which field they mean
-refusals : asked (codes "mem FIV" ∷ codes "break at FIV" ∷ codes "mem BIG" ∷ codes "mem FIVE 2" ∷ codes "last FIVE" ∷ codes "break chan 1000 5" ∷ codes "stop" ∷ codes "help stop" ∷ codes "clear x" ∷ codes "add 12 TIME1" ∷ [])
+refusals : asked (codes "mem FIV" ∷ codes "break at FIV" ∷ codes "mem BIG" ∷ codes "mem FIVE 2" ∷ codes "last FIVE" ∷ codes "break chan 1000 5" ∷ codes "until" ∷ codes "regs some" ∷ codes "regs all all" ∷ codes "stop" ∷ codes "help stop" ∷ codes "clear x" ∷ codes "add 12 TIME1" ∷ [])
     ≡ Says (codes "E50 COMMAND no symbol FIV\n")
     ∷ Says (codes "E50 COMMAND no symbol FIV\n")
     ∷ Says (codes "E50 COMMAND mem takes a place\n")
     ∷ Says (codes "E50 COMMAND mem takes a place\n")
     ∷ Says (codes "E50 COMMAND last takes an erasable place\n")
     ∷ Says (codes "E50 COMMAND break takes at PLACE, word PLACE WORD or chan CHANNEL WORD\n")
+    ∷ Says (codes "E50 COMMAND until takes a number of cycles\n")
+    ∷ Says (codes "E50 COMMAND regs takes all, or nothing\n")
+    ∷ Says (codes "E50 COMMAND regs takes all, or nothing\n")
     ∷ Says (codes "E50 COMMAND no command stop\n")
     ∷ Says (codes "E50 COMMAND help takes a command, or nothing\n")
     ∷ Says (codes "E50 COMMAND clear takes a breakpoint's number, or nothing\n")

@@ -1,5 +1,5 @@
 -- Lines taken off a text, a byte at a time.
-use Rattle.std.proofs.Common.{◌≡◌, ◌≢◌, ℕ, ◌+◌, Bool, true, false, not, ◌||◌, Option, Some, List, [], ◌∷◌, ◌++◌, length, take, refl, ap, ◌∙◌, sym, eqb, arith, add-one, append_assoc, length-append}
+use Rattle.std.proofs.Common.{◌≡◌, ◌≢◌, ℕ, ◌+◌, Bool, true, false, not, ◌||◌, Option, List, [], ◌∷◌, ◌++◌, length, take, refl, ap, ◌∙◌, sym, eqb, arith, add-one, append_assoc, length-append}
 use Rattle.std.proofs.Math.Seq.{take-append-add}
 use Rattle.std.proofs.lemmas.List.{append-nil}
 use Rattle.std.proofs.lemmas.Bool.{ne_eqb, eqb-false, both_ways}
@@ -76,22 +76,6 @@ reads-more {old} {now} {new} {before} {between} {after} first second = record {
   bytes = first.bytes ++ second.bytes;
   split = first.split ∙ ap (λ t. first.bytes ++ t) second.split ∙ sym (append_assoc first.bytes second.bytes new);
   within = simp length-append (omega (arith, first.within, second.within));
-}
-
--- nothing was read
-pub reads-none : (left : List ℕ) (most : ℕ) → ReadsWithin left left most most
-reads-none left most = record { bytes = []; split = refl; within = omega arith }
-
--- a line of which nothing was read yet
-pub reading-none : (text : List ℕ) (before : ℕ) → Reading text before (Some []) text before false
-reading-none text before = record { part = []; no_feed = tt; split = refl; count = omega arith; kept_of = refl; some = refl }
-
--- a call failed in the midst of a line
-pub ends-none : {text : List ℕ} {before : ℕ} {line : Option (List ℕ)} {rest : List ℕ} {now : ℕ} {begun : Bool} (left : List ℕ) → Reading text before line rest now begun → rest ≡ left → EndsNoLine text left
-ends-none {text} {before} {line} {rest} {now} {begun} left r e = record {
-  part = r.part;
-  no_feed = r.no_feed;
-  split = r.split ∙ ap (λ t. r.part ++ t) e;
 }
 
 -- one of two is true

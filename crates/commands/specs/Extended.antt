@@ -10,7 +10,11 @@ use Rattle.commands.specs.Usages.{Usage, usages, help_line}
 use Rattle.commands.specs.declared.command.Request.{Request}
 use Rattle.commands.specs.declared.command.Request.TheVariants.{Nothing, TooLong, Unknown, WrongCounter, Known}
 use Rattle.commands.specs.declared.extended.ExtendedRequest.{ExtendedRequest}
-use Rattle.commands.specs.declared.extended.ExtendedRequest.TheVariants.{Plain, Says, Help, Breaks, ClearOne}
+use Rattle.commands.specs.declared.extended.ExtendedRequest.TheVariants.{Plain, Says, Help, Breaks, ClearOne, On, AllRegisters, Until}
+
+-- the most steps that a command can name
+abbrev pub most_count : ℕ
+most_count = 999999999999999
 
 -- a form of command: what it makes of the fields after its name, where they have its form
 abbrev pub ExtendedForm : Type 0
@@ -27,6 +31,12 @@ with_field read request [] = None
 with_field read request (field ∷ []) = option_map request (read field)
 with_field read request (field ∷ next ∷ more) = None
 
+-- one field, which is a word
+abbrev pub with_word : List ℕ → ExtendedRequest → ExtendedForm
+with_word word request [] = None
+with_word word request (field ∷ []) = if same_name field word then Some request else None
+with_word word request (field ∷ next ∷ more) = None
+
 -- no field, or one
 abbrev pub with_field_or : {X : Type 0} → ExtendedRequest → (List ℕ → Option X) → (X → ExtendedRequest) → ExtendedForm
 with_field_or alone read request [] = Some alone
@@ -39,7 +49,10 @@ help_in name = option_map (λ usage. help_line (name, usage)) (value_in usages n
 -- the commands that an extended session has besides, but for `echo`
 unfoldable pub extended_forms : List (List ℕ × ExtendedForm)
 extended_forms =
-    (codes "breaks", with_none Breaks)
+    (codes "on", with_field_or (On most_count) count_in (λ k. On k))
+    ∷ (codes "until", with_field count_in (λ cycles. Until cycles))
+    ∷ (codes "regs", with_word (codes "all") AllRegisters)
+    ∷ (codes "breaks", with_none Breaks)
     ∷ (codes "clear", with_field count_in (λ i. ClearOne i))
     ∷ (codes "help", with_field_or Help help_in (λ text. Says text))
     ∷ []

@@ -15,6 +15,8 @@ pub enum Breakpoint {
     Word(Eras, Word),
     /// A channel holds a word.
     Channel(Chan, Word),
+    /// So many cycles have passed.
+    Cycles(u64),
 }
 
 /// A command.

@@ -17,6 +17,9 @@ use crate::usage::{help_of, usage_of};
 use agc_text::{before_comment, next_field, split_field};
 use symbols::Symbols;
 
+/// The most steps that a command can name.
+pub const MOST_COUNT: u64 = 999_999_999_999_999;
+
 /// What a line of an extended session asks for.
 #[derive(Drop)]
 pub enum ExtendedRequest {
@@ -30,6 +33,12 @@ pub enum ExtendedRequest {
     Breaks,
     /// One breakpoint less, by its number.
     ClearOne(u64),
+    /// On from the position up to a breakpoint, at most so many steps.
+    On(u64),
+    /// To the first step with at least so many cycles.
+    Until(u64),
+    /// All registers, with what waits and what is asked for.
+    AllRegisters,
 }
 
 /// What a line of an extended session asks for, where the symbols of a program stand.
@@ -95,7 +104,9 @@ fn command_in(name: &[u8], rest: &[u8]) -> Option<ExtendedRequest>
 fn command_alone(name: &[u8]) -> Option<ExtendedRequest>
     ensures { result ≡ option_and_then (λ form. form []) (value_in extended_forms name.now) }
 {
-    if name == "breaks".as_bytes() {
+    if name == "on".as_bytes() {
+        Some(ExtendedRequest::On(MOST_COUNT))
+    } else if name == "breaks".as_bytes() {
         Some(ExtendedRequest::Breaks)
     } else if name == "help".as_bytes() {
         Some(ExtendedRequest::Help)
@@ -110,7 +121,13 @@ fn command_of_one(name: &[u8], field: &[u8]) -> Option<ExtendedRequest>
     requires { length field.now ≤ 80 }
     ensures { result ≡ option_and_then (λ form. form (field.now ∷ [])) (value_in extended_forms name.now) }
 {
-    if name == "clear".as_bytes() {
+    if name == "on".as_bytes() {
+        count_in(field).map(ExtendedRequest::On)
+    } else if name == "until".as_bytes() {
+        count_in(field).map(ExtendedRequest::Until)
+    } else if name == "regs".as_bytes() {
+        (field == "all".as_bytes()).then_some(ExtendedRequest::AllRegisters)
+    } else if name == "clear".as_bytes() {
         count_in(field).map(ExtendedRequest::ClearOne)
     } else if name == "help".as_bytes() {
         help_of(field).map(ExtendedRequest::Says)

@@ -16,7 +16,7 @@ mod usage;
 
 pub use breakpoints::{Breakpoints, MOST_BREAKPOINTS};
 pub use command::{Breakpoint, Command, Request};
-pub use extended::{ExtendedRequest, extended_request_of};
+pub use extended::{ExtendedRequest, MOST_COUNT, extended_request_of};
 pub use line::{COMMAND_LENGTH, CommandLine};
 pub use phrase::Phrase;
 pub use reading::{DeviceFault, LineReader, MOST_BYTES};

@@ -16,7 +16,7 @@ use words::push_all;
 type Row = (&'static str, &'static str, &'static str);
 
 /// The rows of the help.
-const ROWS: [Row; 19] = [
+const ROWS: [Row; 21] = [
     (
         "step",
         "a number of steps",
@@ -26,6 +26,16 @@ const ROWS: [Row; 19] = [
         "run",
         "a number of steps",
         "so many new steps, up to a breakpoint",
+    ),
+    (
+        "on",
+        "a number of steps, or nothing",
+        "on from the position, up to a breakpoint",
+    ),
+    (
+        "until",
+        "a number of cycles",
+        "to the first step with so many cycles",
     ),
     ("back", "a number of steps", "so many steps back"),
     ("goto", "a step", "to the step"),
@@ -41,7 +51,11 @@ const ROWS: [Row; 19] = [
         "a breakpoint's number, or nothing",
         "takes it away, or all",
     ),
-    ("regs", "nothing", "the registers, and the next instruction"),
+    (
+        "regs",
+        "all, or nothing",
+        "all registers, or most and the next instruction",
+    ),
     ("mem", "a place", "the word there"),
     ("chan", "a channel", "the word there"),
     (
@@ -112,8 +126,8 @@ pub(crate) fn help_of(name: &[u8]) -> Option<Phrase>
     Some(phrase)
 }
 
-/// The most bytes of the whole help: 19 lines of at most 128.
-const HELP_TEXT: usize = 2_432;
+/// The most bytes of the whole help: 21 lines of at most 128.
+const HELP_TEXT: usize = 2_688;
 
 /// The lines of the whole help.
 pub type HelpText = ArrayVec<u8, HELP_TEXT>;

@@ -1,17 +1,16 @@
 -- Each account stands once among all.
-use Rattle.std.proofs.Common.{◌≡◌, ◌≢◌, ℕ, zero, suc, ◌+◌, ◌*◌, ◌<◌, ◌≤◌, ◌==◌, ◌&&◌, nat_lt, Bool, true, false, cond, List, [], ◌∷◌, ◌++◌, map, refl, sym, ap, ◌∙◌, inl, inr, arith}
-use Rattle.std.proofs.lemmas.Bool.{cases_Bool, eqb-true, eqb-false, and_parts, ltb-true, lt-ltb}
+use Rattle.std.proofs.Common.{◌≡◌, ◌≢◌, ℕ, zero, suc, ◌+◌, ◌*◌, ◌<◌, ◌≤◌, ◌==◌, ◌&&◌, nat_lt, true, false, List, [], ◌∷◌, ◌++◌, map, refl, ap, ◌∙◌, inl, inr, arith}
+use Rattle.std.proofs.lemmas.Bool.{eqb-true, eqb-false, and_parts, ltb-true, lt-ltb}
 use Rattle.std.proofs.lemmas.Bool.Decides.{eqb_tells, nat_tests}
 use Rattle.std.specs.List.{range_with_len, flat_map}
 use Rattle.space.specs.declared.place.Linear.{Linear}
 use Rattle.space.specs.declared.place.Linear.TheVariants.{Erasable, Fixed}
 use Rattle.cpu.specs.declared.account.Account.{Account}
 use Rattle.cpu.specs.declared.account.Account.TheVariants.{Input, Entry, Waiting, Place}
-use Rattle.space.specs.Places.{same_place}
 use Rattle.cpu.specs.Profiles.{same_account, times_in}
 use Rattle.cover.specs.Tallies.{IsAccount, is_account, account_number, all_accounts, bank_accounts, erasable_accounts}
 
-times_append : (a : Account) (xs ys : List Account) → times_in a (xs ++ ys) ≡ times_in a xs + times_in a ys
+pub times_append : (a : Account) (xs ys : List Account) → times_in a (xs ++ ys) ≡ times_in a xs + times_in a ys
 times_append a [] ys = omega arith
 times_append a (x ∷ xs) ys = let rest = times_append a xs ys in omega (arith, rest)
 
@@ -39,7 +38,7 @@ one_in a f x from (suc n) hit miss h lt =
     ]
 
 -- the same of a range whose numbers give lists
-none_of : (a : Account) (f : ℕ → List Account) (from n : ℕ) → ((j : ℕ) → from ≤ j → j < from + n → times_in a (f j) ≡ 0) → times_in a (flat_map f (range_with_len from n)) ≡ 0
+pub none_of : (a : Account) (f : ℕ → List Account) (from n : ℕ) → ((j : ℕ) → from ≤ j → j < from + n → times_in a (f j) ≡ 0) → times_in a (flat_map f (range_with_len from n)) ≡ 0
 none_of a f from zero apart = refl
 none_of a f from (suc n) apart =
     let first = apart from (omega arith) (omega arith) in
@@ -47,7 +46,7 @@ none_of a f from (suc n) apart =
     let both = times_append a (f from) (flat_map f (range_with_len (from + 1) n)) in
     omega (arith, first, rest, both)
 
-one_of : (a : Account) (f : ℕ → List Account) (x from n : ℕ) → times_in a (f x) ≡ 1 → ((j : ℕ) → j ≢ x → times_in a (f j) ≡ 0) → from ≤ x → x < from + n
+pub one_of : (a : Account) (f : ℕ → List Account) (x from n : ℕ) → times_in a (f x) ≡ 1 → ((j : ℕ) → j ≢ x → times_in a (f j) ≡ 0) → from ≤ x → x < from + n
     → times_in a (flat_map f (range_with_len from n)) ≡ 1
 one_of a f x from zero hit miss h lt = absurd (omega (arith, h, lt))
 one_of a f x from (suc n) hit miss h lt =
@@ -63,21 +62,21 @@ one_of a f x from (suc n) hit miss h lt =
           omega (arith, first, rest, both)
     ]
 
-same_number : (n : ℕ) → (n == n) ≡ true
+pub same_number : (n : ℕ) → (n == n) ≡ true
 same_number n = grind (arith, nat_tests)
 
-other_number : (n m : ℕ) → n ≢ m → (n == m) ≡ false
+pub other_number : (n m : ℕ) → n ≢ m → (n == m) ≡ false
 other_number n m apart = grind (arith, nat_tests)
 
 -- places of erasable memory
-erasable_once : (p : ℕ) → p < 2048 → times_in (Place (Erasable p)) erasable_accounts ≡ 1
+pub erasable_once : (p : ℕ) → p < 2048 → times_in (Place (Erasable p)) erasable_accounts ≡ 1
 erasable_once p lt = one_in (Place (Erasable p)) (λ j. Place (Erasable j)) p 0 2048 (same_number p) (λ j apart. other_number j p apart) (omega arith) (omega (arith, lt))
 
 no_bank_erasable : (p bank : ℕ) → times_in (Place (Erasable p)) (bank_accounts bank) ≡ 0
 no_bank_erasable p bank = none_in (Place (Erasable p)) (λ j. Place (Fixed bank j)) 0 1024 (λ j h lt. refl)
 
 -- places of fixed memory
-no_erasable_fixed : (bank offset : ℕ) → times_in (Place (Fixed bank offset)) erasable_accounts ≡ 0
+pub no_erasable_fixed : (bank offset : ℕ) → times_in (Place (Fixed bank offset)) erasable_accounts ≡ 0
 no_erasable_fixed bank offset = none_in (Place (Fixed bank offset)) (λ j. Place (Erasable j)) 0 2048 (λ j h lt. refl)
 
 fixed_once : (bank offset : ℕ) → offset < 1024 → times_in (Place (Fixed bank offset)) (bank_accounts bank) ≡ 1
@@ -93,7 +92,7 @@ banks_once bank offset few lt =
     one_of (Place (Fixed bank offset)) bank_accounts bank 0 40 (fixed_once bank offset lt) (λ j apart. other_bank bank offset j apart) (omega arith) (omega (arith, few))
 
 -- what is served at no place stands among no places
-none_erasable : (a : Account) → ((place : Linear) → same_account (Place place) a ≡ false) → times_in a erasable_accounts ≡ 0
+pub none_erasable : (a : Account) → ((place : Linear) → same_account (Place place) a ≡ false) → times_in a erasable_accounts ≡ 0
 none_erasable a apart = none_in a (λ j. Place (Erasable j)) 0 2048 (λ j h lt. apart (Erasable j))
 
 none_fixed : (a : Account) → ((place : Linear) → same_account (Place place) a ≡ false) → times_in a (flat_map bank_accounts (range_with_len 0 40)) ≡ 0

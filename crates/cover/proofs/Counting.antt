@@ -1,21 +1,22 @@
 -- The figures of a run, step by step.
-use Rattle.std.proofs.Common.{◌≡◌, ◌≢◌, ℕ, zero, suc, ◌+◌, ◌-◌, ◌<◌, ◌≤◌, ◌^◌, true, false, cond, List, length, replicate, get_or, set, refl, sym, ap, ◌∙◌, inl, inr, arith, add-one, subst}
+use Rattle.std.proofs.Common.{◌≡◌, ℕ, zero, suc, ◌+◌, ◌<◌, ◌≤◌, ◌^◌, true, false, List, length, replicate, get_or, set, refl, sym, ap, ◌∙◌, inl, inr, arith, add-one}
 use Rattle.std.proofs.lemmas.Bool.{cases_Bool}
 use Rattle.std.proofs.lemmas.Bool.Decides.{eqb_tells}
-use Rattle.std.proofs.lemmas.List.{get_or-replicate, get_or-set_same, get_or-set_other, length-replicate, length-set}
+use Rattle.std.proofs.lemmas.List.{get_or-set_same, get_or-set_other, length-replicate, length-set}
 use Rattle.cpu.specs.declared.account.Account.{Account}
 use Rattle.cpu.specs.Next.{next}
 use Rattle.cpu.specs.Profiles.{account_of, count_at, cycles_at, same_account, step_cycles}
 use Rattle.cpu.specs.Run.{run}
 use Rattle.space.specs.declared.place.Linear.TheVariants.{Erasable, Fixed}
 use Rattle.cpu.specs.declared.account.Account.TheVariants.{Input, Entry, Waiting, Place}
-use Rattle.cpu.specs.State.{State, Scenario, FitsRun, start}
+use Rattle.cpu.specs.State.{State, Scenario, FitsRun}
 use Rattle.cpu.proofs.TakenLaws.{run-fits}
 use Rattle.cpu.proofs.Profiling.{profile_adds_up}
 use Rattle.cpu.proofs.RunLaws.{cycles-run, rise-next, run-add-one}
 use Rattle.cover.specs.declared.tally.Figures.{Figures}
-use Rattle.cover.specs.Tallies.{AllAddUp, all_accounts, AreSmall, Counts, IsAccount, is_account, account_count, account_number, figures_at, no_figures, one_step_more, profile_of, put_down}
+use Rattle.cover.specs.Tallies.{AllAddUp, all_accounts, RowsAddUp, shown_accounts, AreSmall, Counts, IsAccount, is_account, account_count, account_number, figures_at, no_figures, one_step_more, profile_of, put_down}
 use Rattle.cover.proofs.Accounts.{is_one, once, one_is, other_account, same_is_one}
+use Rattle.cover.proofs.ShownAccounts.{shown_once}
 
 no_figures_in : (n k : ℕ) → get_or (replicate n no_figures) k no_figures ≡ no_figures
 no_figures_in zero k = refl
@@ -119,6 +120,10 @@ counts_more scenario now n s old new same at before here e =
 -- all of them
 pub adds_up : (scenario : Scenario) (n : ℕ) (figures : List Figures) → Counts scenario n figures → AllAddUp scenario n
 adds_up scenario n figures counts = profile_adds_up scenario n all_accounts (λ t lt. once (account_of scenario (run scenario t)) (counts.known t lt))
+
+pub rows_add_up : (scenario : Scenario) (n : ℕ) (figures : List Figures) → Counts scenario n figures → RowsAddUp scenario n
+rows_add_up scenario n figures counts =
+    profile_adds_up scenario n (shown_accounts scenario.rope) (λ t lt. shown_once scenario.rope (account_of scenario (run scenario t)) (counts.known t lt))
 
 -- the figures of each account are small
 pub small : (scenario : Scenario) (n : ℕ) (figures : List Figures) → n < 2 ^ 40 → Counts scenario n figures → (a : Account) → IsAccount a → AreSmall (figures_at figures a)

@@ -1,3 +1,6 @@
 pub mod Accounts
 pub mod Counting
 pub mod Rows
+mod ShownAccounts
+mod FiguresOfFive
+mod RowTexts

@@ -3,7 +3,7 @@ use Rattle.std.specs.Prelude.{◌≡◌, ℕ, ◌+◌, ◌*◌, ◌<◌, ◌≤�
 use Rattle.std.specs.List.{range_with_len, flat_map}
 use Rattle.space.specs.Cells.{erasable_count}
 use Rattle.space.specs.declared.place.Linear.TheVariants.{Erasable, Fixed}
-use Rattle.rope.specs.Places.{bank_words, place_number}
+use Rattle.rope.specs.Places.{Words, bank_words, place_number, stands}
 use Rattle.cpu.specs.declared.account.Account.{Account}
 use Rattle.cpu.specs.declared.account.Account.TheVariants.{Input, Entry, Waiting, Place}
 use Rattle.cpu.specs.Profiles.{account_of, count_at, cycles_at, AddsUp}
@@ -37,6 +37,30 @@ all_accounts = (Input ∷ Entry ∷ Waiting ∷ []) ++ (erasable_accounts ++ fla
 -- each step of a run is counted at exactly one of all accounts: their cycles are the run's, and their counts its steps
 abbrev pub AllAddUp : Scenario → ℕ → Type 0
 AllAddUp scenario n = AddsUp scenario n all_accounts
+
+-- the account of a place of fixed memory where a word stands, and of one where none does
+abbrev pub word_account : Words → ℕ → ℕ → List Account
+word_account words bank offset = if stands words bank offset then Place (Fixed bank offset) ∷ [] else []
+
+abbrev pub empty_account : Words → ℕ → ℕ → List Account
+empty_account words bank offset = if stands words bank offset then [] else Place (Fixed bank offset) ∷ []
+
+abbrev pub word_accounts : Words → ℕ → List Account
+word_accounts words bank = flat_map (word_account words bank) (range_with_len 0 bank_words)
+
+abbrev pub empty_accounts : Words → ℕ → List Account
+empty_accounts words bank = flat_map (empty_account words bank) (range_with_len 0 bank_words)
+
+-- the accounts of the rows: the places of words, then the erasable ones, then the fixed ones without a word, then inputs, entries and
+-- words that waited
+unfoldable pub shown_accounts : Words → List Account
+shown_accounts words =
+    flat_map (word_accounts words) (range_with_len 0 selected_banks)
+    ++ (erasable_accounts ++ (flat_map (empty_accounts words) (range_with_len 0 selected_banks) ++ (Input ∷ Entry ∷ Waiting ∷ [])))
+
+-- the rows add up to the last of them: all steps, and the run's cycles
+abbrev pub RowsAddUp : Scenario → ℕ → Type 0
+RowsAddUp scenario n = AddsUp scenario n (shown_accounts scenario.rope)
 
 -- whether there is an account
 abbrev pub is_account : Account → Bool

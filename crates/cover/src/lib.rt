@@ -9,4 +9,4 @@ mod tally;
 
 pub use image::write_image_profile;
 pub use source::write_source_profile;
-pub use tally::{Figures, Tally};
+pub use tally::{ACCOUNTS, Figures, Tally, number_of};

@@ -6,7 +6,7 @@ ghost use Rattle.cpu.specs.Next.{next};
 ghost use Rattle.cpu.specs.Profiles.{account_of, step_cycles};
 ghost use Rattle.cpu.specs.Run.{run};
 ghost use Rattle.cpu.specs.State.{FitsRun, Scenario};
-ghost use Rattle.cover.specs.Tallies.{account_count, account_number, AllAddUp, AreSmall, Counts, figures_at, is_account, IsAccount, no_figures, one_step_more, put_down};
+ghost use Rattle.cover.specs.Tallies.{account_count, account_number, AllAddUp, AreSmall, Counts, RowsAddUp, figures_at, is_account, IsAccount, no_figures, one_step_more, put_down};
 
 use cpu::{Account, Machine, Processor};
 use space::{BANK_WORDS, Linear};
@@ -38,7 +38,7 @@ const FIRST_FIXED: usize = FIRST_ERASABLE + 0o4000;
 const WORDS: usize = BANK_WORDS as usize;
 
 /// How many accounts there are: 0 to 047 are the banks that FB and the superbank bit select.
-const ACCOUNTS: usize = FIRST_FIXED + 0o50 * WORDS;
+pub const ACCOUNTS: usize = FIRST_FIXED + 0o50 * WORDS;
 
 /// The figures of all accounts.
 #[derive(Drop)]
@@ -91,6 +91,7 @@ impl Tally {
         ensures state { machine.new ≡ run processor.old.scenario stop }
         ensures counts { Counts processor.old.scenario stop self.new }
         ensures adds_up { AllAddUp processor.old.scenario stop }
+        ensures rows_add_up { RowsAddUp processor.old.scenario stop }
     {
         for _ in done..stop {
             self.step(processor, machine);
@@ -126,8 +127,8 @@ impl Tally {
     }
 }
 
-/// The number of an account.
-fn number_of(account: Account) -> usize
+/// The number of an account, from 0 on.
+pub fn number_of(account: Account) -> usize
     ensures number { result ≡ account_number account }
     ensures known { IsAccount account }
     ensures account { is_account account ≡ true }

@@ -668,9 +668,6 @@ carrying_clock c t2 lt ne e f =
     ap (λ v. double v (value_wide (get (put (put c 0o25 0) 0o24 (extend (pinc t2).word)) 0o25))) two ∙ ap (double (value (pinc t2).word)) one
     ∙ tick_sum (value t2) (value (pinc t2).word) (pinc_value t2 lt ne) ∙ ap (λ v. double v (pos 16383) +ℤ pos 1) (sym was) ∙ ap (λ v. double (value_wide (get c 0o24)) v +ℤ pos 1) (sym full)
 
-full_word : (t : ℕ) → t < 32768 → (extend t == 16383) ≡ false → t ≢ 16383
-full_word t lt e = grind (arith, nat_tests)
-
 is_full : (t : ℕ) → t < 32768 → extend t ≡ 16383 → t ≡ 16383
 is_full t lt e = grind (arith, nat_tests)
 

@@ -7,7 +7,7 @@ use Rattle.words.specs.Products.{product, quotient}
 use Rattle.words.specs.BitSums.{and_sum, or_sum, xor_sum}
 use Rattle.words.specs.Signs.{over, is_zero, is_minus_wide}
 use Rattle.rope.specs.Places.{Words}
-use Rattle.space.specs.Cells.{at, get, put, get_channel, accumulator, return_address, lower_accumulator, program_counter, return_address_channel}
+use Rattle.space.specs.Cells.{at, get, get_channel, accumulator, return_address, lower_accumulator, program_counter, return_address_channel}
 use Rattle.space.specs.declared.place.Linear.{Linear}
 use Rattle.cpu.specs.declared.instruction.Instruction.{Instruction}
 use Rattle.cpu.specs.declared.instruction.Instruction.TheVariants.{Relint, Inhint, Extend, Resume, Tc, Ccs, Tcf, Das, Lxch, Incr, Ads, Ca, Cs, Index, Dxch, Ts, Xch, Ad, Mask, Read, Write, Rand, Wand, Ror, Wor, Rxor, Edrupt, Dv, Bzf, Msu, Qxch, Aug, Dim, Dca, Dcs, Su, Bzmf, Mp}
@@ -430,16 +430,6 @@ ts_list x skip p b d e =
 
 abbrev pub ts_of : ℕ → ℕ → ℕ → List Change
 ts_of x skip p = ts_list x skip p (not (has_overflow (over x))) (p == accumulator) (p == program_counter)
-
-pub ts_miss : (u : State) (x skip p c : ℕ) (b d e : Bool) → is_in c (place_cells p) ≡ false → is_in c (accumulator ∷ []) ≡ false → is_in c (program_counter ∷ []) ≡ false
-    → at (changes u (ts_list x skip p b d e)).cells c ≡ at u.cells c
-ts_miss u x skip p c true d e hp ha hz = put_miss u.cells p x c hp
-ts_miss u x skip p c false true e hp ha hz = put_miss u.cells program_counter skip c hz
-ts_miss u x skip p c false false true hp ha hz =
-    put_miss (put u.cells p (extend (correct x))) accumulator (carry (over x)) c ha ∙ put_miss u.cells p (extend (correct x)) c hp
-ts_miss u x skip p c false false false hp ha hz =
-    put_miss (put (put u.cells p (extend (correct x))) accumulator (carry (over x))) program_counter skip c hz
-    ∙ put_miss (put u.cells p (extend (correct x))) accumulator (carry (over x)) c ha ∙ put_miss u.cells p (extend (correct x)) c hp
 
 -- where A overflows alike
 ts_by : (r : Words) (s : State) (o : Words) (t : State) (p x y : ℕ) (u v : Overflow) (b d e : Bool) → at s.cells program_counter ≡ at t.cells program_counter → u ≡ v

@@ -21,7 +21,7 @@ use Rattle.cpu.specs.State.{State, Scenario, interrupted_word, interrupted_addre
 use Rattle.cpu.specs.Codes.{code_of}
 use Rattle.cpu.specs.Effects.{Change, change, changes, value_at, edits, place_in, erasable_in, erasable_number, accumulator_of, lower_of, carry, exchange, next_address, first_of, greatest_short, greatest_address, has_overflow, is_at_zero, is_at_zero_or_minus, after, tc, ccs, tcf, ca, cs, ad, su, mask, ts, xch, lxch, qxch, dxch, ads, incr, aug, dim, das, dca, dcs, index, mp, dv, msu, bzf, bzmf, read, write, rand, ror, rxor, wand, wor, relint, inhint, resume}
 use Rattle.cpu.specs.Effects.Change.{AtPlace, OnChannel, Inhibits, Serves, WaitsWithSum, WaitsWithWord}
-use Rattle.cpu.specs.Inputs.{take, input_effect, counted, received, asked, asked_after, asked_on, carried, carries_into, stepped, step_of, count_of, is_overflow}
+use Rattle.cpu.specs.Inputs.{take, input_effect, counted, received, asked_after, asked_on, carried, carries_into, stepped, step_of, count_of, is_overflow}
 use Rattle.cpu.specs.Next.{fetched, executed, execute, instruction_word, entry, entered, word_at_z, following_address, next_by, next}
 use Rattle.cpu.specs.declared.spot.Spot.TheVariants.{Cell}
 use Rattle.cpu.specs.declared.spot.Spot.{Spot}

@@ -30,9 +30,6 @@ any-filter p q a (suc n) =
     ∙ ap (λ r. (eqb q a && p a) || r) (any-filter p q (a + 1) n)
     ∙ joined p q a n (p a) (p q) refl refl
 
-flag : List Bool → ℕ → Bool
-flag flags k = slice_index_or flags (k - 1) false
-
 set_of : List Bool → ℕ → ℕ → FinSet nat_cmp
 set_of flags a n = from_list {R = nat_cmp} (filter (λ k. slice_index_or flags (k - 1) false) (range_with_len a n))
 
@@ -50,6 +47,9 @@ changed_other : (flags : List Bool) (q k : ℕ) (v : Bool) → q ≢ k → 1 ≤
 changed_other flags zero k v ne low = refl
 changed_other flags (suc q) k v ne low =
     ap (λ b. leb 1 (suc q) && ltb (suc q) 11 && b) (get_or-set_other flags (k - 1) (suc q - 1) v false (λ h. ne (omega arith)))
+
+pub contains_asked : (flags : List Bool) (k i : ℕ) → 1 ≤ k → k ≤ 10 → i + 1 ≡ k → get_or flags i false ≡ contains (requests_of flags) k
+contains_asked flags k i low high e = let at : i ≡ k - 1 = omega arith in rw at (sym (contains-requests flags k ∙ grind (arith, nat_tests)))
 
 pub requests-clear : (flags : List Bool) (k : ℕ) → 1 ≤ k → k ≤ 10 → length flags ≡ 10 → requests_of (set flags (k - 1) false) ≡ remove (requests_of flags) k
 requests-clear flags k low high l =

@@ -1,5 +1,5 @@
 -- The reference run, step by step.
-use Rattle.std.proofs.Common.{◌≡◌, ◌≤◌, ◌<◌, ◌+◌, ◌*◌, ◌^◌, ◌++◌, ℕ, zero, suc, List, [], ◌∷◌, Bool, true, false, cond, Option, Some, None, refl, arith, add-one, ◌∙◌, inl, inr, ◌⊎◌}
+use Rattle.std.proofs.Common.{◌≡◌, ◌≤◌, ◌+◌, ◌*◌, ◌++◌, ℕ, zero, suc, [], Bool, true, false, cond, Option, Some, None, refl, arith, add-one, ◌∙◌, inl, inr, ◌⊎◌}
 use Rattle.std.specs.Option.{option_to_list}
 use Rattle.words.specs.declared.counters.Carry.{Carry}
 use Rattle.words.specs.declared.counters.Carry.TheVariants.{No, Plus, Minus, ShiftedOut}
@@ -10,12 +10,9 @@ use Rattle.feed.specs.declared.input.Input.TheVariants.{Count, Word, Interrupt}
 use Rattle.feed.specs.Merged.{due}
 use Rattle.feed.specs.Fits as from
 use Rattle.cpu.specs.State.{State, Scenario, start}
-use Rattle.cpu.specs.Effects.{Change, change, changes, after, dxch}
-use Rattle.cpu.specs.Effects.Change.{AtPlace, OnChannel, Inhibits, Serves, WaitsWithSum, WaitsWithWord}
 use Rattle.cpu.specs.declared.instruction.Instruction.{Instruction}
-use Rattle.cpu.specs.declared.instruction.Instruction.TheVariants.{Extend, Edrupt}
 use Rattle.cpu.specs.Codes.{row_of, code_of}
-use Rattle.cpu.specs.Next.{fetched, jumps, jump_cycles, executed, execute, instruction_word, entry, entered, next_by, next, most_cycles}
+use Rattle.cpu.specs.Next.{fetched, jumps, jump_cycles, executed, execute, instruction_word, entry, entered, next_by, next}
 use Rattle.cpu.specs.Inputs.{take, input_effect, input_cycles, counted, received, asked, asked_after, asked_on, carried, carries_into, stepped, step_of, count_of}
 use Rattle.cpu.specs.Run.{run, out, outs}
 
@@ -39,28 +36,9 @@ pub outs-add-one : (scenario : Scenario) (n : ℕ) → outs scenario (n + 1) ≡
 unfolding outs
 outs-add-one scenario n = rw add-one refl
 
--- no change is one of cycles
-cycles-change : (s : State) (c : Change) → (change s c).cycles ≡ s.cycles
-cycles-change s (AtPlace p x) = refl
-cycles-change s (OnChannel n x) = refl
-cycles-change s (Inhibits b) = refl
-cycles-change s (Serves b) = refl
-cycles-change s (WaitsWithSum x) = refl
-cycles-change s (WaitsWithWord w) = refl
-
-cycles-changes : (s : State) (cs : List Change) → (changes s cs).cycles ≡ s.cycles
-cycles-changes s [] = refl
-cycles-changes s (c ∷ cs) = cycles-changes (change s c) cs ∙ cycles-change s c
-
 -- no instruction takes more than six cycles
 few-row : (instruction : Instruction) → (row_of instruction).cycles ≤ 6
 few-row instruction = search (arith)
-
-cycles-after : (rope : Words) (s : State) (instruction : Instruction) (k : ℕ) → (after rope s instruction k).cycles ≡ s.cycles
-unfolding after dxch
-cycles-after rope s Extend k = refl
-cycles-after rope s Edrupt k = refl
-cycles-after rope s instruction k = search (cycles-changes)
 
 cycles-either : (b : Bool) (m n : ℕ) → m ≤ 6 → n ≤ 6 → cond b m n ≤ 6
 cycles-either true m n p q = p
@@ -126,10 +104,6 @@ pub cycles-run : (scenario : Scenario) (n : ℕ) → (run scenario n).cycles ≤
 unfolding run start
 cycles-run scenario zero = omega arith
 cycles-run scenario (suc n) = omega (arith, cycles-next scenario (run scenario n), cycles-run scenario n)
-
--- so 2^40 steps stay below the cycles up to which a step is promised
-pub cycles-below : (scenario : Scenario) (n : ℕ) → n ≤ 2 ^ 40 → (run scenario n).cycles < most_cycles
-cycles-below scenario n few = omega (arith, cycles-run scenario n)
 
 -- a step never takes cycles back
 rise-execute : (rope : Words) (s : State) → s.cycles ≤ (execute rope s).0.cycles

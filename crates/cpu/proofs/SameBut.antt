@@ -58,10 +58,6 @@ same_changes s t (c ∷ cs) h = same_changes (change s c) (change t c) cs (same_
 same_by : (s t : State) (xs ys : List Change) → IsSameBut s t → ys ≡ xs → IsSameBut (changes s xs) (changes t ys)
 same_by s t xs ys h e = subst (λ (zs : List Change). IsSameBut (changes s xs) (changes t zs)) (sym e) (same_changes s t xs h)
 
--- what two such states read alike
-cells_apart : (s t : State) → IsSameBut s t → (c : ℕ) → c ≢ interrupted_address → c ≢ interrupted_word → at t.cells c ≡ at s.cells c
-cells_apart s t h c z b = h.cells c z b
-
 both : (s t : Cells) (p : ℕ) → at t p ≡ at s p → at t erasable_bank ≡ at s erasable_bank → at t fixed_bank ≡ at s fixed_bank → get t p ≡ get s p
 unfolding get
 both s t p e eb fb = cc

@@ -178,9 +178,6 @@ channel_of Wand k e = refl
 channel_of Wor k e = refl
 channel_of instruction k e = absurd (cc)
 
-same_channel : (instruction : Instruction) (k n : ℕ) → written_by (row_of instruction).role k ≡ Some n → n ≡ k
-same_channel instruction k n e = let is = channel_of instruction k (writer instruction k n e) in let same : Some n ≡ Some k = sym e ∙ is in cc
-
 put_out : (rope : Words) (s : State) (code : Code) (o : Output) → (execute_code rope s code).1 ≡ Some o → IsPutOut code (execute_code rope s code).0 o
 unfolding executed
 put_out rope s code o e =

@@ -1,6 +1,6 @@
 -- What a state has taken fits what runs.
-use Rattle.std.proofs.Common.{◌≡◌, ◌≤◌, ◌<◌, ◌+◌, ℕ, zero, suc, List, [], ◌∷◌, Option, Some, None, refl, arith, ◌∙◌, sym, ap, subst, inl, inr, ◌⊎◌, replicate, take}
-use Rattle.std.specs.Prelude.{IfSome, slice_get}
+use Rattle.std.proofs.Common.{◌≡◌, ◌+◌, ℕ, zero, suc, List, [], ◌∷◌, Option, Some, None, refl, arith, ◌∙◌, sym, subst, replicate, take}
+use Rattle.std.specs.Prelude.{IfSome}
 use Rattle.std.proofs.lemmas.List.{get_or-replicate, length-replicate}
 use Rattle.words.specs.declared.counters.Carry.{Carry}
 use Rattle.words.specs.declared.counters.Carry.TheVariants.{No, Plus, Minus, ShiftedOut}
@@ -8,15 +8,11 @@ use Rattle.rope.specs.Places.{Words}
 use Rattle.feed.specs.declared.input.Counter.{Counter}
 use Rattle.feed.specs.declared.input.Input.{Input}
 use Rattle.feed.specs.declared.input.Input.TheVariants.{Count, Word, Interrupt}
-use Rattle.feed.specs.declared.entry.Entry.{Entry}
 use Rattle.feed.specs.Fits as from
 use Rattle.feed.specs.Feed.{most_series}
 use Rattle.feed.specs.Fits.{Fits}
-use Rattle.feed.specs.Merged.{due, when_come}
-use Rattle.feed.specs.Order.{IsAmong}
-use Rattle.feed.specs.Added.{TakenBelow}
+use Rattle.feed.specs.Merged.{due}
 use Rattle.feed.proofs.FitLaws.{fits-start, fits-due}
-use Rattle.feed.proofs.DueLaws.{come-later}
 use Rattle.cpu.specs.declared.output.Output.{Output}
 use Rattle.cpu.specs.State.{State, Scenario, FitsRun, start}
 use Rattle.cpu.specs.Effects.{Change, change, changes, after, dxch}
@@ -27,7 +23,7 @@ use Rattle.cpu.specs.Next.{fetched, executed, execute, entry, entered, next_by, 
 use Rattle.cpu.specs.Inputs as inputs
 use Rattle.cpu.specs.Inputs.{input_effect, counted, received, asked, asked_after, asked_on, carried, carries_into, stepped, step_of, count_of}
 use Rattle.cpu.specs.Run.{run}
-use Rattle.cpu.proofs.RunLaws.{counted_in, rise-take, rise-next_by, rise-run}
+use Rattle.cpu.proofs.RunLaws.{counted_in}
 
 -- how many inputs a state has taken, and how many from each series
 abbrev pub account : State → ℕ × List ℕ
@@ -109,58 +105,3 @@ pub run-fits : (scenario : Scenario) (n : ℕ) → FitsRun scenario (run scenari
 unfolding run
 run-fits scenario zero = fits-at_start scenario
 run-fits scenario (suc n) = fits-next scenario (run scenario n) (run-fits scenario n)
-
-among-one_more : (x : Entry) (list : List Entry) (k : ℕ) → IsAmong x (take (suc k) list) → IsAmong x (take k list) ⊎ (slice_get list k ≡ Some x)
-among-one_more x [] k h = absurd h
-among-one_more x (y ∷ ys) zero (inl h) = inr (ap Some h)
-among-one_more x (y ∷ ys) zero (inr h) = absurd h
-among-one_more x (y ∷ ys) (suc k) (inl h) = inl (inl h)
-among-one_more x (y ∷ ys) (suc k) (inr h) = elim (among-one_more x ys k h) [ inl a ↦ inl (inr a) | inr b ↦ inr b ]
-
--- the inputs taken are due no later than the state's cycles
-TakenPast : List Entry → State → Type 0
-TakenPast list s = (x : Entry) → IsAmong x (take s.taken list) → x.cycle ≤ s.cycles
-
-was_come : (cycles : ℕ) (o : Option Entry) (x : Entry) (given : Input × Option ℕ) → when_come cycles o ≡ Some given → o ≡ Some x → x.cycle ≤ cycles
-was_come cycles None x given h e = absurd (cc)
-was_come cycles (Some y) x given h e = elim (le_or_less y.cycle cycles) [
-  | inl le ↦ let same : y ≡ x = cc in subst (λ (z : Entry). z.cycle ≤ cycles) same le
-  | inr less ↦ absurd (let none = come-later cycles y less in cc)
-]
-  where
-    le_or_less : (a b : ℕ) → (a ≤ b) ⊎ (b < a)
-    le_or_less a b = grind arith
-
-past-next_by : (scenario : Scenario) (s : State) (d : Option (Input × Option ℕ)) (o : Option ℕ) → when_come s.cycles (slice_get scenario.inputs s.taken) ≡ d → TakenPast scenario.inputs s
-    → TakenPast scenario.inputs (next_by scenario.rope s d o).0
-unfolding TakenPast
-past-next_by scenario s None o is past = λ x m.
-    let same : (next_by scenario.rope s None o).0.taken ≡ s.taken = ap (λ (a : ℕ × List ℕ). a.0) (account-next_by scenario.rope s o) in
-    let p = past x (subst (λ (n : ℕ). IsAmong x (take n scenario.inputs)) same m) in
-    let rise = rise-next_by scenario.rope s None o in
-    omega (arith, p, rise)
-past-next_by scenario s (Some given) o is past = λ x m.
-    let more : (inputs.take s given).taken ≡ s.taken + 1 = ap (λ (a : ℕ × List ℕ). a.0) (account-take s given) in
-    let one : s.taken + 1 ≡ suc s.taken = omega arith in
-    let rise = rise-take s given in
-    elim (among-one_more x scenario.inputs s.taken (subst (λ (n : ℕ). IsAmong x (take n scenario.inputs)) (more ∙ one) m)) [
-      | inl before ↦ let p = past x before in omega (arith, p, rise)
-      | inr here ↦ let p = was_come s.cycles (slice_get scenario.inputs s.taken) x given is here in omega (arith, p, rise)
-    ]
-
-past-next : (scenario : Scenario) (s : State) → TakenPast scenario.inputs s → TakenPast scenario.inputs (next scenario s).0
-unfolding next due
-past-next scenario s past = past-next_by scenario s (due scenario.inputs s.taken s.cycles) (entry s) refl past
-
-past-run : (scenario : Scenario) (n : ℕ) → TakenPast scenario.inputs (run scenario n)
-unfolding run start TakenPast
-past-run scenario zero = λ x m. absurd m
-past-run scenario (suc n) = past-next scenario (run scenario n) (past-run scenario n)
-
--- A cycle above those of step n is above the cycles of all inputs that a state up to there has taken.
-pub taken-below : (scenario : Scenario) (n t cycle : ℕ) → (run scenario n).cycles < cycle → t ≤ n → TakenBelow scenario.inputs (run scenario t).taken cycle
-unfolding TakenPast
-taken-below scenario n t cycle above few = λ x m.
-    let p = past-run scenario t x m in
-    let c = rise-run scenario t n few in
-    omega (arith, p, c)

@@ -1,5 +1,5 @@
 -- How often each place of fixed or erasable memory was executed, and how many cycles it took.
-use Rattle.std.specs.Prelude.{◌≡◌, ℕ, zero, suc, ◌+◌, ◌-◌, ◌<◌, Bool, true, false, List, [], ◌∷◌, Option, Some, None, if◌then◌else◌, nat_le}
+use Rattle.std.specs.Prelude.{◌≡◌, ℕ, zero, suc, ◌+◌, ◌-◌, ◌<◌, Bool, true, false, List, [], ◌∷◌, Option, Some, None, if◌then◌else◌}
 use Rattle.space.specs.Places.{same_place}
 use Rattle.feed.specs.declared.input.Input.{Input}
 use Rattle.feed.specs.Merged.{due}
@@ -46,10 +46,6 @@ cycles_at scenario a (suc n) =
 unfoldable pub count_at : Scenario → Account → ℕ → ℕ
 count_at scenario a zero = 0
 count_at scenario a (suc n) = count_at scenario a n + (if same_account a (account_of scenario (run scenario n)) then 1 else 0)
-
--- whether an account was ever served: what is executed at all
-abbrev pub is_covered : Scenario → Account → ℕ → Bool
-is_covered scenario a n = nat_le 1 (count_at scenario a n)
 
 -- the sum over accounts
 abbrev pub sum_over : (Account → ℕ) → List Account → ℕ

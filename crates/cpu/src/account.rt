@@ -1,6 +1,6 @@
 //! To whom the cycles of a step are put down.
 
-use space::place::Linear;
+use space::Linear;
 
 /// To whom the cycles of a step are put down.
 #[derive(Clone, Copy)]

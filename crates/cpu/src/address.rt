@@ -3,7 +3,7 @@
 ghost use Rattle.std.specs.Prelude.{◌≡◌, ◌<◌, ◌%◌, ◌^◌};
 ghost use Rattle.cpu.specs.Effects.{first_of, greatest_short, greatest_address};
 
-use space::numbers::{Addr12, Chan};
+use space::{Addr12, Chan};
 use std::marker::Model;
 
 /// An address of 10 bits, 0 to 01777. It leads to an erasable place.

@@ -1,11 +1,10 @@
 //! Bits of A and of an operand: of whole wides, or of their words.
 
-ghost use Rattle.std.specs.Prelude.{◌≡◌, true, false};
+ghost use Rattle.std.specs.Prelude.{◌≡◌, false};
 ghost use Rattle.words.specs.BitSums.{and_sum, or_sum, xor_sum};
 ghost use Rattle.cpu.specs.Effects.{bitwise, is_whole};
 
-use space::numbers::Eras;
-use space::place::Linear;
+use space::{Eras, Linear};
 use words::Wide;
 
 /// Whether a place holds all 16 bits of a wide.

@@ -1,12 +1,12 @@
 //! The instructions on channels.
 
-ghost use Rattle.std.specs.Prelude.{◌≡◌, Some, None, true, false, [], ◌∷◌};
+ghost use Rattle.std.specs.Prelude.{◌≡◌};
 ghost use Rattle.words.specs.BitSums.{and_sum, or_sum, xor_sum};
 ghost use Rattle.cpu.specs.Effects.{with_channel, changes, read, write, rand, ror, rxor, wand, wor};
 
 use crate::bits::{and, or, xor};
 use crate::machine::Machine;
-use space::numbers::{Chan, Eras};
+use space::{Chan, Eras};
 use words::Wide;
 
 impl Machine {

@@ -10,10 +10,9 @@ use crate::dispatch::decode;
 use crate::instruction::{Instruction, Role};
 use crate::machine::{FIRST_ADDRESS, Machine};
 use crate::output::Output;
-use feed::interrupt::Interrupt;
+use feed::Interrupt;
 use rope::Rope;
-use space::numbers::{Chan, Eras};
-use space::resolve::{FIRST_FIXED, resolve_fixed};
+use space::{Chan, Eras, FIRST_FIXED, resolve_fixed};
 use words::{Overflow, Wide, Word};
 
 /// The cycles that the entry of an interrupt takes.

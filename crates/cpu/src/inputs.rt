@@ -1,16 +1,14 @@
 //! Taking an input.
 
-ghost use Rattle.std.specs.Prelude.{◌≡◌, ◌≤◌, Some, None, true, false, if◌then◌else◌};
-ghost use Rattle.cpu.specs.Inputs.{step_of, is_overflow, is_shifted_out, asked_by, carried_by, stepped, carried, asked, counted, asked_on, received, take};
+ghost use Rattle.std.specs.Prelude.{◌≡◌, ◌≤◌, Some, None, if◌then◌else◌};
+ghost use Rattle.cpu.specs.Inputs.{step_of, is_overflow, asked_by, carried_by, stepped, carried, asked, counted, asked_on, received, take};
 ghost use Rattle.cpu.specs.Asking.{interrupt_asked};
 ghost use Rattle.cpu.specs.Representation.{HasRoom};
 ghost use Rattle.cpu.specs.Next.{most_cycles};
 
 use crate::machine::Machine;
-use feed::Asks;
-use feed::input::{Counter, Input, Sequence};
-use feed::interrupt::Interrupt;
-use space::numbers::Chan;
+use feed::{Asks, Counter, Input, Interrupt, Sequence};
+use space::Chan;
 use words::{Carry, CounterStep, Word};
 
 /// The cycles that a sequence of a counter takes.

@@ -1,6 +1,6 @@
 //! Each instruction.
 
-ghost use Rattle.std.specs.Prelude.{◌≡◌, ◌+◌, ◌≤◌, Some, None, true, false, [], ◌∷◌, if◌then◌else◌};
+ghost use Rattle.std.specs.Prelude.{◌≡◌, ◌+◌, ◌≤◌, true, false, if◌then◌else◌};
 ghost use Rattle.words.specs.Numbers.{neg_wide};
 ghost use Rattle.cpu.specs.Effects.{changes, carry, ccs_skip, exchange, is_at_zero, is_at_zero_or_minus, tc, ccs, tcf, ca, cs, ad, su, mask, ts, xch, lxch, qxch, dxch, ads, incr, aug, dim, das, dca, dcs, index, mp, dv, msu, bzf, bzmf, relint, inhint, resume};
 
@@ -8,7 +8,7 @@ use crate::address::{Addr10, before};
 use crate::bits::{and, is_whole};
 use crate::machine::Machine;
 use rope::Rope;
-use space::numbers::{Addr12, Eras};
+use space::{Addr12, Eras};
 use words::{Overflow, Wide, div};
 
 // Does something with what is read at an address, and stores that there again where the place edits.

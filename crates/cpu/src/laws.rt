@@ -9,8 +9,8 @@ ghost use Rattle.cpu.specs.Interrupts.{InterruptLeadsBack, InterruptIsNotFelt};
 
 use crate::machine::Machine;
 use crate::processor::Processor;
-use feed::interrupt::Interrupt;
-use space::numbers::Addr12;
+use feed::Interrupt;
+use space::Addr12;
 use words::{Wide, Word};
 
 /// Each word lies in exactly one range of each code table.

@@ -1,6 +1,6 @@
 //! The machine, and what its parts read and keep.
 
-ghost use Rattle.std.specs.Prelude.{◌≡◌, ◌+◌, ◌<◌, ◌%◌, ◌^◌, Some, None, true, false};
+ghost use Rattle.std.specs.Prelude.{◌≡◌, ◌+◌, ◌<◌, ◌^◌, Some, None, true, false};
 ghost use Rattle.space.specs.Cells.{get, get_channel};
 ghost use Rattle.space.specs.Places.{IsErasable};
 ghost use Rattle.cpu.specs.State.{Scenario, start, FitsRun};
@@ -8,18 +8,18 @@ ghost use Rattle.cpu.specs.Representation.{HasRoom};
 ghost use Rattle.cpu.specs.Effects.{change, changes, next_address, place_in, erasable_in, value_at, operand, edits};
 ghost use Rattle.cpu.specs.Effects.Change.{AtPlace, OnChannel, Inhibits, Serves, WaitsWithSum, WaitsWithWord};
 ghost use Rattle.cpu.specs.Next.{least_request};
-ghost use Rattle.std.specs.FinSet.{insert, remove};
+ghost use Rattle.std.specs.FinSet.{contains, insert, remove};
 ghost use Rattle.words.specs.Numbers.{correct};
 ghost use Rattle.feed.specs.Fits.{counts_after};
 
 use crate::address::Addr10;
-use feed::MOST_SERIES;
-use feed::interrupt::Interrupt;
+use feed::{Interrupt, MOST_SERIES};
 use rope::Rope;
-use space::numbers::{Addr12, Chan, Eras};
-use space::place::Linear;
-use space::resolve::{FIRST_FIXED, FIRST_IN_WINDOW, resolve, resolve_fixed, resolve_unbanked};
-use space::store::Store;
+use space::resolve::resolve;
+use space::{
+    Addr12, Chan, Eras, FIRST_FIXED, FIRST_IN_WINDOW, Linear, Store, resolve_fixed,
+    resolve_unbanked,
+};
 use std::marker::Model;
 use words::{Wide, Word};
 
@@ -161,7 +161,7 @@ impl Machine {
     }
 
     /// Whether extracode is in force.
-    pub(crate) fn extra(&self) -> bool
+    pub fn extra(&self) -> bool
         ensures { result ≡ self.now.extra }
     {
         self.extra
@@ -196,14 +196,14 @@ impl Machine {
     }
 
     /// The sum that waits for the next instruction.
-    pub(crate) fn waiting_sum(&self) -> Option<Wide>
+    pub fn waiting_sum(&self) -> Option<Wide>
         ensures { result ≡ self.now.waiting_sum }
     {
         self.waiting_sum
     }
 
     /// The word that waits to be executed.
-    pub(crate) fn waiting_word(&self) -> Option<Word>
+    pub fn waiting_word(&self) -> Option<Word>
         ensures { result ≡ self.now.waiting_word }
     {
         self.waiting_word
@@ -260,6 +260,15 @@ impl Machine {
             }
         }
         None
+    }
+
+    /// Whether an interrupt is asked for.
+    #[tactic(auto, using(crate::proofs::RequestLemmas::contains_asked))]
+    pub fn is_asked(&self, request: Interrupt) -> bool
+        ensures { result ≡ contains self.now.requests request }
+    {
+        let index = request.index();
+        self.requests[index]
     }
 
     /// Whether an interrupt may be asked for.

@@ -1,8 +1,7 @@
 //! What the next step is.
 
-use feed::input::Input;
-use feed::interrupt::Interrupt;
-use space::place::Linear;
+use feed::{Input, Interrupt};
+use space::Linear;
 use words::{Wide, Word};
 
 /// What the next step is.

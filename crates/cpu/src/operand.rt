@@ -1,13 +1,13 @@
 //! The names of instructions, and the addresses that they name.
 
-ghost use Rattle.std.specs.Prelude.{◌≡◌, ◌+◌, ◌≤◌, ◌%◌, ◌^◌, length};
+ghost use Rattle.std.specs.Prelude.{◌≡◌, ◌≤◌, ◌%◌, ◌^◌, length};
 ghost use Rattle.cpu.specs.Codes.{bits, code_of, row_of};
 ghost use Rattle.cpu.specs.Operands.{address_in, address_of};
 
 use crate::address::{Addr10, address_of_word, before};
 use crate::dispatch::decode;
 use crate::instruction::Operand;
-use space::numbers::Addr12;
+use space::Addr12;
 use words::Word;
 
 /// The name of the instruction that a word is, under extracode or not.

@@ -1,6 +1,6 @@
 //! What a step puts out.
 
-use space::numbers::Chan;
+use space::Chan;
 use words::Word;
 
 /// A word on a channel, and the cycles that had passed when it was written.

@@ -3,7 +3,7 @@
 ghost use Rattle.std.specs.Prelude.{◌≡◌, ◌<◌};
 ghost use Rattle.cpu.specs.Links.{cell_of_channel, is_in};
 
-use space::numbers::{Bank, Chan, Eras, Offset};
+use space::{Bank, Chan, Eras, Offset};
 use std::marker::Model;
 
 /// A cell: that of an erasable place, or from 04000 on that of a channel. BB and the place that reads as 0 have none of their

@@ -1,7 +1,7 @@
 //! The cells that each step writes.
 
 ghost use Rattle.std.specs.Prelude.{◌≡◌, ℕ, ◌+◌, ◌≤◌, [], ◌∷◌, ◌++◌, List, Some, None, length};
-ghost use Rattle.space.specs.Cells.{accumulator, lower_accumulator, return_address, program_counter};
+ghost use Rattle.space.specs.Cells.{accumulator, lower_accumulator};
 ghost use Rattle.cpu.specs.Codes.{operand_of};
 ghost use Rattle.cpu.specs.Effects.{place_in};
 ghost use Rattle.cpu.specs.Links.{place_cells, cell_of_channel, to_place, to_channel, edit_flows, tc_flows, ts_flows, das_flows, dxch_flows, overflow_in, flows_of, flows, link_by, carries_in, input_flows};
@@ -14,11 +14,9 @@ use crate::instruction::Instruction;
 use crate::machine::Machine;
 use crate::spot::Cell;
 use arrayvec::ArrayVec;
-use feed::input::Input;
-use feed::interrupt::Interrupt;
+use feed::{Input, Interrupt};
 use rope::Rope;
-use space::numbers::{Addr12, Chan, Eras};
-use space::place::Linear;
+use space::{Addr12, Chan, Eras, Linear};
 use std::marker::Model;
 use words::Overflow;
 

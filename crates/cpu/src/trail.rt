@@ -3,11 +3,10 @@
 ghost use Rattle.std.specs.Prelude.{◌≡◌, ◌+◌, ◌≤◌, [], ◌∷◌, ◌++◌, Some, None};
 ghost use Rattle.cpu.specs.declared.spot.Spot.{Spot};
 ghost use Rattle.arrayvec.specs.ArrayVec.{array_vec_len};
-ghost use Rattle.space.specs.Cells.{accumulator, lower_accumulator, return_address, program_counter};
+ghost use Rattle.space.specs.Cells.{accumulator, lower_accumulator, program_counter};
 ghost use Rattle.cpu.specs.Codes.{operand_of};
 ghost use Rattle.cpu.specs.Effects.{place_in};
-ghost use Rattle.cpu.specs.State.{interrupted_address};
-ghost use Rattle.cpu.specs.Links.{a, l, place_spots, spots, channel_spots, place_cells, cell_of_channel, is_in, to_place, to_channel, edit_flows, exchange_flows, dxch_flows, das_flows, tc_flows, ts_flows, overflow_in, flows_of, sources_by, through, flows, link_by, carries_in, input_flows};
+ghost use Rattle.cpu.specs.Links.{a, l, place_spots, spots, channel_spots, place_cells, is_in, to_place, to_channel, edit_flows, exchange_flows, dxch_flows, das_flows, tc_flows, ts_flows, overflow_in, flows_of, sources_by, through, flows, link_by, carries_in, input_flows};
 ghost use Rattle.cpu.specs.Trails.{passed, followed, untouched};
 
 use crate::address::{Addr10, address_of_word, before, channel_of_word};
@@ -17,11 +16,9 @@ use crate::instruction::Instruction;
 use crate::machine::Machine;
 use crate::spot::{Cell, Spot};
 use arrayvec::ArrayVec;
-use feed::input::Input;
-use feed::interrupt::Interrupt;
+use feed::{Input, Interrupt};
 use rope::Rope;
-use space::numbers::{Addr12, Chan, Eras};
-use space::place::Linear;
+use space::{Addr12, Chan, Eras, Linear};
 use std::marker::Model;
 use words::Overflow;
 

@@ -1,22 +1,40 @@
 -- Extended sessions over a small program, replied by the definitions alone.
-use Rattle.std.proofs.Common.{◌≡◌, ℕ, List, [], ◌∷◌, ◌++◌, refl}
-use Rattle.std.specs.Prelude.{codes}
+use Rattle.std.proofs.Common.{◌≡◌, ℕ, List, [], ◌∷◌, ◌++◌, Some, true, false, ap, ◌∙◌, refl}
+use Rattle.std.specs.Prelude.{codes, decimal}
 use Rattle.std.specs.Fmt.{digits}
 use Rattle.agc_text.specs.Fields.{runs}
 use Rattle.words.specs.Numerals.{octal_text}
 use Rattle.feed.specs.Names.{counters, sequences}
 use Rattle.feed.specs.Statements.{parsed}
+use Rattle.space.specs.declared.place.Linear.TheVariants as linear
+use Rattle.space.specs.Places.{place}
+use Rattle.cpu.specs.ChannelLines.{channel_lines}
+use Rattle.std.specs.FinSet as set
+use Rattle.std.specs.Ordering.{nat_cmp, eq_by_cmp}
+use Rattle.std.specs.Cmp.{nat_cmp_total}
+use Rattle.std.specs.Prelude.{◌||◌}
+use Rattle.space.specs.Cells.{accumulator, lower_accumulator, return_address, program_counter, both_banks, erasable_bank, fixed_bank}
+use Rattle.cpu.proofs.Holding.{get-holding, at-holding, superbank-holding}
+use Rattle.cpu.proofs.Held.{state}
+use Rattle.cpu.specs.State.{State}
 use Rattle.cpu.proofs.FiveRun.{five}
 use Rattle.symbols.specs.declared.values.Value.TheVariants.{Fixed}
 use Rattle.symbols.specs.Values.{SymbolTable}
 use Rattle.commands.specs.Commands.{forms}
 use Rattle.commands.specs.Extended.{extended_request_of, extended_forms}
 use Rattle.commands.specs.Usages.{usages}
-use Rattle.debugger.specs.Replies.{answer, reply}
+use Rattle.commands.specs.declared.command.Breakpoint.{Breakpoint}
+use Rattle.commands.specs.declared.command.Breakpoint.TheVariants.{Place, Channel, Cycles}
+use Rattle.commands.specs.declared.extended.ExtendedRequest.TheVariants.{On, Until}
+use Rattle.debugger.specs.History.{History, history}
+use Rattle.debugger.specs.Growth.{grow, lowest_hit}
+use Rattle.debugger.specs.Replies.{Desk, answer, reply, at_line}
+use Rattle.debugger.specs.AllRegisters.{register_lines, flag_lines, requested, numbers_text, or_none, sum_line, word_line}
 use Rattle.debugger.specs.ExtendedReplies.{extended_reply}
 use Rattle.debugger.specs.Transcript.{first_desk}
 use Rattle.debugger.specs.Conversation.{conversation}
 use Rattle.debugger.proofs.Scripts.{ended}
+use Rattle.debugger.proofs.FiveRows.{five_listed, history-five}
 
 abbrev symbols : SymbolTable
 symbols = (codes "FIVE", Fixed 2 5) ∷ []
@@ -35,3 +53,75 @@ the_end : session (codes "sym FIV" ∷ codes "echo ." ∷ codes "mem FIV" ∷ co
     ≡ ended (codes "E17 UNDEFINED" ∷ codes "." ∷ codes "E50 COMMAND no symbol FIV" ∷ codes "." ∷ [])
 unfolding extended_request_of extended_forms extended_reply usages forms runs parsed counters sequences answer reply digits octal_text
 the_end = refl
+
+-- where so many steps were made, and one of them is looked at
+abbrev at_step : ℕ → ℕ → List Breakpoint → Desk
+at_step steps position breakpoints = record (first_desk five [] []) { steps = steps; position = position; breakpoints = breakpoints }
+
+-- what `on` is told there
+abbrev on : History → ℕ → ℕ → ℕ → List Breakpoint → List ℕ
+on h k steps position breakpoints = (extended_reply h (at_step steps position breakpoints) (On k)).text
+
+-- over steps that stand, to the next at which a breakpoint holds, though one holds at the position too; and by so many at most
+on_what_stands : on (history five) 5 8 0 (Place (linear.Fixed 2 2) ∷ []) ++ on (history five) 5 8 2 (Place (linear.Fixed 2 2) ∷ []) ++ on (history five) 4 8 2 (Place (linear.Fixed 2 2) ∷ [])
+    ≡ ended (codes "HIT 1" ∷ codes "AT 2 4 4002" ∷ codes "HIT 1" ∷ codes "AT 7 12 4002" ∷ codes "AT 6 10 4001" ∷ [])
+unfolding extended_reply grow lowest_hit at_line digits octal_text place channel_lines
+on_what_stands = ap (λ h. on h 5 8 0 (Place (linear.Fixed 2 2) ∷ []) ++ on h 5 8 2 (Place (linear.Fixed 2 2) ∷ []) ++ on h 4 8 2 (Place (linear.Fixed 2 2) ∷ [])) history-five ∙ refl
+
+-- and then over new steps, whose lines are written
+on_new_steps : on (history five) 9 3 2 (Place (linear.Fixed 2 2) ∷ []) ++ on (history five) 9 3 1 (Channel 8 10 ∷ []) ++ on (history five) 2 3 2 [] ++ on (history five) 0 3 2 []
+    ≡ ended (codes "7 CH 010 00012" ∷ codes "HIT 1" ∷ codes "AT 7 12 4002" ∷ codes "7 CH 010 00012" ∷ codes "HIT 1" ∷ codes "AT 4 7 4004" ∷ codes "7 CH 010 00012" ∷ codes "AT 4 7 4004" ∷ codes "AT 2 4 4002" ∷ [])
+unfolding extended_reply grow lowest_hit at_line digits octal_text place channel_lines
+on_new_steps = ap (λ h. on h 9 3 2 (Place (linear.Fixed 2 2) ∷ []) ++ on h 9 3 1 (Channel 8 10 ∷ []) ++ on h 2 3 2 [] ++ on h 0 3 2 []) history-five ∙ refl
+
+-- all registers where INDEX has left a sum, two interrupts are asked for, and one is served
+abbrev cells : List (ℕ × ℕ)
+cells = (0, 0o177715) ∷ (1, 5) ∷ (3, 3) ∷ (4, 0o12) ∷ (5, 0o4107) ∷ []
+
+abbrev indexed : State
+indexed =
+    record (state (record { cells = cells; extra = true; requests = set.insert (set.insert set.empty 10) 3; taken = 0; counts = []; cycles = 28 })) {
+      inhibit = false;
+      inside = true;
+      waiting_sum = Some 0o177774;
+    }
+
+registers : register_lines indexed.cells ≡ ended (codes "A 177715" ∷ codes "L 00005" ∷ codes "Q 000000" ∷ codes "Z 4107" ∷ codes "EB 3" ∷ codes "FB 12" ∷ codes "BB 24003" ∷ [])
+unfolding octal_text
+registers =
+    rw (get-holding cells accumulator, get-holding cells lower_accumulator, get-holding cells return_address, get-holding cells program_counter, get-holding cells both_banks, at-holding cells erasable_bank, at-holding cells fixed_bank) refl
+
+flags : flag_lines indexed ≡ ended (codes "SUP 0" ∷ codes "EXT 1" ∷ codes "INH 0" ∷ codes "INT 1" ∷ [])
+flags = rw (superbank-holding cells) refl
+
+is_asked : (k : ℕ) → set.contains indexed.requests k ≡ (eq_by_cmp nat_cmp k 3 || (eq_by_cmp nat_cmp k 10 || false))
+is_asked k =
+    set.contains-insert nat_cmp_total (set.insert set.empty 10) 3 k
+    ∙ ap (λ b. eq_by_cmp nat_cmp k 3 || b) (set.contains-insert nat_cmp_total set.empty 10 k ∙ ap (λ b. eq_by_cmp nat_cmp k 10 || b) (set.contains-empty nat_cmp k))
+
+asks : requested indexed ≡ 3 ∷ 10 ∷ []
+unfolding requested
+asks = rw (is_asked 1, is_asked 2, is_asked 3, is_asked 4, is_asked 5, is_asked 6, is_asked 7, is_asked 8, is_asked 9, is_asked 10) refl
+
+asked : or_none (numbers_text (3 ∷ 10 ∷ [])) ++ or_none (numbers_text []) ≡ codes " 3 10 NONE"
+unfolding digits
+asked = refl
+
+waiting : sum_line indexed ++ word_line indexed ≡ ended (codes "SUM 177774" ∷ codes "WORD NONE" ∷ [])
+unfolding octal_text
+waiting = refl
+
+-- what `until` is told where so many steps were made
+abbrev until : History → ℕ → ℕ → List ℕ
+until h cycles steps = (extended_reply h (at_step steps 1 []) (Until cycles)).text
+
+-- to the first step with so many cycles, back or on, over steps that stand
+until_what_stands : until (history five) 0 8 ++ until (history five) 1 8 ++ until (history five) 5 8 ++ until (history five) 6 8 ++ until (history five) 13 8
+    ≡ ended (codes "AT 0 0 4000" ∷ codes "AT 1 2 4001" ∷ codes "AT 3 5 4003" ∷ codes "AT 4 7 4004" ∷ codes "AT 8 13 4003" ∷ [])
+unfolding extended_reply grow lowest_hit at_line digits octal_text place channel_lines
+until_what_stands = ap (λ h. until h 0 8 ++ until h 1 8 ++ until h 5 8 ++ until h 6 8 ++ until h 13 8) history-five ∙ refl
+
+-- new steps end after the first with so many cycles
+until_new_steps : (grow (history five) (Cycles 6 ∷ []) 5 3 []).text ++ decimal (grow (history five) (Cycles 6 ∷ []) 5 3 []).steps ++ decimal (grow (history five) (Cycles 11 ∷ []) 5 5 []).steps ≡ codes "7 CH 010 00012\n47"
+unfolding grow lowest_hit digits octal_text channel_lines
+until_new_steps = ap (λ h. (grow h (Cycles 6 ∷ []) 5 3 []).text ++ decimal (grow h (Cycles 6 ∷ []) 5 3 []).steps ++ decimal (grow h (Cycles 11 ∷ []) 5 5 []).steps) history-five ∙ refl

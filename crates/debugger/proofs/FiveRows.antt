@@ -30,10 +30,10 @@ abbrev symbols : SymbolTable
 symbols = (codes "FIVE", Fixed 2 5) ∷ []
 
 -- the run, of which the first steps are listed
-abbrev five_listed : History
+abbrev pub five_listed : History
 five_listed = listed five_words [] after_0 moves
 
-history-five : history five ≡ five_listed
+pub history-five : history five ≡ five_listed
 history-five = history-listed five_words [] after_0 moves start-held goes
 
 -- what a script is replied, where calls that make steps are answered so

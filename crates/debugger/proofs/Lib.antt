@@ -12,3 +12,5 @@ mod Scripts
 mod FiveRows
 mod ClockRows
 mod ExtendedRows
+pub mod Requested
+pub mod FirstHit

@@ -11,7 +11,9 @@ use Rattle.commands.specs.declared.command.Request.{Request}
 use Rattle.replay.specs.View.{SessionView, HasShown}
 use Rattle.debugger.specs.History.{History, history, sight}
 use Rattle.debugger.specs.Replies.{Desk, says, places_changed, changed_text, changes_since}
-use Rattle.debugger.specs.Executions.{HasLooked, desk, awaiting, answered, Brings}
+use Rattle.commands.specs.declared.extended.ExtendedRequest.{ExtendedRequest}
+use Rattle.debugger.specs.Conversation.{to_asked}
+use Rattle.debugger.specs.Executions.{HasLooked, desk, awaiting, answered, Brings, BringsAsked}
 
 -- a step was shown
 pub looked_at : (s t : SessionView) (q : ℕ) → HasShown s q t → q ≤ s.n → HasLooked s t s.n
@@ -33,6 +35,13 @@ pub brings_text : (s t : SessionView) (p q : ℕ) (bs cs : List Breakpoint) (req
     → ((answers : List Bool) (additions : List (Option ℕ)) → answered (desk s p bs) request answers additions ≡ says text (awaiting (desk s q cs) answers additions))
     → Brings (desk s p bs) request text (desk t q cs)
 brings_text s t p q bs cs request text same brings answers additions =
+    brings answers additions ∙ sym (ap (λ (v : SessionView). says text (awaiting (desk v q cs) answers additions)) same)
+
+-- the same of what an extended session is asked for
+pub asked_text : (s t : SessionView) (p q : ℕ) (bs cs : List Breakpoint) (request : ExtendedRequest) (text : List ℕ) → t ≡ record s { shown = t.shown; meter = t.meter }
+    → ((answers : List Bool) (additions : List (Option ℕ)) → to_asked request (awaiting (desk s p bs) answers additions) ≡ says text (awaiting (desk s q cs) answers additions))
+    → BringsAsked (desk s p bs) request text (desk t q cs)
+asked_text s t p q bs cs request text same brings answers additions =
     brings answers additions ∙ sym (ap (λ (v : SessionView). says text (awaiting (desk v q cs) answers additions)) same)
 
 -- the places that read differently in two states

@@ -7,8 +7,8 @@ use Rattle.std.proofs.lemmas.Bool.Decides.{nat_tests}
 use Rattle.words.specs.Devices.{WritesBeginning}
 use Rattle.words.proofs.Texts.{append-then, beginning-after, first_begins, beginning-along}
 use Rattle.cpu.specs.declared.output.Output.{Output}
-use Rattle.cpu.specs.State.{State, Scenario}
-use Rattle.cpu.specs.Run.{run, out, outs}
+use Rattle.cpu.specs.State.{Scenario}
+use Rattle.cpu.specs.Run.{out, outs}
 use Rattle.cpu.proofs.RunLaws.{outs-add-one}
 use Rattle.replay.specs.Memory.{step_limit}
 use Rattle.commands.specs.declared.command.Breakpoint.{Breakpoint}
@@ -140,13 +140,6 @@ module _ {may_refuse : Bool} {h : History} {breakpoints : List Breakpoint} {more
         granted = granted-one at;
         part = rw whole (beginning-along old new' (at.text ++ line) ((at.text ++ line) ++ further.text) (beginning-after old new new' at.text line at.written w) (first_begins (at.text ++ line) further.text));
       }
-
--- what a step puts out, and what is seen after it
-pub at_step : (o : Option Output) (before first : Scenario) (n m : ℕ) → o ≡ out before m → m ≡ n + 1 → before ≡ first → o ≡ out first (n + 1)
-at_step o before first n m e f s = e ∙ ap (out before) f ∙ ap (λ (q : Scenario). out q (n + 1)) s
-
-pub seen_after : (present : State) (after before first : Scenario) (n m : ℕ) → present ≡ run after m → after ≡ before → before ≡ first → m ≡ n + 1 → present ≡ run first (n + 1)
-seen_after present after before first n m e s t f = e ∙ ap (run after) f ∙ ap (λ (q : Scenario). run q (n + 1)) (s ∙ t)
 
 -- the last items of a list and one more
 pub last_of-more : {X : Type 0} → (k : ℕ) (xs : List X) (x : X) → last_of k (last_of k xs ++ x ∷ []) ≡ last_of k (xs ++ x ∷ [])

@@ -4,26 +4,29 @@ use Rattle.words.specs.Devices.{Writes}
 use Rattle.words.specs.declared.device.WriteFailed.{WriteFailed}
 use Rattle.words.proofs.Texts.{append-then, beginning-after, beginning-longer}
 use Rattle.commands.specs.declared.command.Breakpoint.{Breakpoint}
-use Rattle.commands.specs.declared.command.Request.{Request}
 use Rattle.replay.specs.View.{SessionView}
-use Rattle.debugger.specs.History.{history}
+use Rattle.debugger.specs.History.{History, history}
 use Rattle.debugger.specs.Growth.{Growth, grow}
-use Rattle.debugger.specs.Replies.{Reply, says, after_steps, ending_line, at_line_of}
-use Rattle.debugger.specs.Executions.{Grown, GrowthBroken, desk, awaiting, answered, to_request, ReplyBroken, Executes}
+use Rattle.debugger.specs.Replies.{Desk, Reply, says, stands, after_text, after_growth, at_line_of}
+use Rattle.debugger.specs.Executions.{Grown, GrowthBroken, desk, awaiting, ReplyBroken, Replies}
 use Rattle.debugger.specs.declared.ending.Ending.{Ending}
 
+-- steps were made, and how they ended is told so
+abbrev pub steps_told : History → Desk → (Ending → List ℕ) → Growth → ℕ → Reply
+steps_told h d tell g position = after_text g.text (stands h (tell g.ending) (after_growth d g position))
+
 -- a request makes up to so many steps, up to some breakpoints, and the position is told by how many there are then
-abbrev pub MakesSteps : SessionView → ℕ → List Breakpoint → Request → List Breakpoint → ℕ → (ℕ → ℕ) → Type 0
-MakesSteps s p bs request tried more place =
-    (answers : List Bool) (additions : List (Option ℕ)) → answered (desk s p bs) request answers additions
-    ≡ (let g = grow (history s.scenario) tried more s.n answers in after_steps (history s.scenario) (awaiting (desk s p bs) answers additions) g (place g.steps))
+abbrev pub MakesSteps : SessionView → ℕ → List Breakpoint → (Desk → Reply) → (Ending → List ℕ) → List Breakpoint → ℕ → (ℕ → ℕ) → Type 0
+MakesSteps s p bs reply tell tried more place =
+    (answers : List Bool) (additions : List (Option ℕ)) → reply (awaiting (desk s p bs) answers additions)
+    ≡ (let g = grow (history s.scenario) tried more s.n answers in steps_told (history s.scenario) (awaiting (desk s p bs) answers additions) tell g (place g.steps))
 
 -- the line of an output could not be written whole
-pub steps-broken : (may_refuse : Bool) (s : SessionView) (p : ℕ) (bs : List Breakpoint) (request : Request) (tried : List Breakpoint) (more : ℕ) (place : ℕ → ℕ) (old new : List ℕ)
-    → MakesSteps s p bs request tried more place → GrowthBroken may_refuse (history s.scenario) tried more s.n old new → ReplyBroken may_refuse (to_request request) (desk s p bs) old new
-steps-broken may_refuse s p bs request tried more place old new makes b =
+pub steps-broken : (may_refuse : Bool) (s : SessionView) (p : ℕ) (bs : List Breakpoint) (reply : Desk → Reply) (tell : Ending → List ℕ) (tried : List Breakpoint) (more : ℕ) (place : ℕ → ℕ) (old new : List ℕ)
+    → MakesSteps s p bs reply tell tried more place → GrowthBroken may_refuse (history s.scenario) tried more s.n old new → ReplyBroken may_refuse reply (desk s p bs) old new
+steps-broken may_refuse s p bs reply tell tried more place old new makes b =
     let g = grow (history s.scenario) tried more s.n b.answers in
-    let after = ending_line g.ending ++ at_line_of (place g.steps) ((history s.scenario).after (place g.steps)) in
+    let after = tell g.ending ++ at_line_of (place g.steps) ((history s.scenario).after (place g.steps)) in
     record {
       answers = b.answers;
       additions = [];
@@ -32,31 +35,31 @@ steps-broken may_refuse s p bs request tried more place old new makes b =
     }
 
 -- what a request brings that makes steps
-brought : (may_refuse : Bool) (s : SessionView) (p : ℕ) (bs : List Breakpoint) (request : Request) (tried : List Breakpoint) (more : ℕ) (place : ℕ → ℕ) (t : SessionView) (q : ℕ) (ending : Ending) (old mid : List ℕ)
-    → MakesSteps s p bs request tried more place → t.scenario ≡ s.scenario → q ≡ place t.n → (g : Grown may_refuse (history s.scenario) tried more s.n ending t.n old mid) (rest : List Bool) (later : List (Option ℕ))
-    → answered (desk s p bs) request (g.answers ++ rest) later ≡ says (g.text ++ (ending_line ending ++ at_line_of q ((history s.scenario).after q))) (awaiting (desk t q bs) rest later)
-brought may_refuse s p bs request tried more place t q ending old mid makes same at g rest later =
+brought : (may_refuse : Bool) (s : SessionView) (p : ℕ) (bs : List Breakpoint) (reply : Desk → Reply) (tell : Ending → List ℕ) (tried : List Breakpoint) (more : ℕ) (place : ℕ → ℕ) (t : SessionView) (q : ℕ) (ending : Ending) (old mid : List ℕ)
+    → MakesSteps s p bs reply tell tried more place → t.scenario ≡ s.scenario → q ≡ place t.n → (g : Grown may_refuse (history s.scenario) tried more s.n ending t.n old mid) (rest : List Bool) (later : List (Option ℕ))
+    → reply (awaiting (desk s p bs) (g.answers ++ rest) later) ≡ says (g.text ++ (tell ending ++ at_line_of q ((history s.scenario).after q))) (awaiting (desk t q bs) rest later)
+brought may_refuse s p bs reply tell tried more place t q ending old mid makes same at g rest later =
     makes (g.answers ++ rest) later
-    ∙ ap (λ (r : Growth). after_steps (history s.scenario) (awaiting (desk s p bs) (g.answers ++ rest) later) r (place r.steps)) (g.goes_on rest)
+    ∙ ap (λ (r : Growth). steps_told (history s.scenario) (awaiting (desk s p bs) (g.answers ++ rest) later) tell r (place r.steps)) (g.goes_on rest)
     ∙ rw (at, same) refl
 
 -- how the steps ended was to be told
-pub steps-told : (may_refuse : Bool) (s : SessionView) (p : ℕ) (bs : List Breakpoint) (request : Request) (tried : List Breakpoint) (more : ℕ) (place : ℕ → ℕ) (t : SessionView) (q : ℕ) (ending : Ending) (old mid new : List ℕ) (result : Result (Unit {0}) WriteFailed)
-    → MakesSteps s p bs request tried more place → t.scenario ≡ s.scenario → q ≡ place t.n → Grown may_refuse (history s.scenario) tried more s.n ending t.n old mid
-    → Writes mid new (ending_line ending ++ at_line_of q ((history s.scenario).after q)) result → Executes may_refuse (desk s p bs) request (desk t q bs) old new result
-steps-told may_refuse s p bs request tried more place t q ending old mid new (Ok x) makes same at g w =
-    let end = ending_line ending ++ at_line_of q ((history s.scenario).after q) in
+pub steps-told : (may_refuse : Bool) (s : SessionView) (p : ℕ) (bs : List Breakpoint) (reply : Desk → Reply) (tell : Ending → List ℕ) (tried : List Breakpoint) (more : ℕ) (place : ℕ → ℕ) (t : SessionView) (q : ℕ) (ending : Ending) (old mid new : List ℕ) (result : Result (Unit {0}) WriteFailed)
+    → MakesSteps s p bs reply tell tried more place → t.scenario ≡ s.scenario → q ≡ place t.n → Grown may_refuse (history s.scenario) tried more s.n ending t.n old mid
+    → Writes mid new (tell ending ++ at_line_of q ((history s.scenario).after q)) result → Replies may_refuse reply (desk s p bs) (desk t q bs) old new result
+steps-told may_refuse s p bs reply tell tried more place t q ending old mid new (Ok x) makes same at g w =
+    let end = tell ending ++ at_line_of q ((history s.scenario).after q) in
     record {
       answers = g.answers;
       additions = [];
       granted = g.granted;
       text = g.text ++ end;
-      brings = brought may_refuse s p bs request tried more place t q ending old mid makes same at g;
+      brings = brought may_refuse s p bs reply tell tried more place t q ending old mid makes same at g;
       written = append-then old mid new g.text end g.written w;
     }
-steps-told may_refuse s p bs request tried more place t q ending old mid new (Err failed) makes same at g w =
-    let end = ending_line ending ++ at_line_of q ((history s.scenario).after q) in
-    let whole : (answered (desk s p bs) request g.answers []).text ≡ g.text ++ end =
-    ap (λ (answers : List Bool). (answered (desk s p bs) request answers []).text) (sym (append-nil g.answers))
-    ∙ ap (λ (r : Reply). r.text) (brought may_refuse s p bs request tried more place t q ending old mid makes same at g [] []) in
+steps-told may_refuse s p bs reply tell tried more place t q ending old mid new (Err failed) makes same at g w =
+    let end = tell ending ++ at_line_of q ((history s.scenario).after q) in
+    let whole : (reply (awaiting (desk s p bs) g.answers [])).text ≡ g.text ++ end =
+    ap (λ (answers : List Bool). (reply (awaiting (desk s p bs) answers [])).text) (sym (append-nil g.answers))
+    ∙ ap (λ (r : Reply). r.text) (brought may_refuse s p bs reply tell tried more place t q ending old mid makes same at g [] []) in
     record { answers = g.answers; additions = []; granted = g.granted; part = rw whole (beginning-after old mid new g.text end g.written w) }

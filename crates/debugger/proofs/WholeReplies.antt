@@ -1,5 +1,5 @@
 -- Requests whose whole reply is written at once.
-use Rattle.std.proofs.Common.{◌≡◌, Bool, List, [], ℕ, Option, Result, Ok, Err, sym, ap, ◌∙◌, append-nil}
+use Rattle.std.proofs.Common.{◌≡◌, Bool, List, [], ◌++◌, ℕ, Option, Result, Ok, Err, sym, ap, ◌∙◌, append-nil}
 use Rattle.words.specs.Devices.{Writes}
 use Rattle.words.specs.declared.device.WriteFailed.{WriteFailed}
 use Rattle.commands.specs.declared.command.Request.{Request}
@@ -39,3 +39,11 @@ executes-adding may_refuse from to asked request old new text bytes (Err failed)
 pub executes-nothing : (may_refuse : Bool) (from : Desk) (asked request : Request) (old : List ℕ) → asked ≡ request → Brings from request [] from → Executes may_refuse from asked from old old (Ok tt)
 executes-nothing may_refuse from asked request old is brings =
     rw is (record { answers = []; additions = []; granted = λ _. tt; text = []; brings = brings; written = sym (append-nil old) })
+
+-- what brings the same is replied the same
+pub replies-same : (may_refuse : Bool) (reply other : Desk → Reply) (from to : Desk) (old new : List ℕ) (result : Result (Unit {0}) WriteFailed)
+    → ((answers : List Bool) (additions : List (Option ℕ)) → reply (awaiting from answers additions) ≡ other (awaiting from answers additions)) → Replies may_refuse other from to old new result → Replies may_refuse reply from to old new result
+replies-same may_refuse reply other from to old new (Ok x) same r =
+    record { answers = r.answers; additions = r.additions; granted = r.granted; text = r.text; brings = λ rest later. same (r.answers ++ rest) (r.additions ++ later) ∙ r.brings rest later; written = r.written }
+replies-same may_refuse reply other from to old new (Err failed) same b =
+    record { answers = b.answers; additions = b.additions; granted = b.granted; part = rw (same b.answers b.additions) b.part }

@@ -7,7 +7,7 @@ use Rattle.symbols.specs.Values.{SymbolTable}
 use Rattle.commands.specs.Commands.{request_of}
 use Rattle.commands.specs.Extended.{extended_request_of}
 use Rattle.commands.specs.declared.extended.ExtendedRequest.{ExtendedRequest}
-use Rattle.commands.specs.declared.extended.ExtendedRequest.TheVariants.{Plain, Says, Help, Breaks, ClearOne}
+use Rattle.commands.specs.declared.extended.ExtendedRequest.TheVariants.{Plain, Says, Help, Breaks, ClearOne, On, AllRegisters, Until}
 use Rattle.debugger.specs.declared.manner.Manner.{Manner}
 use Rattle.debugger.specs.declared.manner.Manner.TheVariants as manner
 use Rattle.debugger.specs.History.{history}
@@ -34,6 +34,9 @@ is_end (Says text) = false
 is_end Help = false
 is_end Breaks = false
 is_end (ClearOne i) = false
+is_end (On k) = false
+is_end (Until cycles) = false
+is_end AllRegisters = false
 
 -- what a request brings, over the reference run of what runs now
 abbrev pub to_asked : ExtendedRequest → Desk → Reply

@@ -11,6 +11,7 @@ use Rattle.debugger.specs.Growth.{grow}
 use Rattle.debugger.specs.Replies.{Desk, Reply, says, answer}
 use Rattle.debugger.specs.Sessions.{AllGranted}
 use Rattle.commands.specs.declared.extended.ExtendedRequest.{ExtendedRequest}
+use Rattle.debugger.specs.ExtendedReplies.{grows_to, grows_until}
 use Rattle.debugger.specs.Conversation.{to_asked}
 use Rattle.debugger.specs.declared.ending.Ending.{Ending}
 
@@ -84,6 +85,14 @@ Replies may_refuse reply from to old new (Err failed) = ReplyBroken may_refuse r
 
 abbrev pub Executes : Bool → Desk → Request → Desk → List ℕ → List ℕ → Result (Unit {0}) WriteFailed → Type 0
 Executes may_refuse from request to old new result = Replies may_refuse (to_request request) from to old new result
+
+-- what `on` brings where no breakpoint holds among the steps that stand
+abbrev pub grows_on : ℕ → Desk → Reply
+grows_on k d = grows_to (history d.scenario) d (d.position + k)
+
+-- what `until` brings where no step that was made has so many cycles
+abbrev pub makes_until : ℕ → Desk → Reply
+makes_until cycles d = grows_until (history d.scenario) d cycles
 
 -- what a look at earlier steps leaves: only the shown machine and the meter may change, and so many steps are executed at
 -- most

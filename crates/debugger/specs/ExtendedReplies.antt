@@ -1,16 +1,23 @@
 -- What each line of an extended session brings.
-use Rattle.std.specs.Prelude.{ℕ, ◌+◌, ◌-◌, nat_lt, nat_le, ◌&&◌, List, [], ◌∷◌, ◌++◌, length, codes, decimal, if◌then◌else◌}
+use Rattle.std.specs.Prelude.{ℕ, ◌+◌, ◌-◌, nat_lt, nat_le, ◌&&◌, min, Option, None, Some, is_some, List, [], ◌∷◌, ◌++◌, length, codes, decimal, if◌then◌else◌}
 use Rattle.std.specs.List.{remove}
 use Rattle.words.specs.Numerals.{octal_text}
 use Rattle.space.specs.declared.place.Linear.{Linear}
 use Rattle.space.specs.declared.place.Linear.TheVariants.{Erasable, Fixed}
 use Rattle.commands.specs.Usages.{usages, help_lines}
 use Rattle.commands.specs.declared.command.Breakpoint.{Breakpoint}
-use Rattle.commands.specs.declared.command.Breakpoint.TheVariants.{Place, Word, Channel}
+use Rattle.commands.specs.declared.command.Breakpoint.TheVariants.{Place, Word, Channel, Cycles}
 use Rattle.commands.specs.declared.extended.ExtendedRequest.{ExtendedRequest}
-use Rattle.commands.specs.declared.extended.ExtendedRequest.TheVariants.{Plain, Says, Help, Breaks, ClearOne}
+use Rattle.commands.specs.declared.extended.ExtendedRequest.TheVariants.{Plain, Says, Help, Breaks, ClearOne, On, AllRegisters, Until}
+use Rattle.cpu.specs.Run.{run}
 use Rattle.debugger.specs.History.{History}
-use Rattle.debugger.specs.Replies.{Desk, Reply, says, line, refuses, answer}
+use Rattle.debugger.specs.AllRegisters.{all_registers}
+use Rattle.replay.specs.LastHit.{first_hit}
+use Rattle.debugger.specs.Growth.{grow, lowest_hit}
+use Rattle.debugger.specs.declared.ending.Ending.{Ending}
+use Rattle.debugger.specs.declared.ending.Ending.TheVariants.{Reached, Hit, NoMemory, Limit}
+use Rattle.commands.specs.Extended.{most_count}
+use Rattle.debugger.specs.Replies.{Desk, Reply, says, line, refuses, answer, sought, moves, stands, ending_line, after_text, after_growth, after_steps}
 
 -- a place as a command names it
 abbrev pub place_text : Linear → List ℕ
@@ -22,6 +29,7 @@ abbrev pub breakpoint_text : Breakpoint → List ℕ
 breakpoint_text (Place place) = codes "at " ++ place_text place
 breakpoint_text (Word p w) = codes "word " ++ octal_text 4 p ++ codes " " ++ octal_text 5 w
 breakpoint_text (Channel c w) = codes "chan " ++ octal_text 3 c ++ codes " " ++ octal_text 5 w
+breakpoint_text (Cycles cycles) = codes "cycles " ++ decimal cycles
 
 -- a line for each, numbered on from so many, and how many there are
 abbrev pub breaks_from : ℕ → List Breakpoint → List ℕ
@@ -34,6 +42,40 @@ clears_one d i =
     if nat_lt 0 i && nat_le i (length d.breakpoints) then says (line (codes "CLEAR " ++ decimal i)) (record d { breakpoints = remove d.breakpoints (i - 1) })
     else refuses d (codes "NONE")
 
+-- the first step after the position, of so many that stand, at which a breakpoint holds
+abbrev pub next_stop : History → Desk → ℕ → Option ℕ
+next_stop h d k = first_hit (λ t. is_some (lowest_hit d.breakpoints (h.after t))) (d.position + 1) (min k (d.steps - d.position))
+
+-- the position moves on to it; where there is none, new steps are made, as many as are left
+abbrev pub grows_to : History → Desk → ℕ → Reply
+grows_to h d target = let g = grow h d.breakpoints (target - d.steps) d.steps d.answers in after_steps h d g (min target g.steps)
+
+abbrev pub stops_on : History → Desk → ℕ → Option ℕ → Reply
+stops_on h d k None = grows_to h d (d.position + k)
+stops_on h d k (Some t) = sought h d (Some t)
+
+-- the first of n steps with so many cycles; the start has none
+abbrev pub first_at : History → ℕ → ℕ → Option ℕ
+first_at h n cycles = first_hit (λ t. nat_le cycles (h.after t).cycles) 0 (n + 1)
+
+-- that so many cycles have passed is told as that the steps were made
+abbrev pub unhit : Ending → Ending
+unhit Reached = Reached
+unhit (Hit i) = Reached
+unhit NoMemory = NoMemory
+unhit Limit = Limit
+
+-- new steps are made until so many cycles have passed
+abbrev pub grows_until : History → Desk → ℕ → Reply
+grows_until h d cycles =
+    let g = grow h (Cycles cycles ∷ []) most_count d.steps d.answers in
+    after_text g.text (stands h (ending_line (unhit g.ending)) (after_growth d g g.steps))
+
+-- the position moves to the first step with so many cycles, which is new where none of those that were made has
+abbrev pub goes_until : History → Desk → ℕ → Option ℕ → Reply
+goes_until h d cycles None = grows_until h d cycles
+goes_until h d cycles (Some t) = moves h d t
+
 -- what a line brings, over a run
 unfoldable pub extended_reply : History → Desk → ExtendedRequest → Reply
 extended_reply h d (Plain request) = answer h d request
@@ -41,3 +83,6 @@ extended_reply h d (Says text) = says text d
 extended_reply h d Help = says (help_lines usages) d
 extended_reply h d Breaks = says (breaks_from 0 d.breakpoints) d
 extended_reply h d (ClearOne i) = clears_one d i
+extended_reply h d (On k) = stops_on h d k (next_stop h d k)
+extended_reply h d (Until cycles) = goes_until h d cycles (first_at h d.steps cycles)
+extended_reply h d AllRegisters = says (all_registers (run d.scenario d.position)) d

@@ -3,6 +3,7 @@ pub mod History
 pub mod Growth
 pub mod Replies
 pub mod ExtendedReplies
+pub mod AllRegisters
 pub mod Transcript
 pub mod Sessions
 pub mod Conversation

@@ -16,6 +16,7 @@ fn holds(breakpoint: Breakpoint, machine: &Machine) -> bool
         Breakpoint::Place(place) => machine.next_place() == place,
         Breakpoint::Word(place, word) => machine.word(place) == word,
         Breakpoint::Channel(channel, word) => machine.channel(channel).correct() == word,
+        Breakpoint::Cycles(cycles) => cycles <= machine.cycles(),
     }
 }
 

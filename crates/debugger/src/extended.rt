@@ -1,18 +1,22 @@
 //! The commands that an extended session has besides.
 
-ghost use Rattle.std.specs.Prelude.{◌≡◌, ◌+◌, ◌*◌, ◌≤◌, ◌++◌, length, true};
+ghost use Rattle.std.specs.Prelude.{◌≡◌, ◌+◌, ◌*◌, ◌≤◌, ◌++◌, length, true, IfSome};
 ghost use Rattle.arrayvec.specs.ArrayVec.{array_vec_len};
 ghost use Rattle.words.specs.Devices.{failures_after};
 ghost use Rattle.cpu.specs.Run.{outs};
 ghost use Rattle.replay.specs.View.{SessionView};
 ghost use Rattle.commands.specs.declared.extended.ExtendedRequest.TheVariants as asked;
-ghost use Rattle.debugger.specs.Replies.{last_of, tail_length, line};
-ghost use Rattle.debugger.specs.ExtendedReplies.{place_text, breakpoint_text, breaks_from};
+ghost use Rattle.debugger.specs.Replies.{last_of, tail_length, line, hit_text, at_line_of};
+ghost use Rattle.debugger.specs.ExtendedReplies.{place_text, breakpoint_text, breaks_from, next_stop};
+ghost use Rattle.debugger.specs.History.{history};
+ghost use Rattle.debugger.specs.Growth.{lowest_hit};
 ghost use Rattle.debugger.specs.Conversation.{to_asked};
-ghost use Rattle.debugger.specs.Executions.{desk, BringsAsked, Replies, HasGoneOn};
+ghost use Rattle.debugger.specs.Executions.{desk, BringsAsked, Replies, grows_on, HasLooked, HasGoneOn};
 
+use crate::breakpoints::lowest_hit;
 use crate::desk::Desk;
-use crate::texts::{Text, number_line, text_line};
+use crate::growing::grow;
+use crate::texts::{Text, hit_and_at_line, number_line, text_line};
 use arrayvec::ArrayVec;
 use commands::{Breakpoint, Breakpoints, ExtendedRequest, help_text};
 use replay::{Keeper, Session};
@@ -44,6 +48,11 @@ impl Desk {
             ExtendedRequest::ClearOne(number) => {
                 write_all(out, self.clear_one(*number).as_slice())
             }
+            ExtendedRequest::On(steps) => self.go_on(session, *steps, out),
+            ExtendedRequest::Until(cycles) => self.until(session, *cycles, out),
+            ExtendedRequest::AllRegisters => {
+                write_all(out, self.all_registers(session).as_slice())
+            }
         }
     }
 
@@ -60,10 +69,97 @@ impl Desk {
         self.breakpoints.remove(number as usize - 1);
         number_line(b"CLEAR ", number)
     }
+
+    /// `on`: on from the position up to a breakpoint, over steps that stand and then new ones.
+    fn go_on<K: Keeper, W: Write>(
+        &mut self,
+        session: &mut Session<K>,
+        steps: u64,
+        out: &mut W,
+    ) -> Result<(), WriteFailed>
+        requires within { self.old.position ≤ session.old.n }
+        requires tail { self.old.tail ≡ last_of tail_length (outs session.old.scenario session.old.n) }
+        ensures executes { W.told ≡ true → Replies K.may_refuse (to_asked (asked.On steps)) (desk session.old self.old.position self.old.breakpoints) (desk session.new self.new.position self.new.breakpoints) (W.written out.old) (W.written out.new) result }
+        ensures within { self.new.position ≤ session.new.n }
+        ensures tail { self.new.tail ≡ last_of tail_length (outs session.new.scenario session.new.n) }
+        ensures session { HasGoneOn session.old session.new }
+        ensures failures { W.failures out.new ≡ failures_after (W.failures out.old) result }
+    {
+        match self.next_stop(session, steps) {
+            Some(step) => {
+                self.position = step;
+                write_all(out, self.stop_text(session).as_slice())
+            }
+            None => self.grow_on(session, steps, out),
+        }
+    }
+
+    /// The first step after the position, of so many that stand, at which a breakpoint holds.
+    fn next_stop<K: Keeper>(&self, session: &mut Session<K>, steps: u64) -> Option<u64>
+        requires { self.now.position ≤ session.old.n }
+        ensures next { result ≡ next_stop (history session.old.scenario) (desk session.old self.now.position self.now.breakpoints) steps }
+        ensures within { IfSome result (λ t. t ≤ session.old.n) }
+        ensures looked { HasLooked session.old session.new session.old.n }
+    {
+        let breakpoints = self.breakpoints.as_slice();
+        let count = steps.min(session.steps() - self.position);
+        session.seek_on(
+            self.position + 1,
+            count,
+            |machine| lowest_hit(breakpoints, machine).is_some(),
+        )
+    }
+
+    /// The breakpoint that holds at the position, and the line of the position.
+    fn stop_text<K: Keeper>(&self, session: &mut Session<K>) -> Text
+        requires { self.now.position ≤ session.old.n }
+        ensures text { result.items ≡ hit_text (lowest_hit self.now.breakpoints ((history session.old.scenario).after self.now.position)) ++ at_line_of self.now.position ((history session.old.scenario).after self.now.position) }
+        ensures looked { HasLooked session.old session.new session.old.n }
+    {
+        match session.show(self.position) {
+            Ok(machine) => {
+                let hit = lowest_hit(self.breakpoints.as_slice(), machine);
+                hit_and_at_line(hit, self.position, machine)
+            }
+            Err(_) => unreachable!(),
+        }
+    }
+
+    /// `on` where no breakpoint holds among the steps that stand.
+    fn grow_on<K: Keeper, W: Write>(
+        &mut self,
+        session: &mut Session<K>,
+        steps: u64,
+        out: &mut W,
+    ) -> Result<(), WriteFailed>
+        requires within { self.old.position ≤ session.old.n }
+        requires tail { self.old.tail ≡ last_of tail_length (outs session.old.scenario session.old.n) }
+        ensures executes { W.told ≡ true → Replies K.may_refuse (grows_on steps) (desk session.old self.old.position self.old.breakpoints) (desk session.new self.new.position self.new.breakpoints) (W.written out.old) (W.written out.new) result }
+        ensures within { self.new.position ≤ session.new.n }
+        ensures tail { self.new.tail ≡ last_of tail_length (outs session.new.scenario session.new.n) }
+        ensures forward { session.old.n ≤ session.new.n }
+        ensures spends { session.new.meter + 2 * session.old.n ≤ session.old.meter + 3 * session.new.n }
+        ensures failures { W.failures out.new ≡ failures_after (W.failures out.old) result }
+    {
+        let more = steps.saturating_sub(session.steps() - self.position);
+        match grow(
+            session,
+            &mut self.tail,
+            self.breakpoints.as_slice(),
+            more,
+            out,
+        ) {
+            Ok(ending) => {
+                self.position += steps.min(session.steps() - self.position);
+                self.tell_ending(session, ending, out)
+            }
+            Err(failed) => Err(failed),
+        }
+    }
 }
 
-/// The most bytes of the lines of breakpoints: 48 for each of 16, and `COUNT `, 20 digits and a line feed.
-const BREAKS_TEXT: usize = 800;
+/// The most bytes of the lines of breakpoints: 64 for each of 16, and `COUNT `, 20 digits and a line feed.
+const BREAKS_TEXT: usize = 1_056;
 
 /// The lines of breakpoints.
 type BreaksText = ArrayVec<u8, BREAKS_TEXT>;
@@ -91,10 +187,11 @@ fn breaks_text(breakpoints: &Breakpoints) -> BreaksText
 }
 
 /// Adds a breakpoint as the command that sets it.
+#[tactic(auto, using(words::proofs::Digits::short_decimal))]
 fn push_breakpoint(text: &mut BreaksText, breakpoint: Breakpoint)
-    requires { array_vec_len text.old ≤ 780 }
+    requires { array_vec_len text.old ≤ 1000 }
     ensures items { text.new.items ≡ text.old.items ++ breakpoint_text breakpoint }
-    ensures short { array_vec_len text.new ≤ array_vec_len text.old + 20 }
+    ensures short { array_vec_len text.new ≤ array_vec_len text.old + 27 }
 {
     match breakpoint {
         Breakpoint::Place(place) => {
@@ -113,12 +210,16 @@ fn push_breakpoint(text: &mut BreaksText, breakpoint: Breakpoint)
             push_all(text, b" ");
             push_octal(text, 5, word.to_u16());
         }
+        Breakpoint::Cycles(cycles) => {
+            push_all(text, b"cycles ");
+            push_decimal(text, cycles);
+        }
     }
 }
 
 /// Adds a place as a command names it.
 fn push_place(text: &mut BreaksText, place: Linear)
-    requires { array_vec_len text.old ≤ 790 }
+    requires { array_vec_len text.old ≤ 1003 }
     ensures items { text.new.items ≡ text.old.items ++ place_text place }
     ensures short { array_vec_len text.new ≤ array_vec_len text.old + 7 }
 {

@@ -5,6 +5,7 @@
 #![tactic(auto)]
 
 mod adding;
+mod all_registers;
 mod breakpoints;
 mod desk;
 mod ending;
@@ -18,6 +19,7 @@ mod short;
 mod steps;
 mod tail;
 mod texts;
+mod until;
 
 pub use ending::Ending;
 pub use fault::DebugFault;

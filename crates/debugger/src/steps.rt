@@ -1,6 +1,6 @@
 //! Commands that make new steps.
 
-ghost use Rattle.std.specs.Prelude.{◌≡◌, ◌+◌, ◌*◌, ◌≤◌, ◌++◌, true};
+ghost use Rattle.std.specs.Prelude.{◌≡◌, ◌+◌, ◌≤◌, ◌++◌, true};
 ghost use Rattle.words.specs.Devices.{Writes, failures_after};
 ghost use Rattle.cpu.specs.Run.{outs};
 ghost use Rattle.commands.specs.declared.command.Command.TheVariants as command;
@@ -33,13 +33,9 @@ impl Desk {
         ensures failures { W.failures out.new ≡ failures_after (W.failures out.old) result }
     {
         let more = steps.saturating_sub(session.steps() - self.position);
-        match grow(session, &mut self.tail, &[], more, out) {
-            Ok(ending) => {
-                self.position += steps.min(session.steps() - self.position);
-                self.tell_ending(session, ending, out)
-            }
-            Err(failed) => Err(failed),
-        }
+        let ending = grow(session, &mut self.tail, &[], more, out)?;
+        self.position += steps.min(session.steps() - self.position);
+        self.tell_ending(session, ending, out)
     }
 
     /// `run`: so many steps on from the present, up to a breakpoint.
@@ -58,18 +54,14 @@ impl Desk {
         ensures failures { W.failures out.new ≡ failures_after (W.failures out.old) result }
     {
         let breakpoints = self.breakpoints.as_slice();
-        match grow(session, &mut self.tail, breakpoints, steps, out) {
-            Ok(ending) => {
-                self.position = session.steps();
-                self.tell_ending(session, ending, out)
-            }
-            Err(failed) => Err(failed),
-        }
+        let ending = grow(session, &mut self.tail, breakpoints, steps, out)?;
+        self.position = session.steps();
+        self.tell_ending(session, ending, out)
     }
 
     /// Writes how steps ended, and the line of the position.
     #[tactic(auto, unfolding(crate::specs::History::history))]
-    fn tell_ending<K: Keeper, W: Write>(
+    pub(crate) fn tell_ending<K: Keeper, W: Write>(
         &self,
         session: &mut Session<K>,
         ending: Ending,

@@ -3,7 +3,7 @@
 use commands::{CommandLine, DeviceFault, LineReader, MOST_BYTES};
 use std::io;
 use std::process::Abort;
-use words::faulty::FaultyReader;
+use test_devices::FaultyReader;
 use words::{Read, Write};
 
 /// A writer that takes all bytes, counts how often it is to hand them on, and may fail to.

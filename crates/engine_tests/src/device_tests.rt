@@ -5,7 +5,7 @@ use rope::RopeFault;
 use space::numbers::Bank;
 use std::alloc::Global;
 use std::process::Abort;
-use words::faulty::{FaultyReader, FaultyWriter, Trouble};
+use test_devices::{FaultyReader, FaultyWriter, Trouble};
 use words::{Buffer, Read, Write};
 use workshop::{
     Version, WorkshopFault, asm_engine, compare_engine, debug_engine, debug_image_engine,

@@ -4,8 +4,8 @@ use crate::sources::FIVE_PLUS_FIVE;
 use feed::FeedFault;
 use rope::RopeFault;
 use std::alloc::AllocError;
+use test_devices::{FaultyReader, FaultyWriter, Trouble};
 use words::Buffer;
-use words::faulty::{FaultyReader, FaultyWriter, Trouble};
 use workshop::{Summary, WorkshopFault, report, run_engine, write_end};
 use yayul::Fault;
 

@@ -1,9 +1,9 @@
 -- What is due.
-use Rattle.std.proofs.Common.{ℕ, zero, suc, ◌<◌, ◌≤◌, ◌≡◌, true, false, List, [], ◌∷◌, Option, Some, None, leb, refl, ap, ◌∙◌, sym, arith, inl, inr}
+use Rattle.std.proofs.Common.{ℕ, zero, suc, ◌<◌, ◌≤◌, ◌≡◌, false, List, [], ◌∷◌, Option, Some, None, leb, refl, ap, ◌∙◌, sym, arith, inl, inr}
 use Rattle.std.specs.Prelude.{slice_get}
 use Rattle.std.proofs.lemmas.Bool.Decides.{nat_tests}
 use Rattle.feed.specs.declared.entry.Entry.{Entry}
-use Rattle.feed.specs.Merged.{is_before, inserted, due, when_come, given_by}
+use Rattle.feed.specs.Merged.{is_before, inserted, due, when_come}
 use Rattle.feed.specs.Order.{NoneBefore, IsInOrder}
 use Rattle.feed.specs.Added.{AddsLast, plain_on}
 use Rattle.feed.specs.Kept.{NoneDue, due_from}
@@ -12,9 +12,6 @@ use Rattle.feed.proofs.Sorting.{either_way, before-not}
 
 isnt_le : (a b : ℕ) → b < a → leb a b ≡ false
 isnt_le a b h = grind (arith, nat_tests)
-
-is_le : (a b : ℕ) → a ≤ b → leb a b ≡ true
-is_le a b h = grind (arith, nat_tests)
 
 not_come : (cycles : ℕ) (x : Entry) → cycles < x.cycle → when_come cycles (Some x) ≡ None
 not_come cycles x h = rw (isnt_le x.cycle cycles h) refl
@@ -29,12 +26,6 @@ none_due-some list k e h = λ now b. due-at list k now (Some e) h ∙ not_come n
 
 pub none_due-end : (list : List Entry) (k cycle : ℕ) → slice_get list k ≡ None → NoneDue list k cycle
 none_due-end list k cycle h = λ now b. due-at list k now None h
-
-pub come-some : (cycles : ℕ) (e : Entry) → e.cycle ≤ cycles → when_come cycles (Some e) ≡ Some (given_by e)
-come-some cycles e h = rw (is_le e.cycle cycles h) refl
-
-pub come-later : (cycles : ℕ) (e : Entry) → cycles < e.cycle → when_come cycles (Some e) ≡ None
-come-later cycles e h = not_come cycles e h
 
 -- an entry that is not before another is due no earlier
 pub isnt_before_cycle : (x y : Entry) → is_before y x ≡ false → x.cycle ≤ y.cycle

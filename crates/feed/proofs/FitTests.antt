@@ -116,9 +116,6 @@ count-before x (y ∷ ys) (suc k) last o at h n = elim (either_way (is_before y 
   | inr isnt ↦ absurd (let later = not_before-get y last ys k o.0 at in let e = before-not x y last isnt later in cc)
 ]
 
-pub count-at_start : (x : Entry) (S : List Entry) → IsInOrder S → NotBeforeAt x S 0 → number_before (Some x) S ≡ 0
-count-at_start x S o h = count-none x S o h
-
 pub and-left : (b c : Bool) → (b && c) ≡ true → b ≡ true
 and-left true c e = refl
 and-left false c e = e

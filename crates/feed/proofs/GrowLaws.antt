@@ -46,11 +46,6 @@ sorted-among x (y ∷ ys) h = among-or-rest (among-inserted x y (in_order ys) h)
     among-or-rest (inl a) f = inl a
     among-or-rest (inr b) f = inr (f b)
 
-among-left : (x : Entry) (xs ys : List Entry) → IsAmong x xs → IsAmong x (xs ++ ys)
-among-left x [] ys h = absurd h
-among-left x (z ∷ xs) ys (inl h) = inl h
-among-left x (z ∷ xs) ys (inr h) = inr (among-left x xs ys h)
-
 among-parts : (x : Entry) (xs ys : List Entry) → IsAmong x (xs ++ ys) → IsAmong x xs ⊎ IsAmong x ys
 among-parts x [] ys h = inr h
 among-parts x (z ∷ xs) ys (inl h) = inl (inl h)

@@ -6,7 +6,6 @@ use Rattle.std.specs.Option.{option_or}
 use Rattle.std.proofs.lemmas.List.{append_assoc, append-nil, length-append}
 use Rattle.feed.specs.Added.{LinesBelow}
 use Rattle.feed.specs.Feed.{most_inputs, is_late, plain_in, series_in, plain_from, series_from, fault_after, first_fault}
-use Rattle.feed.specs.Gathering.{Tells}
 use Rattle.feed.specs.Heads.{IsRule}
 use Rattle.feed.specs.Kept.{AreGathered}
 use Rattle.feed.specs.Merged.{merged, in_order, entries_from}
@@ -15,7 +14,6 @@ use Rattle.feed.specs.declared.entry.Entry.{Entry}
 use Rattle.feed.specs.declared.entry.Plain.{Plain}
 use Rattle.feed.specs.declared.entry.Series.{Series}
 use Rattle.feed.specs.declared.fault.FeedFault.{FeedFault}
-use Rattle.feed.specs.declared.fault.FeedFault.TheVariants.{NoMemory, ReadFailed, BadLine, OutOfOrder, TooMany, WrongCounter, TooLong, TooManySeries}
 use Rattle.feed.specs.declared.input.Input.{Input}
 use Rattle.feed.specs.declared.statement.Statement.{Statement}
 use Rattle.feed.proofs.AddLaws.{gathered-more, place-last}
@@ -90,24 +88,6 @@ left-none all plain series number here left none = (
   sym (left.serially ∙ ap (λ said. series ++ series_from number said) none ∙ append-nil series),
 )
 
--- what is told of a line with a fault is told of it and the lines after it
-tells_first : (found rest : Option FeedFault) (fault : FeedFault) → Tells found fault → Tells (option_or found rest) fault
-tells_first found rest NoMemory told = tt
-tells_first found rest ReadFailed told = told
-tells_first found rest (BadLine line) told = rw told refl
-tells_first found rest (OutOfOrder line) told = rw told refl
-tells_first found rest TooMany told = rw told refl
-tells_first found rest (WrongCounter line) told = rw told refl
-tells_first found rest TooLong told = told
-tells_first found rest (TooManySeries line) told = rw told refl
-
--- a refused line is told of all
-pub told_of_all : (all : List Statement) (plain : List Plain) (series : List Series) (number : ℕ) (here after : List Statement) (line : Statement) (fault : FeedFault) → AreLeft all plain series number here → here ≡ line ∷ after
-    → Tells (fault_after plain series number line) fault → Tells (first_fault [] all) fault
-told_of_all all plain series number here after line fault left split told =
-    rw (left.fault ∙ ap (first_from plain series number) split)
-    (tells_first (fault_after plain series number line) (first_from (plain ++ plain_in number line) (series ++ series_in number line) (number + 1) after) fault told)
-
 none-among : (x : Entry) → IsAmong x (merged [] []) → ⊥
 unfolding merged in_order entries_from
 none-among x m = m
@@ -120,10 +100,6 @@ merged-none plain series p s = ap (λ (l : List Plain). merged l series) p ∙ a
 -- nothing is gathered at first
 pub none_gathered : (line : ℕ) → AreGathered [] [] line
 none_gathered line = record { sources = no-sources; plainly = omega arith; few = omega arith; lines = λ x m. absurd (none-among x m) }
-
--- a line that gives nothing
-pub gathered_nothing : (plain : List Plain) (series : List Series) (line : ℕ) → AreGathered plain series line → AreGathered plain series (line + 1)
-gathered_nothing plain series line g = record { sources = g.sources; plainly = g.plainly; few = g.few; lines = λ x m. let b = g.lines x m in omega arith }
 
 insert-last : (plain : List Plain) (p : Plain) → insert plain (length plain) p ≡ plain ++ p ∷ []
 insert-last [] p = refl

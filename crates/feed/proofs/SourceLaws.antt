@@ -98,10 +98,6 @@ pub in_order-range : (j : ℕ) (s : Series) (a n : ℕ) → 0 < s.den → IsInOr
 in_order-range j s a zero d = tt
 in_order-range j s a (suc n) d = (none_before-range j s a (a + 1) n d (omega arith), in_order-range j s (a + 1) n d)
 
-pub in_order-entries : (j : ℕ) (s : Series) → IsRule s → IsInOrder (entries_of j s)
-unfolding entries_of
-in_order-entries j s rule = in_order-range j s 0 s.count rule.den
-
 in_order-at : (j : ℕ) (o : Option Series) → IfSome o (λ s. IsRule s) → IsInOrder (entries_at j o)
 unfolding entries_of
 in_order-at j None d = tt

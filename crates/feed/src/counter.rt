@@ -7,7 +7,7 @@ use crate::counter::Asks::{AtZero, CarryInto, Nothing, OnOneShiftedOut, OnOverfl
 use crate::input::Sequence::{Dinc, Mcdu, Minc, Pcdu, Pinc, Shanc, Shinc};
 use crate::input::{Counter, Sequence};
 use crate::interrupt::Interrupt;
-use space::numbers::Eras;
+use space::Eras;
 
 /// What a counter asks for after a step.
 #[derive(Clone, Copy, Debug)]

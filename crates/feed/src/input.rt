@@ -1,7 +1,7 @@
 //! What reaches the computer from outside, and when.
 
 use crate::interrupt::Interrupt;
-use space::numbers::Chan;
+use space::Chan;
 use words::Word;
 
 /// A counter: an erasable place that pulses from outside count in.

@@ -1,6 +1,6 @@
 //! Feeds from their bytes.
 
-ghost use Rattle.std.specs.Prelude.{◌≡◌, ◌≤◌, ◌<◌, ◌+◌, ℕ, [], None, true, if◌then◌else◌, IfOk, IfErr, OnOk, length};
+ghost use Rattle.std.specs.Prelude.{◌≡◌, ◌≤◌, ◌<◌, ◌+◌, [], None, true, if◌then◌else◌, IfOk, IfErr, OnOk, length};
 ghost use Rattle.words.specs.Devices.{one_more};
 ghost use Rattle.feed.specs.Feed.{most_bytes, plain_from, series_from, statements, is_late, first_fault};
 ghost use Rattle.feed.specs.Gathering.{IsRuled, Tells, TakesLine};

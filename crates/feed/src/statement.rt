@@ -1,7 +1,6 @@
 //! What a line of a feed says, whatever stands before it.
 
-ghost use Rattle.std.specs.Prelude.{◌≡◌, ◌∷◌, ◌<◌, ◌^◌, ℕ, IfOk, IfSome};
-ghost use Rattle.std.specs.List.{list_all};
+ghost use Rattle.std.specs.Prelude.{◌≡◌, ◌∷◌, ◌<◌, ◌^◌, IfOk, IfSome};
 ghost use Rattle.agc_text.specs.Fields.{runs, texts};
 ghost use Rattle.feed.specs.Gathering.{IsRuled, HasRule};
 ghost use Rattle.feed.specs.Statements.{is_allowed, is_input_channel, channel_in, word_in, request_in, factor_in, formed, pulse_of, short_input, long_input, input_in, at_cycle, timed_in, rule_in, statement_in, gives, repeats, statement_of, parsed};
@@ -12,7 +11,7 @@ use crate::input::{Counter, Input, Sequence};
 use crate::interrupt::{INTERRUPTS, Interrupt};
 use crate::names::{counter_of, sequence_of};
 use agc_text::{LINE_LENGTH, before_comment, decimal, is_text, octal, split_field};
-use space::numbers::Chan;
+use space::Chan;
 use words::Word;
 
 /// The most digits of a cycle.

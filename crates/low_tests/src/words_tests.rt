@@ -2,7 +2,7 @@
 
 use arrayvec::ArrayVec;
 use std::io;
-use words::faulty::{FaultyReader, FaultyWriter, Trouble};
+use test_devices::{FaultyReader, FaultyWriter, Trouble};
 use words::{
     Buffer, Carry, CounterStep, Overflow, Product, Quotient, Read, ReadAhead, ReadFault, Std, Wide,
     Word, WordFault, Write, WriteFailed, div, push_all, push_decimal, push_octal, read_text,

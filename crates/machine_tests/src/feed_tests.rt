@@ -2,7 +2,7 @@
 
 use feed::input::{Counter, Input, Sequence};
 use feed::{FeedFault, MOST_SERIES, read};
-use words::faulty::FaultyReader;
+use test_devices::FaultyReader;
 
 const PINC: Input = Input::Count(Counter::Time1, Sequence::Pinc);
 

@@ -4,8 +4,8 @@ ghost use Rattle.std.specs.Prelude.{◌≡◌, IfOk, vec_len};
 
 use rope::{Rope, RopeFault, Version};
 use std::alloc::{AllocError, Global};
+use test_devices::FaultyReader;
 use words::Read;
-use words::faulty::FaultyReader;
 
 // So many bytes, each low one this: words of 0 in version 1 where it is 0, in version 2 where it is 1.
 fn image_of_zeros(alloc: Global, low: u8, length: usize) -> Result<Vec<u8>, AllocError>

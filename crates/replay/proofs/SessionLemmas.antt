@@ -1,5 +1,5 @@
 -- What a session keeps, and what its calls leave.
-use Rattle.std.proofs.Common.{◌≡◌, ℕ, suc, ◌+◌, ◌-◌, ◌^◌, ◌<◌, ◌≤◌, List, [], ◌∷◌, ◌++◌, length, get_or, inl, inr, refl, sym, ◌∙◌, ap, arith, Option}
+use Rattle.std.proofs.Common.{◌≡◌, ℕ, suc, ◌+◌, ◌-◌, ◌^◌, ◌<◌, ◌≤◌, List, [], ◌∷◌, ◌++◌, length, get_or, inl, inr, sym, ◌∙◌, ap, arith, Option}
 use Rattle.std.specs.List.{Contains}
 use Rattle.std.proofs.lemmas.Bool.{cases_lt}
 use Rattle.std.proofs.lemmas.List.{length-map, map-append}
@@ -70,12 +70,6 @@ of_run_after scenario n images kept thinned s of_run is e part k d below =
     let i = get_or thinned k d in
     All-contains (λ (i : Image). i.1 ≡ run scenario i.0) kept i all (part i (Contains-get_or thinned k d below))
 
--- a session's machine is never too far on
-pub cycles_of : (s : SessionView) → Stands s → s.present.cycles ≤ 2 ^ 62
-cycles_of s stands =
-    let e = ap (λ (m : State). m.cycles) stands.present in
-    omega (arith, cycles-run s.scenario s.n, stands.within)
-
 -- a step of the machine that stands at the state after k steps
 pub steps_on : (scenario : Scenario) (k : ℕ) (before after : State) (output : Option Output) → k < 2 ^ 40 → before ≡ run scenario k → (before.cycles ≤ 2 ^ 62 → FitsRun scenario before → (after, output) ≡ next scenario before) → after ≡ run scenario (k + 1)
 steps_on scenario k before after output low is step =
@@ -110,19 +104,6 @@ shown_sound s scenario shown meter sound same metered = rw same (record {
   staying = sound.staying;
   metered = metered;
 })
-
--- what showing the present, or a later step, leaves
-pub has_shown_none : (old s : SessionView) (t : ℕ) → s ≡ old → IsSound s → s.n ≤ t → HasShown old t old
-has_shown_none old s t is sound late =
-    let stands : Stands old = rw is at sound.stands in
-    let n_is = ap (λ (q : SessionView). q.n) is in
-    record {
-      stands = stands;
-      same = refl;
-      unchanged = λ _. refl;
-      least = omega arith;
-      cheap = λ early. absurd (omega arith);
-    }
 
 -- what showing an earlier step leaves, where the processor has gone no more steps than from any image that is early enough
 pub has_shown : (old s : SessionView) (t : ℕ) (scenario : Scenario) (shown : State) (meter : ℕ) → s ≡ old → IsSound s → t < s.n → scenario ≡ s.scenario → meter < 2 ^ 128 → s.meter ≤ meter → ((c : ℕ) → Contains (steps s.images) c → c ≤ t → meter + c ≤ s.meter + t)

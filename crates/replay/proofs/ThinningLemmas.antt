@@ -129,9 +129,6 @@ pub record IsGap (n gap rest : ℕ) : Type 0 where
   pub few : gap ≤ n + 1
   pub each : (i : ℕ) → i < power → (2 ^ suc i ∣ n + 1) × (3 * 2 ^ i ≤ n)
 
-pub first_gap : (n : ℕ) → IsGap n 1 (n + 1)
-first_gap n = record { power = 0; is = refl; whole = omega arith; some = omega arith; few = omega arith; each = λ i h. absurd (omega arith) }
-
 pub next_gap : (n gap rest : ℕ) → IsGap n gap rest → rest % 2 ≡ 0 → 3 * gap ≤ n → IsGap n (gap * 2) (rest / 2)
 next_gap n gap rest h even fits =
     let twice : rest / 2 * 2 ≡ rest = div-mul_cancel 2 (dvd_of_mod-eq-zero 2 even) in

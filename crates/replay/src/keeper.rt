@@ -1,7 +1,6 @@
 //! What keeps images of the machine.
 
-ghost use Rattle.std.specs.Prelude.{◌≡◌, ℕ, ◌+◌, ◌<◌, ◌≤◌, Bool, true, false, List, [], ◌∷◌, ◌++◌, length, slice_index_or, map, All, Contains, IfOk, OnOk, OnErr, IsOk, IsErrOf, MatchOption};
-ghost use Rattle.cpu.specs.State.{State};
+ghost use Rattle.std.specs.Prelude.{◌≡◌, ℕ, ◌+◌, ◌<◌, Bool, false, List, [], ◌∷◌, ◌++◌, length, slice_index_or, map, All, Contains, IfOk, OnOk, OnErr, IsOk, MatchOption};
 ghost use Rattle.replay.specs.Memory.{most_images};
 ghost use Rattle.replay.specs.Images.{Image, IsLatest, IsRising, steps, without};
 

@@ -1,6 +1,6 @@
 //! The images that stay at a step, reached by many steps at once.
 
-ghost use Rattle.std.specs.Prelude.{◌≡◌, ◌≢◌, ◌↔◌, ℕ, ◌+◌, ◌-◌, ◌*◌, ◌^◌, ◌<◌, ◌≤◌, false, true, List, [], ◌∷◌, ◌++◌, All, length, Contains};
+ghost use Rattle.std.specs.Prelude.{◌≡◌, ◌↔◌, ℕ, ◌+◌, ◌-◌, ◌*◌, ◌^◌, ◌<◌, ◌≤◌, false, true, [], ◌∷◌, ◌++◌, All, length, Contains};
 ghost use Rattle.std.specs.Int.{◌∣◌};
 ghost use Rattle.cpu.specs.Run.{run};
 ghost use Rattle.replay.specs.Images.{Image, steps};

@@ -1,10 +1,9 @@
 //! Many steps at once.
 
-ghost use Rattle.std.specs.Prelude.{◌≡◌, ℕ, ◌+◌, ◌-◌, ◌*◌, ◌^◌, ◌<◌, ◌≤◌, Bool, true, false, List, [], ◌∷◌, ◌++◌, All, length};
+ghost use Rattle.std.specs.Prelude.{◌≡◌, ◌+◌, ◌-◌, ◌*◌, ◌^◌, ◌<◌, ◌≤◌, false};
 ghost use Rattle.std.specs.Int.{◌∣◌};
 ghost use Rattle.cpu.specs.Run.{run};
 ghost use Rattle.replay.specs.Images.{steps};
-ghost use Rattle.replay.specs.Memory.{most_images};
 ghost use Rattle.replay.specs.Spacing.{AreStaying};
 ghost use Rattle.replay.specs.View.{AreOfRun, counted_by};
 ghost use Rattle.replay.specs.Watched.{Watched};

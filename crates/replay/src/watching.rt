@@ -1,6 +1,6 @@
 //! Making many steps, each of them watched.
 
-ghost use Rattle.std.specs.Prelude.{◌≡◌, ℕ, ◌+◌, ◌-◌, ◌^◌, ◌<◌, ◌≤◌, Bool, true, false, Option};
+ghost use Rattle.std.specs.Prelude.{◌≡◌, ◌+◌, ◌-◌, ◌^◌, ◌<◌, ◌≤◌, Bool, true, false, Option};
 ghost use Rattle.cpu.specs.State.{State, FitsRun};
 ghost use Rattle.cpu.specs.Next.{next, most_cycles};
 ghost use Rattle.cpu.specs.Run.{run};

@@ -131,10 +131,6 @@ pub with_words-append : (words : Words) (ps qs : List Placed) → with_words wor
 with_words-append words [] qs = refl
 with_words-append words (p ∷ ps) qs = with_words-append (with_word words p.bank p.offset p.word) ps qs
 
--- some words, and then one more
-pub with_words-push : (words : Words) (ps : List Placed) (p : Placed) → with_words words (ps ++ p ∷ []) ≡ with_word (with_words words ps) p.bank p.offset p.word
-with_words-push words ps p = with_words-append words ps (p ∷ [])
-
 -- the slots of a rope are its places
 pub slot_at-words_of : (slots : List (Option ℕ)) (bank offset : ℕ) → length slots ≡ fixed_places → offset < bank_words → slot_at (words_of slots) bank offset ≡ get_or slots (place_number bank offset) None
 slot_at-words_of slots bank offset full in_bank =

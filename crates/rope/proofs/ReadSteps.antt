@@ -1,11 +1,11 @@
 -- Steps of reading an image.
-use Rattle.std.proofs.Common.{◌≡◌, ◌≢◌, ℕ, zero, suc, ◌*◌, ◌+◌, ◌-◌, ◌/◌, ◌%◌, ◌<◌, ◌≤◌, List, [], ◌∷◌, ◌++◌, length, drop, take, get_or, is_some, unwrap_or, ◌⊎◌, refl, sym, ◌∙◌, ap, inl, inr, arith, append_assoc, append-nil, length-append, Err}
+use Rattle.std.proofs.Common.{◌≡◌, ◌≢◌, ℕ, zero, suc, ◌*◌, ◌+◌, ◌-◌, ◌/◌, ◌%◌, ◌<◌, ◌≤◌, List, [], ◌∷◌, ◌++◌, length, drop, take, get_or, is_some, unwrap_or, ◌⊎◌, refl, sym, ◌∙◌, ap, inl, inr, arith, append_assoc, length-append, Err}
 use Rattle.std.proofs.lemmas.Bool.{cases_lt, lt-ltb, le-ltb, cases_eq}
 use Rattle.std.proofs.lemmas.List.{get_or-append-add, take-append-drop, drop-append-le}
 use Rattle.std.proofs.Math.Seq.{drop-append-add, drop-cons, drop-length}
 use Rattle.rope.specs.Places.{bank_words, banks, fixed_places, Words, with_word}
 use Rattle.rope.specs.Image.{spelled, bank_of_entry, word_of_position, image_front}
-use Rattle.rope.specs.Reading.{image_length, spells_word, AllSpellWords, IsFull, IsImage, IsShort, IsLong, HasWrongBytes, FailsAfter, ReadsImage}
+use Rattle.rope.specs.Reading.{image_length, spells_word, AllSpellWords, IsFull, IsShort, IsLong, HasWrongBytes, FailsAfter, ReadsImage}
 use Rattle.rope.specs.Steps.{AllStand, GoesOn, FaultGoesOn, EndsWithin, TakesWrongBytes, FailsWithin, TakesWord}
 use Rattle.rope.specs.declared.spelling.Version.{Version}
 use Rattle.rope.specs.declared.spelling.Version.TheVariants.{One, Two}
@@ -165,13 +165,6 @@ fails_here version old left new words p lt front before fails = record {
   left = fails.left ∙ sym (left_after version old left words p fails.count (2 * p + fails.count) refl front);
 }
 
--- after all positions
-pub image_here : (version : Version) (old left new : List ℕ) (words : Words) → old ≡ image_front version words fixed_places ++ left → left ≡ [] → new ≡ [] → IsImage version old new words
-image_here version old left new words front nothing none = record {
-  whole = front ∙ ap (λ t. image_front version words fixed_places ++ t) nothing ∙ append-nil (image_front version words fixed_places);
-  left = none;
-}
-
 pub long_here : (version : Version) (old left new : List ℕ) (words : Words) (byte : ℕ) → old ≡ image_front version words fixed_places ++ left → AllSpellWords version old image_length → left ≡ byte ∷ new → IsLong version old new
 long_here version old left new words byte front before next = record {
   long = omega (arith, length_after version old left words fixed_places front, ap length next);
@@ -220,16 +213,6 @@ goes_kept version left words p q word le old before = record {
   front = rw (front_kept version words q word p le) before.front;
   spelled = before.spelled;
 }
-
--- nor from the words that stand
-pub all_stand-kept : (words : Words) (p q word : ℕ) → q < fixed_places → AllStand words p → AllStand (with_position words q word) p
-all_stand-kept words p q word lt before r below =
-    elim (cases_eq r q) [
-      | inl same ↦ rw same (ap is_some (slot_at-with_word_same words (bank_of_entry (q / bank_words)) (q % bank_words) word (bank_of_entry-below (q / bank_words) (omega arith)) (omega arith)))
-      | inr differ ↦
-          ap is_some (slot_at-with_word_other words (bank_of_entry (q / bank_words)) (q % bank_words) word (bank_of_entry (r / bank_words)) (r % bank_words) (omega arith) (other_place r q differ))
-          ∙ before r below
-    ]
 
 -- the next word of some bytes
 pub two_next : (version : Version) (bytes rest : List ℕ) (n word : ℕ) → 2 * n + 1 < length bytes → get_or bytes (2 * n) 0 ∷ get_or bytes (2 * n + 1) 0 ∷ [] ≡ spelled version word

@@ -1,6 +1,6 @@
 //! Images whose bytes are taken in another form than `agcws asm` writes.
 
-ghost use Rattle.std.specs.Prelude.{◌≡◌, ◌≤◌, ◌+◌, ◌*◌, ◌/◌, ◌%◌, true, IfOk, [], ◌∷◌, length};
+ghost use Rattle.std.specs.Prelude.{◌≡◌, ◌+◌, ◌*◌, ◌/◌, ◌%◌, true};
 ghost use Rattle.words.specs.Devices.{failures_after};
 ghost use Rattle.rope.specs.Forms.{high_in, low_in, reordered, taken};
 ghost use Rattle.rope.specs.FormSteps.{left_in, TakesNext};

@@ -1,10 +1,9 @@
 //! Ropes from their images.
 
-ghost use Rattle.std.specs.Prelude.{◌≡◌, ◌<◌, ◌≤◌, ◌+◌, ◌*◌, ◌%◌, ◌++◌, ◌∷◌, [], ℕ, List, length, true, IfOk, IfErr, if◌then◌else◌};
+ghost use Rattle.std.specs.Prelude.{◌≡◌, ◌<◌, ◌≤◌, ◌+◌, ◌*◌, ◌%◌, ◌++◌, ℕ, List, length, true, IfOk, IfErr, if◌then◌else◌};
 ghost use Rattle.words.specs.Devices.{one_more, failures_after};
 ghost use Rattle.rope.specs.Places.{bank_words, fixed_places};
-ghost use Rattle.rope.specs.Image.{spelled};
-ghost use Rattle.rope.specs.Reading.{ReadsImage, IsFull, AllSpellWords, spells_word, has_read_failed};
+ghost use Rattle.rope.specs.Reading.{ReadsImage, IsFull, AllSpellWords, has_read_failed};
 ghost use Rattle.rope.specs.Steps.{AllStand, GoesOn, FaultGoesOn, TakesByte, TakesPair, TakesWord};
 ghost use Rattle.rope.specs.declared.spelling.Version.{Version};
 ghost use Rattle.rope.specs.declared.fault.RopeFault.TheVariants.{ReadFailed};
@@ -12,7 +11,7 @@ ghost use Rattle.rope.specs.declared.fault.RopeFault.TheVariants.{ReadFailed};
 use crate::fault::RopeFault;
 use crate::image::{bank_at, offset_at};
 use crate::memory::{BANK_WORDS, PLACES, Rope};
-use crate::spelling::Version;
+use crate::spelling::{Version, half};
 use std::alloc::Global;
 use words::{Read, Word};
 
@@ -96,14 +95,6 @@ impl Rope {
             self.set_slot(bank, offset_at(first + number), word);
         }
     }
-}
-
-// The word of two bytes that spell one.
-#[tactic(auto, using(crate::proofs::Spellings::half_spelled))]
-fn half(high: u8, low: u8) -> Word
-    ensures { (version : Version) → spells_word version high low ≡ true → high ∷ low ∷ [] ≡ spelled version result }
-{
-    Word::of_low_bits(u16::from_be_bytes([high, low]) / 2)
 }
 
 // The word at a position of an image, from its two bytes.

@@ -1,6 +1,6 @@
 //! The versions of the image, and how each spells a word in two bytes.
 
-ghost use Rattle.std.specs.Prelude.{◌≡◌, ◌%◌, true, length};
+ghost use Rattle.std.specs.Prelude.{◌≡◌, ◌%◌, ◌∷◌, [], true, length};
 ghost use Rattle.rope.specs.Image.{lowest_bit, spelled};
 ghost use Rattle.rope.specs.Reading.{AllSpellWords, spells_word, fault_at};
 ghost use Rattle.rope.specs.Steps.{Spells};
@@ -59,12 +59,11 @@ impl Version {
     }
 
     // The word that two bytes spell, where they spell one.
-    #[tactic(auto, using(crate::proofs::Spellings::half_spelled))]
     pub(crate) fn word_of(self, high: u8, low: u8) -> Option<Word>
         ensures { Spells self high low result }
     {
         if self.spells_word(high, low) {
-            Some(Word::of_low_bits(u16::from_be_bytes([high, low]) / 2))
+            Some(half(high, low))
         } else {
             None
         }
@@ -79,4 +78,12 @@ impl Version {
             Version::Two => RopeFault::BadParity(at),
         }
     }
+}
+
+// The word of two bytes that spell one.
+#[tactic(auto, using(crate::proofs::Spellings::half_spelled))]
+pub(crate) fn half(high: u8, low: u8) -> Word
+    ensures { (version : Version) → spells_word version high low ≡ true → high ∷ low ∷ [] ≡ spelled version result }
+{
+    Word::of_low_bits(u16::from_be_bytes([high, low]) / 2)
 }

@@ -21,7 +21,7 @@ pub type Text = ArrayVec<u8, TEXT>;
 const STEP_FIELDS: usize = 96;
 
 /// The fields that tell what a step is.
-pub(crate) type StepFields = ArrayVec<u8, STEP_FIELDS>;
+pub type StepFields = ArrayVec<u8, STEP_FIELDS>;
 
 /// How wide the column of the place is.
 const PLACE_WIDTH: usize = 7;

@@ -91,7 +91,7 @@ fn sequence_name(sequence: Sequence) -> &'static [u8]
 }
 
 /// The name of an interrupt.
-pub(crate) fn interrupt_name(interrupt: Interrupt) -> &'static [u8]
+pub fn interrupt_name(interrupt: Interrupt) -> &'static [u8]
     ensures name { result.now ≡ interrupt_name interrupt }
     ensures short { length result.now ≤ 8 }
 {

@@ -8,6 +8,8 @@ mod names;
 mod steps;
 mod written;
 
-pub use fields::{decimal_text, place_text};
+pub use fields::{StepFields, decimal_text, place_text};
+pub use inputs::interrupt_name;
 pub use line::trace_step;
 pub use names::PlaceNames;
+pub use steps::{entry_place, what_text};

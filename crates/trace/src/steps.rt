@@ -30,7 +30,7 @@ const SIGN: u16 = 0o100000;
 const ENTRY_WORDS: u16 = 4;
 
 /// What the next step is: its place, its word and its text.
-pub(crate) fn what_text(names: &PlaceNames, processor: &Processor, machine: &Machine) -> StepFields
+pub fn what_text(names: &PlaceNames, processor: &Processor, machine: &Machine) -> StepFields
     requires { FitsRun processor.now.scenario machine.now }
     ensures items { result.items ≡ what_text names.now processor.now.scenario.rope machine.now (next_step processor.now.scenario machine.now) }
     ensures short { array_vec_len result ≤ 66 }
@@ -65,7 +65,7 @@ fn taken_text(machine: &Machine, input: Input) -> Text
 }
 
 /// The place where an interrupt is entered.
-fn entry_place(interrupt: Interrupt) -> Linear
+pub fn entry_place(interrupt: Interrupt) -> Linear
     ensures { result ≡ entry_place interrupt }
 {
     let number = u16::from(interrupt.number());

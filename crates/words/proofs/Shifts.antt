@@ -42,10 +42,6 @@ doubled_least : (k n : ℕ) → n ≤ doubled k n
 doubled_least zero n = omega arith
 doubled_least (suc k) n = omega (arith, doubled_least k (2 * n))
 
-doubled_sum : (k m n : ℕ) → doubled k (m + n) ≡ doubled k m + doubled k n
-doubled_sum zero m n = refl
-doubled_sum (suc k) m n = let apart : 2 * (m + n) ≡ 2 * m + 2 * n = omega arith in ap (doubled k) apart ∙ doubled_sum k (2 * m) (2 * n)
-
 -- what stands before bits adds to their number
 before : (bits : List Bool) (n m : ℕ) → number_after (n + m) bits ≡ doubled (length bits) n + number_after m bits
 before [] n m = refl

@@ -1,11 +1,7 @@
 -- Texts that are written step by step: one whole after another, and a beginning at a failure.
-use Rattle.std.proofs.Common.{◌≡◌, ℕ, ◌+◌, ◌-◌, ◌<◌, List, [], ◌∷◌, ◌++◌, length, take, drop, set, Result, Ok, Err, refl, sym, ap, ◌∙◌, arith, append_assoc, append-nil, take-add, take_all, length-drop}
+use Rattle.std.proofs.Common.{◌≡◌, ℕ, ◌+◌, ◌-◌, List, [], ◌++◌, length, take, drop, Result, Ok, Err, refl, sym, ap, ◌∙◌, arith, append_assoc, append-nil, take-add, take_all, length-drop}
 use Rattle.std.proofs.lemmas.List.{take-append-drop}
 use Rattle.words.specs.Devices.{IsBeginning, WritesBeginning, Writes}
-
--- nothing is a beginning of every text
-pub nothing_begins : (text : List ℕ) → IsBeginning [] text
-nothing_begins text = record { rest = text; whole = refl }
 
 -- a text is a beginning of itself
 pub whole_begins : (text : List ℕ) → IsBeginning text text
@@ -41,10 +37,6 @@ append-then a b c xs ys p q = rw (q, p) (append_assoc a xs ys)
 pub append-nothing : (a b : List ℕ) → b ≡ a → b ≡ a ++ []
 append-nothing a b e = e ∙ sym (append-nil a)
 
--- a beginning was written where nothing was
-pub beginning-nothing : (a b xs : List ℕ) → b ≡ a → WritesBeginning a b xs
-beginning-nothing a b xs e = record { part = []; beginning = nothing_begins xs; appended = append-nothing a b e }
-
 -- a whole text is a beginning of it too
 pub beginning-whole : (a b xs : List ℕ) → b ≡ a ++ xs → WritesBeginning a b xs
 beginning-whole a b xs e = record { part = xs; beginning = whole_begins xs; appended = e }
@@ -79,7 +71,3 @@ append-take a b c text i n p q =
 -- the first i bytes of a text are a beginning of it
 pub beginning-take : (a b text : List ℕ) (i : ℕ) → b ≡ a ++ take i text → WritesBeginning a b text
 beginning-take a b text i p = record { part = take i text; beginning = take_begins i text; appended = p }
-
-pub take-one-set : (xs : List ℕ) (v : ℕ) → 0 < length xs → take 1 (set xs 0 v) ≡ v ∷ []
-take-one-set [] v p = absurd (omega (arith, p))
-take-one-set (x ∷ xs) v p = refl

@@ -7,7 +7,6 @@ pub mod Products
 pub mod BitSums
 pub mod Devices
 pub mod Memory
-pub mod Troubles
 pub mod Readings
 pub mod Numerals
 pub mod Laws

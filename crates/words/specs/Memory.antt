@@ -1,6 +1,5 @@
 -- What is seen of readers and writers over memory.
-use Rattle.std.specs.Prelude.{ℕ, List, Option}
-use Rattle.words.specs.declared.faulty.Trouble.{Trouble}
+use Rattle.std.specs.Prelude.{ℕ, List}
 
 -- a writer: the bytes that were written, and the count of failures
 pub record Sink : Type 0 where
@@ -10,17 +9,4 @@ pub record Sink : Type 0 where
 -- a reader: the bytes that are left, and the count of failures
 pub record Source : Type 0 where
   pub left : List ℕ
-  pub failures : ℕ
-
--- a reader that fails after so many calls: the bytes that are left, and the count of failures
-pub record FaultySource : Type 0 where
-  pub left : List ℕ
-  pub fails_after : Option ℕ
-  pub failures : ℕ
-
--- a writer in trouble after so many bytes: the bytes that were written, and the count of failures
-pub record FaultySink : Type 0 where
-  pub written : List ℕ
-  pub fails_after : Option ℕ
-  pub trouble : Trouble
   pub failures : ℕ

@@ -1,7 +1,7 @@
 //! The steps of counters.
 
 ghost use Rattle.std.specs.Prelude.{◌≡◌};
-ghost use Rattle.words.specs.Counters.{carry_of, summed, shifted_out, pinc, minc, dinc, pcdu, mcdu, shinc, shanc};
+ghost use Rattle.words.specs.Counters.{summed, shifted_out, pinc, minc, dinc, pcdu, mcdu, shinc, shanc};
 
 use super::wide::{Overflow, Wide};
 use super::word::{GREATEST_WORD, SIGN, Word};

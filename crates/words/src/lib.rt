@@ -5,7 +5,6 @@
 mod counters;
 mod device;
 mod edits;
-pub mod faulty;
 pub mod laws;
 mod memory;
 mod numerals;

@@ -1,7 +1,7 @@
 //! The product and the quotient of words.
 
 ghost use Rattle.std.specs.Prelude.{◌≡◌, ◌<◌, ◌^◌, unsigned_abs};
-ghost use Rattle.words.specs.Products.{product, quotient, quotient_magnitude, dividend, dividend_magnitude, dividend_is_minus};
+ghost use Rattle.words.specs.Products.{product, quotient, dividend, dividend_is_minus};
 
 use super::word::Word;
 

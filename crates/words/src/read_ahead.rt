@@ -1,6 +1,6 @@
 //! A reader that reads ahead, so that bytes can be looked at before they are taken.
 
-ghost use Rattle.std.specs.Prelude.{◌≡◌, ℕ, ◌<◌, ◌≤◌, true, [], ◌++◌, IfOk, OnOk, OnErr, length, take, drop};
+ghost use Rattle.std.specs.Prelude.{◌≡◌, ℕ, ◌<◌, ◌≤◌, true, [], ◌++◌, OnOk, OnErr, length, take, drop};
 ghost use Rattle.words.specs.Devices.{failures_after};
 
 use super::device::Read;

@@ -1,6 +1,6 @@
 //! Whole texts from readers.
 
-ghost use Rattle.std.specs.Prelude.{◌≡◌, ℕ, ◌+◌, ◌≤◌, ◌++◌, [], Some, true, codes, decimal, IfOk, IfErr, length, if◌then◌else◌};
+ghost use Rattle.std.specs.Prelude.{◌≡◌, ◌+◌, ◌≤◌, ◌++◌, [], Some, true, codes, decimal, IfOk, IfErr, length, if◌then◌else◌};
 ghost use Rattle.words.specs.Devices.{one_more};
 ghost use Rattle.words.specs.Faults.{number_of_no_text};
 ghost use Rattle.words.specs.Readings.{FaultTakes, has_read_failed, ReadsOnto};
@@ -62,10 +62,8 @@ pub fn read_text<R: Read>(alloc: Global, reader: &mut R, most: usize) -> Result<
     let mut text = Vec::new(alloc);
     while text.len() <= most {
         let room = most - text.len();
-        match read_some(reader, &mut text, room) {
-            Ok(0) => return Ok(text),
-            Ok(_) => {}
-            Err(fault) => return Err(fault),
+        if read_some(reader, &mut text, room)? == 0 {
+            return Ok(text);
         }
     }
     Err(ReadFault::TooLong)

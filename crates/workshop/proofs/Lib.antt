@@ -9,3 +9,6 @@ mod TracedSteps
 mod Written
 mod Profiles
 pub mod Telling
+mod Covered
+mod NotedSteps
+mod Noted

@@ -1,6 +1,5 @@
 -- The text of a run's profile.
-use Rattle.std.proofs.Common.{◌≡◌, ℕ, ◌++◌, ◌∙◌, true, List, Option, Ok, Err, refl, ap, inr}
-use Rattle.words.specs.Devices.{WritesBeginning, one_more}
+use Rattle.std.proofs.Common.{◌≡◌, ℕ, ◌∙◌, List, Option, ap}
 use Rattle.rope.specs.Places.{Words}
 use Rattle.cpu.specs.State.{Scenario}
 use Rattle.cpu.specs.Profiles.{count_at, cycles_at}

@@ -1,5 +1,5 @@
 -- What an engine that profiles a run answers, and what it has then written.
-use Rattle.std.specs.Prelude.{◌≡◌, ℕ, ◌⊎◌, List, Option, Some, None, Result, Ok, Err, OnOk}
+use Rattle.std.specs.Prelude.{◌≡◌, ℕ, ◌⊎◌, List, Option, Some, None, Result, Ok, Err}
 use Rattle.rope.specs.Places.{Words}
 use Rattle.rope.specs.Reading.{ReadsImage}
 use Rattle.rope.specs.declared.fault.RopeFault.{RopeFault}
@@ -7,13 +7,13 @@ use Rattle.rope.specs.declared.spelling.Version.{Version}
 use Rattle.feed.specs.declared.entry.Entry.{Entry}
 use Rattle.yayul.specs.Program.{Program}
 use Rattle.cover.specs.CoverText.{cover_text}
-use Rattle.cover.specs.Tallies.{AllAddUp}
+use Rattle.cover.specs.Tallies.{AllAddUp, RowsAddUp}
 use Rattle.cpu.specs.State.{Scenario}
 use Rattle.workshop.specs.declared.fault.WorkshopFault.{WorkshopFault}
 use Rattle.workshop.specs.declared.fault.WorkshopFault.TheVariants.{NoMemory}
 use Rattle.workshop.specs.declared.origin.Origin.{Origin}
 use Rattle.workshop.specs.declared.origin.Origin.TheVariants as origin
-use Rattle.workshop.specs.Failures.{Reader, Writer}
+use Rattle.workshop.specs.Failures.{Writer}
 use Rattle.workshop.specs.Faults.{of_rope_fault}
 use Rattle.workshop.specs.Inputs.{assembled}
 use Rattle.workshop.specs.Loading.{Reads, ReadsInputs, ReadsText}
@@ -45,11 +45,11 @@ ReadsSubject origin.Source old new result = ReadsText (subject_of (assembled old
 ReadsSubject (origin.Image version) old new result = ReadsImaged version old new result
 
 -- memory for the figures is refused before the first step, and nothing is written; or all steps are made and counted, each once,
--- and their profile is written
+-- and their profile is written, whose rows add up
 abbrev pub CoversRun : Option (List ℕ) → Scenario → ℕ → Writer → Writer → Result (Unit {0}) WorkshopFault → Type 0
 CoversRun source scenario steps before after result =
     ((result ≡ Err NoMemory) × (after ≡ before))
-    ⊎ (WritesText (cover_text source scenario steps) before after result × AllAddUp scenario steps)
+    ⊎ (WritesText (cover_text source scenario steps) before after result × AllAddUp scenario steps × RowsAddUp scenario steps)
 
 -- where the feed was read the run is covered, and after a fault nothing is written
 abbrev pub CoversThen : Subject → ℕ → Result (List Entry) WorkshopFault → Writer → Writer → Result (Unit {0}) WorkshopFault → Type 0

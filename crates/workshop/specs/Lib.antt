@@ -1,11 +1,13 @@
 pub mod Assemblies
 pub mod Covers
+pub mod Checks
 pub mod Debugging
 pub mod Failures
 pub mod Faults
 pub mod Inputs
 pub mod Laws
 pub mod Loading
+pub mod Notings
 pub mod Ropes
 pub mod Runs
 pub mod Traces

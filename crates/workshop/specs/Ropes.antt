@@ -7,11 +7,16 @@ use Rattle.rope.specs.Reading.{ReadsImage, has_read_failed}
 use Rattle.rope.specs.declared.spelling.Version.{Version}
 use Rattle.rope.specs.declared.fault.RopeFault.{RopeFault}
 use Rattle.audit.specs.Differences.{differing, differences}
+use Rattle.audit.specs.declared.differences.Extent.{Extent}
+use Rattle.audit.specs.declared.differences.Extent.TheVariants.{All, Filled}
 use Rattle.audit.specs.Parities.{wrong, parities}
 use Rattle.workshop.specs.declared.fault.WorkshopFault.{WorkshopFault}
 use Rattle.workshop.specs.declared.fault.WorkshopFault.TheVariants.{WriteFailed}
 use Rattle.workshop.specs.Failures.{Reader, Writer}
 use Rattle.workshop.specs.Faults.{of_rope_fault}
+use Rattle.workshop.specs.Inputs.{assembled}
+use Rattle.workshop.specs.Loading.{Reads, ReadsText}
+use Rattle.yayul.specs.Program.{Program}
 
 -- an image is read, where its bytes are told; and the reader has failed exactly where that is answered
 pub record ReadsRope (version : Version) (before after : Reader) (read : Result Words RopeFault) : Type 0 where
@@ -41,26 +46,26 @@ pub record Shows (version : Version) (text : Words → List ℕ) (before after :
   pub reads : ReadsRope version before.image after.image read
   pub next : ShowsThen text read before.out after.out result
 
--- where the second image was read too their differences are written, and how many there are is answered
-abbrev pub WritesDifferences : Words → Result Words RopeFault → Writer → Writer → Result ℕ WorkshopFault → Type 0
-WritesDifferences words (Ok others) before after result =
-    WritesText (differences words others) before after result × IfOk result (λ count. count ≡ length (differing words others))
-WritesDifferences words (Err fault) before after result = (result ≡ Err (of_rope_fault fault)) × (after ≡ before)
+-- where the second image was read too the differences at places of an extent are written, and how many there are is answered
+abbrev pub WritesDifferences : Extent → Words → Result Words RopeFault → Writer → Writer → Result ℕ WorkshopFault → Type 0
+WritesDifferences extent words (Ok others) before after result =
+    WritesText (differences extent words others) before after result × IfOk result (λ count. count ≡ length (differing extent words others))
+WritesDifferences extent words (Err fault) before after result = (result ≡ Err (of_rope_fault fault)) × (after ≡ before)
 
--- what an engine has that compares two images
+-- what an engine has that compares an image with another, or with a source
 pub record Comparing : Type 0 where
   pub old : Reader
   pub new : Reader
   pub out : Writer
 
--- where the first image was read the second is, and after a fault nothing of it, and nothing is written
-pub record ComparesNext (version : Version) (words : Words) (before after : Comparing) (result : Result ℕ WorkshopFault) : Type 0 where
+-- where the first words were read an image is, and after a fault nothing of it, and nothing is written
+pub record ComparesNext (extent : Extent) (version : Version) (words : Words) (before after : Comparing) (result : Result ℕ WorkshopFault) : Type 0 where
   pub read : Result Words RopeFault
   pub reads : ReadsRope version before.new after.new read
-  pub next : WritesDifferences words read before.out after.out result
+  pub next : WritesDifferences extent words read before.out after.out result
 
 abbrev pub ComparesThen : Version → Result Words RopeFault → Comparing → Comparing → Result ℕ WorkshopFault → Type 0
-ComparesThen version (Ok words) before after result = ComparesNext version words before after result
+ComparesThen version (Ok words) before after result = ComparesNext All version words before after result
 ComparesThen version (Err fault) before after result =
     (result ≡ Err (of_rope_fault fault)) × (after.new ≡ before.new) × (after.out ≡ before.out)
 
@@ -69,6 +74,17 @@ pub record Compares (first second : Version) (before after : Comparing) (result 
   pub read : Result Words RopeFault
   pub reads : ReadsRope first before.old after.old read
   pub next : ComparesThen second read before after result
+
+-- where a source was assembled an image is read, and after a fault nothing of it, and nothing is written
+abbrev pub ComparesOnlyThen : Version → Result Program WorkshopFault → Comparing → Comparing → Result ℕ WorkshopFault → Type 0
+ComparesOnlyThen version (Ok p) before after result = ComparesNext Filled version p.rope before after result
+ComparesOnlyThen version (Err fault) before after result = (result ≡ Err fault) × (after.new ≡ before.new) × (after.out ≡ before.out)
+
+-- a source is assembled, and then an image is read: they are compared at the places that the source fills
+pub record ComparesOnly (version : Version) (before after : Comparing) (result : Result ℕ WorkshopFault) : Type 0 where
+  pub program : Result Program WorkshopFault
+  pub reads : Reads (λ old new. ReadsText (assembled old) old new) before.old after.old program
+  pub next : ComparesOnlyThen version program before after result
 
 -- the bytes of an image are read, where they are told; and the reader has failed exactly where that is answered
 pub record ReadsBytes (before after : Reader) (read : Result (List ℕ) RopeFault) : Type 0 where

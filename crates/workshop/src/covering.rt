@@ -3,16 +3,18 @@
 ghost use Rattle.std.specs.Prelude.{◌≡◌, ◌-◌, ◌≤◌, ◌^◌, true};
 ghost use Rattle.words.specs.Devices.{Writes, failures_after};
 ghost use Rattle.cover.specs.CoverText.{cover_text, profile_text, total_of};
-ghost use Rattle.cover.specs.Tallies.{AllAddUp, Counts, figures_at};
+ghost use Rattle.cover.specs.Tallies.{AllAddUp, Counts, RowsAddUp, figures_at};
 ghost use Rattle.cpu.specs.Run.{run};
 ghost use Rattle.workshop.specs.Covers.{Covers, CoversRun, ReadsSubject};
 ghost use Rattle.workshop.specs.Failures.{reader, writer};
 ghost use Rattle.workshop.specs.Loading.{Reads};
+ghost use Rattle.workshop.specs.Progress.{TellsAll, TellsRun};
 
 use crate::engine::STEPS_BETWEEN_FLUSHES;
 use crate::fault::WorkshopFault;
 use crate::inputs::{read_feed, read_program};
 use crate::origin::Origin;
+use crate::progress::{Unheard, tell};
 use cover::{Figures, Tally, write_image_profile, write_source_profile};
 use cpu::{Machine, Processor};
 use rope::Rope;
@@ -38,9 +40,29 @@ pub fn cover_program<P: Read, F: Read, W: Write>(
         (record { files = record { program = reader P.told P.left P.failures program.old; feed = reader F.told F.left F.failures feed.old }; out = writer W.told W.written W.failures out.old })
         (record { files = record { program = reader P.told P.left P.failures program.new; feed = reader F.told F.left F.failures feed.new }; out = writer W.told W.written W.failures out.new }) result }
 {
+    cover_and_tell(alloc, origin, program, feed, steps, out, &mut Unheard)
+}
+
+/// Reads a program and then a feed, and writes the profile of some steps, as `cover_program` does; and tells after each 2^20 steps
+/// how many were made, as `run_and_tell` does.
+pub fn cover_and_tell<P: Read, F: Read, W: Write, T: Write>(
+    alloc: Global,
+    origin: Origin,
+    program: &mut P,
+    feed: &mut F,
+    steps: u64,
+    out: &mut W,
+    progress: &mut T,
+) -> Result<(), WorkshopFault>
+    requires { steps ≤ 2 ^ 40 - 2 }
+    ensures covers { Covers origin steps
+        (record { files = record { program = reader P.told P.left P.failures program.old; feed = reader F.told F.left F.failures feed.old }; out = writer W.told W.written W.failures out.old })
+        (record { files = record { program = reader P.told P.left P.failures program.new; feed = reader F.told F.left F.failures feed.new }; out = writer W.told W.written W.failures out.new }) result }
+    ensures progress { TellsRun steps (writer T.told T.written T.failures progress.old) (writer T.told T.written T.failures progress.new) result }
+{
     let (rope, rows) = read_subject(alloc, origin, program)?;
     let mut processor = Processor::new(rope, read_feed(alloc, feed)?);
-    cover(alloc, &rows, &mut processor, steps, out)
+    cover(alloc, &rows, &mut processor, steps, out, progress)
 }
 
 /// Reads the words of a program, and of a source its lines.
@@ -65,21 +87,23 @@ fn read_subject<P: Read>(
 }
 
 /// Makes some steps from the start, and writes their profile.
-fn cover<W: Write>(
+fn cover<W: Write, T: Write>(
     alloc: Global,
     rows: &Option<SourceRows>,
     processor: &mut Processor,
     steps: u64,
     out: &mut W,
+    progress: &mut T,
 ) -> Result<(), WorkshopFault>
     requires { steps ≤ 2 ^ 40 - 2 }
-    ensures { CoversRun rows.now processor.old.scenario steps
+    ensures covers { CoversRun rows.now processor.old.scenario steps
         (writer W.told W.written W.failures out.old) (writer W.told W.written W.failures out.new) result }
+    ensures progress { TellsRun steps (writer T.told T.written T.failures progress.old) (writer T.told T.written T.failures progress.new) result }
 {
     let Ok(mut tally) = Tally::new(alloc) else {
         return Err(WorkshopFault::NoMemory);
     };
-    let cycles = make_steps(processor, &mut tally, steps);
+    let cycles = make_steps(processor, &mut tally, steps, progress);
     let total = Figures {
         count: steps,
         cycles,
@@ -106,20 +130,29 @@ fn write_profile<W: Write>(
 }
 
 /// Makes some steps from the start, counts each, and answers their cycles.
-fn make_steps(processor: &mut Processor, tally: &mut Tally, steps: u64) -> u64
+fn make_steps<T: Write>(
+    processor: &mut Processor,
+    tally: &mut Tally,
+    steps: u64,
+    progress: &mut T,
+) -> u64
     requires few { steps ≤ 2 ^ 40 - 2 }
     requires none { Counts processor.old.scenario 0 tally.old }
     ensures scenario { processor.new.scenario ≡ processor.old.scenario }
     ensures counts { Counts processor.old.scenario steps tally.new }
     ensures cycles { result ≡ (run processor.old.scenario steps).cycles }
     ensures adds_up { AllAddUp processor.old.scenario steps }
+    ensures rows_add_up { RowsAddUp processor.old.scenario steps }
+    ensures progress { TellsAll steps (writer T.told T.written T.failures progress.old) (writer T.told T.written T.failures progress.new) }
 {
     let mut machine = Machine::start();
+    let mut told = Ok(());
     let mut done = 0;
     while done < steps {
         let stop = steps.min(done + STEPS_BETWEEN_FLUSHES);
         tally.make_steps(processor, &mut machine, done, stop);
         done = stop;
+        told = tell(told, done, progress);
     }
     machine.cycles()
 }

@@ -2,6 +2,7 @@
 #![tactic(auto)]
 
 mod assembly;
+mod checking;
 mod covering;
 mod debugging;
 mod ending;
@@ -9,13 +10,15 @@ mod engine;
 mod fault;
 mod inputs;
 pub mod laws;
+mod noting;
 mod origin;
 mod progress;
 mod ropes;
 mod tracing;
 
 pub use assembly::asm_engine;
-pub use covering::cover_program;
+pub use checking::check_engine;
+pub use covering::{cover_and_tell, cover_program};
 pub use debugger::{debug_session, extended_session};
 pub use debugging::{
     Opened, debug_engine, debug_extended, debug_image_engine, debug_program, follow_source,
@@ -26,8 +29,14 @@ pub use engine::{
     MOST_STEPS, Summary, may_run, run_and_tell, run_engine, run_image_engine, run_program,
 };
 pub use fault::{WorkshopFault, report};
+pub use faults::{Refusal, all_headings, explanation, refusal_of};
+pub use noting::run_with_notes;
 pub use origin::Origin;
+pub use progress::Unheard;
 pub use rope::{Form, InForm, Version};
-pub use ropes::{compare_engine, parity_engine, sums_engine, upgrade_engine, words_engine};
+pub use ropes::{
+    compare_engine, compare_only_engine, parity_engine, source_engine, sums_engine, upgrade_engine,
+    words_engine,
+};
 pub use space::numbers::Bank;
 pub use tracing::{trace_and_tell, trace_program};

@@ -1,14 +1,16 @@
 //! The engines that read images: they show them as text, compare them, and upgrade them.
 
 ghost use Rattle.std.specs.Prelude.{ℕ, List};
+ghost use Rattle.audit.specs.SourceLines.{source_text};
 ghost use Rattle.audit.specs.Sums.{sum_lines};
 ghost use Rattle.audit.specs.WordLines.{word_lines};
 ghost use Rattle.rope.specs.Image.{image};
 ghost use Rattle.workshop.specs.Failures.{Reader, reader, writer};
-ghost use Rattle.workshop.specs.Ropes.{Compares, ComparesNext, Shows, TellsParity};
+ghost use Rattle.workshop.specs.Ropes.{Compares, ComparesNext, ComparesOnly, Shows, TellsParity};
 
 use crate::fault::WorkshopFault;
-use audit::{write_differences, write_parities, write_sums, write_words};
+use crate::inputs::read_program;
+use audit::{Extent, write_differences, write_parities, write_source, write_sums, write_words};
 use rope::{Dump, Rope, Version};
 use space::numbers::Bank;
 use std::alloc::Global;
@@ -31,6 +33,24 @@ pub fn words_engine<R: Read, W: Write>(
 {
     let rope = Rope::read(alloc, image, version)?;
     Ok(write_words(&rope, bank, out)?)
+}
+
+/// Reads a rope image of a version to its end, and writes a source that gives the words of a bank, or of all banks.
+///
+/// The first fault of the image is answered, and then nothing is written.
+pub fn source_engine<R: Read, W: Write>(
+    alloc: Global,
+    image: &mut R,
+    version: Version,
+    bank: Option<Bank>,
+    out: &mut W,
+) -> Result<(), WorkshopFault>
+    ensures { Shows version (λ words. source_text words bank)
+        (record { image = reader R.told R.left R.failures image.old; out = writer W.told W.written W.failures out.old })
+        (record { image = reader R.told R.left R.failures image.new; out = writer W.told W.written W.failures out.new }) result }
+{
+    let rope = Rope::read(alloc, image, version)?;
+    Ok(write_source(&rope, bank, out)?)
 }
 
 /// Reads a rope image of a version to its end, and writes a line for each bank: its number, and the sum of its words.
@@ -84,7 +104,27 @@ pub fn compare_engine<A: Read, B: Read, W: Write>(
 {
     let words = Rope::read(alloc, old, old_version)?;
     let others = Rope::read(alloc, new, new_version)?;
-    Ok(write_differences(&words, &others, out)?)
+    Ok(write_differences(&words, &others, Extent::All, out)?)
+}
+
+/// Assembles a source, reads a rope image of a version to its end, and writes a line for each place that the source fills where
+/// the words differ, and then how many places there are, which it answers. Of the other places nothing is said.
+///
+/// The source has at most 8,388,608 bytes. Its first fault is answered, else that of the image, and then nothing is written.
+pub fn compare_only_engine<S: Read, R: Read, W: Write>(
+    alloc: Global,
+    source: &mut S,
+    image: &mut R,
+    version: Version,
+    out: &mut W,
+) -> Result<u32, WorkshopFault>
+    ensures { ComparesOnly version
+        (record { old = reader S.told S.left S.failures source.old; new = reader R.told R.left R.failures image.old; out = writer W.told W.written W.failures out.old })
+        (record { old = reader S.told S.left S.failures source.new; new = reader R.told R.left R.failures image.new; out = writer W.told W.written W.failures out.new }) result }
+{
+    let program = read_program(alloc, source)?;
+    let words = Rope::read(alloc, image, version)?;
+    Ok(write_differences(program.rope(), &words, Extent::Filled, out)?)
 }
 
 /// Reads the bytes of a rope image to their end, and writes a line for each word whose two bytes have an even number of one

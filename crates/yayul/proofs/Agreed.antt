@@ -33,7 +33,7 @@ named_keeps line s p names keeps =
       ends = keeps.ends;
     }
 
-next_keeps : (line : ℕ) (s : Layout) (p : Placing) → Keeps line s p → Keeps (line + 1) s p
+pub next_keeps : (line : ℕ) (s : Layout) (p : Placing) → Keeps line s p → Keeps (line + 1) s p
 next_keeps line s p keeps =
     record { holds = holds-next line s.symbols s.requests (map request_of p.waiting.items) p.rope p.fault keeps.holds; known = keeps.known; ends = keeps.ends }
 
@@ -157,7 +157,7 @@ words_taken line s p count keeps =
     rw (word_taken line s p s.location keeps, word_taken line s p (after_words 1 s.location) keeps) refl
 
 module _ (line : ℕ) (s : Layout) (l : Held) (p : Placing) (label : Label) (content : Content) (agrees : Agrees line s l p) where
-  tested : tested_faults (layout_of l) p.rope label (width content) ≡ (gives line s label content).faults
+  pub tested : tested_faults (layout_of l) p.rope label (width content) ≡ (gives line s label content).faults
   tested =
       ap (λ t. tested_faults t p.rope label (width content)) agrees.same ∙ by_label label
       ∙ ap (λ taken. standing (label_faults s label ++ fault_if (lacks_room (width content) s.location) BankFull ∷ fault_if taken PlaceTaken ∷ fault_if (is_erasable s.location) CodeInErasable ∷ [])) (words_taken line s p (width content) agrees.keeps)

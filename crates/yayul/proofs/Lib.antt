@@ -23,7 +23,15 @@ mod Grown
 mod Held
 mod Alike
 mod Kept
+mod Displaced
+mod Surveyed
+mod LeastTold
+mod ToldOnce
+mod SurveyRows
 mod Patched
 mod Ended
 mod Lifted
 mod Agreed
+pub mod Octals
+pub mod Said
+pub mod Given

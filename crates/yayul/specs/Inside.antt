@@ -4,3 +4,4 @@ pub mod Representation
 pub mod Sound
 pub mod Answers
 pub mod Waiting
+pub mod Surveys

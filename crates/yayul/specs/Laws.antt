@@ -1,14 +1,16 @@
 -- What the definitions of the source language come to.
-use Rattle.std.specs.Prelude.{◌≡◌, ◌≢◌, ℕ, ◌+◌, ◌*◌, ◌^◌, ◌<◌, ◌≤◌, not, Bool, true, false, List, [], ◌∷◌, AllPairs, filter, slice_get, codes, Some, Ok, IfOk}
+use Rattle.std.specs.Prelude.{◌≡◌, ◌≢◌, ℕ, ◌+◌, ◌*◌, ◌^◌, ◌<◌, ◌≤◌, ◌==◌, ◌&&◌, not, Bool, true, false, List, [], ◌∷◌, AllPairs, filter, slice_get, codes, Some, Result, Ok, Err, IfOk}
 use Rattle.std.specs.List.{list_any}
 use Rattle.agc_text.specs.Lines.{lines}
 use Rattle.agc_text.specs.Tables.{same_name}
 use Rattle.yayul.specs.Forms.{scaled}
 use Rattle.yayul.specs.Layout.{Request, start, extends, stands_at, layout_after, layout_faults}
 use Rattle.yayul.specs.Operators.{operators}
-use Rattle.yayul.specs.Program.{program}
+use Rattle.yayul.specs.Program.{Program, program}
+use Rattle.yayul.specs.Survey.{told}
 use Rattle.yayul.specs.Words.{addressed_word}
-use Rattle.yayul.specs.Language.{AddressedCode, Channel, Content, Either, Extracode, No, Num, Operand, Operator, Takes, Value, Yes}
+use Rattle.yayul.specs.Language.{AddressedCode, Channel, Content, Either, Extracode, Fault, No, Num, Operand, Operator, Takes, Value, Yes}
+use Rattle.yayul.specs.declared.finding.Finding.{Finding}
 
 -- ## The words of instructions
 -- the operators whose words are addresses, and no instructions
@@ -86,3 +88,30 @@ StandOnce symbols = AllPairs (λ a b. a.0 ≢ b.0) symbols
 -- no name is defined twice in a source that assembles
 abbrev pub NamesStandOnce : List ℕ → Type 0
 NamesStandOnce source = IfOk (program source) (λ p. StandOnce p.symbols)
+
+-- ## What is told
+-- a finding tells a fault: it has its line and its number
+abbrev pub is_of : Fault → Finding → Bool
+is_of fault f = f.line == fault.line && f.number == fault.number
+
+-- where a source assembles nothing is told, and where it is refused its fault is
+abbrev pub TellsOf : Result Program Fault → List Finding → Type 0
+TellsOf (Ok p) findings = findings ≡ []
+TellsOf (Err fault) findings = list_any (is_of fault) findings ≡ true
+
+-- what is told of a source agrees with what it assembles to
+abbrev pub FindingsAgree : List ℕ → Type 0
+FindingsAgree source = TellsOf (program source) (told source)
+
+-- a finding tells what another does
+abbrev pub same_fault : Finding → Finding → Bool
+same_fault a b = b.line == a.line && b.number == a.number
+
+-- no finding tells what one before it does
+abbrev pub StandEachOnce : List Finding → Type 0
+StandEachOnce [] = Unit {0}
+StandEachOnce (f ∷ fs) = (list_any (same_fault f) fs ≡ false) × StandEachOnce fs
+
+-- each fault of a source is told once
+abbrev pub FindingsStandOnce : List ℕ → Type 0
+FindingsStandOnce source = StandEachOnce (told source)

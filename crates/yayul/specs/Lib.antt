@@ -4,6 +4,7 @@ pub mod Forms
 pub mod Layout
 pub mod Words
 pub mod Program
+pub mod Survey
 pub mod Told
 pub mod Listing
 pub mod Laws

@@ -17,7 +17,7 @@ use std::alloc::Global;
 use symbols::Symbols;
 
 /// Want of memory, for which no line is to blame.
-const NO_MEMORY: Fault = Fault { line: 0, number: 2 };
+pub(crate) const NO_MEMORY: Fault = Fault { line: 0, number: 2 };
 
 /// Assembles a source: its program, or its least fault. A fault of number 2 says nothing of the
 /// source but that memory ran out, and stands on line 0.

@@ -1,6 +1,6 @@
 //! Laws of the source language. Each is the contract of a call that does nothing.
 
-ghost use Rattle.yayul.specs.Laws.{ScalesToNearest, WordsShareNoPlace, NamesStandOnce};
+ghost use Rattle.yayul.specs.Laws.{ScalesToNearest, WordsShareNoPlace, NamesStandOnce, FindingsAgree, FindingsStandOnce};
 
 /// The word of a fraction of 1 to 9 decimals is the nearest multiple of 2^-14: less than half of one away, so that none is as near.
 #[tactic(auto, using(crate::proofs::Nearest::scales_to_nearest))]
@@ -23,6 +23,22 @@ pub fn words_share_no_place(source: &[u8])
 #[tactic(auto, using(crate::proofs::Once::names_stand_once))]
 pub fn names_stand_once(source: &[u8])
     ensures { NamesStandOnce source.now }
+{
+    let _source = source;
+}
+
+/// What is told of a source agrees with what it assembles to: of one that assembles nothing is told, and of one that is refused its fault is.
+#[tactic(auto, using(crate::proofs::LeastTold::findings_agree))]
+pub fn findings_agree(source: &[u8])
+    ensures { FindingsAgree source.now }
+{
+    let _source = source;
+}
+
+/// Each fault is told once: no two findings of a source have one line and one number.
+#[tactic(auto, using(crate::proofs::ToldOnce::findings_stand_once))]
+pub fn findings_stand_once(source: &[u8])
+    ensures { FindingsStandOnce source.now }
 {
     let _source = source;
 }

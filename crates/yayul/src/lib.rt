@@ -6,8 +6,11 @@
 mod assembled;
 mod assembly;
 mod bank;
+mod conditions;
 mod decimal;
+mod doubt;
 mod faults;
+mod finding;
 mod instruction;
 mod language;
 pub mod laws;
@@ -25,13 +28,16 @@ mod placing;
 mod request;
 mod source_rows;
 mod statement;
+mod survey;
 mod values;
 mod word;
 
 pub use assembled::Program;
 pub use assembly::assemble;
 pub use faults::{Fault, FaultKind};
+pub use finding::{Finding, Span};
 pub use listing::push_blanks;
 pub use margin::Margin;
 pub use source_rows::SourceRows;
+pub use survey::findings;
 pub use symbols::{FixedBank, Symbols, Value, place_of, value_text};

@@ -1,8 +1,8 @@
 //! What each line does to the layout: the symbols of a source, and the words that its lines ask for.
 
-ghost use Rattle.std.specs.Prelude.{◌≡◌, ◌<◌, ◌∷◌, [], false, ◌++◌, ◌&&◌, not, IfOk, IfErr, OnOk, Some};
+ghost use Rattle.std.specs.Prelude.{◌≡◌, ◌<◌, ◌∷◌, [], false, ◌&&◌, not, IfOk, IfErr, OnOk, Some};
 ghost use Rattle.std.specs.Result.{result_err};
-ghost use Rattle.yayul.specs.Layout.{Layout as LaidOut, fault_if, standing, start, word_place, width, lacks_room, is_missing, is_twice, defined, label_faults, label_alone, refused, bare_faults, relocated, and_then, location_at, erasable_place, early_value, valued, ebank, erase, gives, statement_effect, text_faults};
+ghost use Rattle.yayul.specs.Layout.{Layout as LaidOut, fault_if, standing, start, word_place, width, lacks_room, is_missing, is_twice, label_alone, refused, bare_faults, relocated, and_then, location_at, erasable_place, early_value, valued, ebank, erase, gives, statement_effect, text_faults};
 ghost use Rattle.yayul.specs.declared.faults.FaultKind.TheVariants.{BankFull};
 ghost use Rattle.yayul.specs.Inside.Answers.{layout_of, least_kind, labelled, words_faults, LeadsTo, Agrees, LeadsOn, LineLeadsOn, TakesWords, passed};
 ghost use Rattle.yayul.specs.Inside.Representation.{request_of, holds_word};
@@ -21,7 +21,7 @@ use std::alloc::Global;
 use symbols::{FixedBank, Symbols, Value};
 
 /// The most lines of a source.
-const LINE_COUNT: u32 = 65_536;
+pub(crate) const LINE_COUNT: u32 = 65_536;
 
 impl Layout {
     /// What stands before the first line. Nothing is allocated.
@@ -56,7 +56,7 @@ impl Layout {
     }
 
     // Does what a line's fields say.
-    fn operation(
+    pub(crate) fn operation(
         &mut self,
         placing: &mut Placing,
         line: u32,
@@ -94,7 +94,7 @@ impl Layout {
     }
 
     // Whether a label stands where no word may.
-    fn lacks_place(&self, label: &Label) -> bool
+    pub(crate) fn lacks_place(&self, label: &Label) -> bool
         ensures { result ≡ (not (is_missing label.now) && lacks_room 1 self.now.location) }
     {
         !label.is_missing() && self.location.is_past_end()
@@ -141,7 +141,7 @@ impl Layout {
     }
 
     // The location that an operand names.
-    fn target_of(&self, operand: &Option<Operand>) -> Result<Location, FaultKind>
+    pub(crate) fn target_of(&self, operand: &Option<Operand>) -> Result<Location, FaultKind>
         ensures value { result ≡ and_then location_at (early_value (layout_of self.now) operand.now) }
         ensures located { IfOk result IsLocation }
     {
@@ -149,7 +149,7 @@ impl Layout {
     }
 
     // The value of an operand, its symbols those of earlier lines.
-    fn value_of(&self, operand: &Option<Operand>) -> Result<Value, FaultKind>
+    pub(crate) fn value_of(&self, operand: &Option<Operand>) -> Result<Value, FaultKind>
         ensures { result ≡ early_value (layout_of self.now) operand.now }
     {
         match operand {
@@ -192,7 +192,7 @@ impl Layout {
     }
 
     // The erasable place that an operand names.
-    fn erasable_of(&self, operand: &Option<Operand>) -> Result<u16, FaultKind>
+    pub(crate) fn erasable_of(&self, operand: &Option<Operand>) -> Result<u16, FaultKind>
         ensures value { result ≡ and_then erasable_place (early_value (layout_of self.now) operand.now) }
         ensures range { IfOk result (λ place. place < 0o4000) }
     {
@@ -206,13 +206,11 @@ impl Layout {
         let end = self.location.erased_to(count);
         match (self.erase_fault(&label, &end), self.location.value(), end) {
             (Some(kind), _, _) => Err(self.refused(&label, kind)),
-            (None, Some(value), Ok(end)) => match self.define(label, value) {
-                Ok(()) => {
-                    self.location = end;
-                    Ok(())
-                }
-                Err(kind) => Err(kind),
-            },
+            (None, Some(value), Ok(end)) => {
+                self.define(label, value)?;
+                self.location = end;
+                Ok(())
+            }
             (None, _, _) => unreachable!(),
         }
     }
@@ -240,20 +238,18 @@ impl Layout {
         let fault = self.give_fault(placing, &content);
         match (fault, self.location.word_place()) {
             (Some(kind), _) => Err(self.refused(&label, kind)),
-            (None, Some(place)) => match self.define(label, Value::Fixed(place.0, place.1)) {
-                Ok(()) => self.ask(
-                    placing,
-                    WordRequest {
-                        line,
-                        bank: place.0,
-                        offset: place.1,
-                        content,
-                        extracode: self.extracode,
-                        eb: self.eb,
-                    },
-                ),
-                Err(kind) => Err(kind),
-            },
+            (None, Some(place)) => {
+                self.define(label, Value::Fixed(place.0, place.1))?;
+                let request = WordRequest {
+                    line,
+                    bank: place.0,
+                    offset: place.1,
+                    content,
+                    extracode: self.extracode,
+                    eb: self.eb,
+                };
+                self.ask(placing, request)
+            }
             (None, None) => unreachable!(),
         }
     }
@@ -271,7 +267,7 @@ impl Layout {
     }
 
     // Whether a word stands already where the first of so many would, or the second where there are two.
-    fn is_taken(&self, placing: &Placing, count: usize) -> bool
+    pub(crate) fn is_taken(&self, placing: &Placing, count: usize) -> bool
         ensures { result ≡ holds_word placing.now.rope self.now.location count }
     {
         placing.is_taken_at(self.location)
@@ -316,7 +312,7 @@ impl Layout {
     }
 
     // Whether a label stands on an earlier line.
-    fn is_twice(&self, label: &Label) -> bool
+    pub(crate) fn is_twice(&self, label: &Label) -> bool
         ensures { result ≡ is_twice (layout_of self.now) label.now }
     {
         match label {
@@ -337,7 +333,7 @@ fn bare_fault<T>(label: &Label, outcome: &Result<T, FaultKind>) -> Option<FaultK
     ])
 }
 
-fn fault_of<T>(outcome: &Result<T, FaultKind>) -> Option<FaultKind>
+pub(crate) fn fault_of<T>(outcome: &Result<T, FaultKind>) -> Option<FaultKind>
     ensures { result ≡ result_err outcome.now }
 {
     match outcome {
@@ -350,9 +346,16 @@ fn fault_of<T>(outcome: &Result<T, FaultKind>) -> Option<FaultKind>
 fn text_fault(line: u32, text: &[u8]) -> Option<FaultKind>
     ensures { result ≡ least_kind (text_faults line text.now) }
 {
-    least_fault(&[
+    least_fault(&text_conditions(line, text))
+}
+
+/// The faults of a line's bytes, its length and its number, each where its condition holds.
+pub(crate) fn text_conditions(line: u32, text: &[u8]) -> [Option<FaultKind>; 3]
+    ensures { standing result ≡ text_faults line text.now }
+{
+    [
         FaultKind::NotAscii.when(!is_text(text)),
         FaultKind::LongLine.when(text.len() > LINE_LENGTH),
         FaultKind::TooManyLines.when(line == LINE_COUNT + 1),
-    ])
+    ]
 }

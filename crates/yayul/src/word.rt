@@ -4,7 +4,7 @@ ghost use Rattle.std.specs.Prelude.{◌≡◌, ◌+◌, ◌<◌, ◌≤◌, ◌�
 ghost use Rattle.std.specs.Result.{result_err, result_map_both};
 ghost use Rattle.rope.specs.Places.{bank_words, stands, with_words};
 ghost use Rattle.yayul.specs.Layout.{standing, width, value_of, and_then};
-ghost use Rattle.yayul.specs.Words.{accepted, addressed_word, address_of, address_below, channel_in, complete_address, fixed_place, bank_word, far_address, field_of, request_words, request_faults, extracode_of, extracode_fault};
+ghost use Rattle.yayul.specs.Words.{accepted, addressed_word, address_of, address_below, channel_in, complete_address, fixed_place, bank_word, far_address, field_of, content_words, request_words, request_faults, extracode_of, extracode_fault};
 ghost use Rattle.yayul.specs.Program.{placed, placed_from};
 ghost use Rattle.yayul.specs.Inside.Answers.{least_kind};
 ghost use Rattle.yayul.specs.Inside.Codes.{greatest_code, greatest_field, greatest_with_field};
@@ -106,19 +106,38 @@ pub(crate) fn content_words(
 ) -> Result<LineWords, FaultKind>
     ensures { result_map_both words_in (λ kind. kind) result ≡ request_words symbols.now (request_of request.now) }
 {
-    match &request.content {
+    words_at(
+        symbols,
+        (request.bank, request.offset),
+        request.extracode,
+        request.eb,
+        &request.content,
+    )
+}
+
+/// The words of a content at a place, where extracode is in force or is not, with an erasable bank.
+pub(crate) fn words_at(
+    symbols: &Symbols,
+    place: (FixedBank, Offset),
+    extracode: bool,
+    eb: ErasableBank,
+    content: &Content,
+) -> Result<LineWords, FaultKind>
+    ensures { result_map_both words_in (λ kind. kind) result ≡ content_words symbols.now (Value.Fixed place.0 place.1) extracode eb content.now }
+{
+    match content {
         Content::Constant(number) => Ok(LineWords::One(number.ok_or(FaultKind::OutOfRange)?)),
         Content::Plain(instruction) => {
             Ok(LineWords::One(Word::of_low_bits(instruction.code().code)))
         }
         Content::Addressed(instruction, operand) => {
-            let value = known_value(symbols, request, operand)?;
-            addressed_word(instruction.code(), request.extracode, value)
+            let value = known_value(symbols, place, operand)?;
+            addressed_word(instruction.code(), extracode, value)
         }
         Content::FarAddress(operand) => {
-            let value = known_value(symbols, request, operand)?;
+            let value = known_value(symbols, place, operand)?;
             let place = fixed_place(value)?;
-            Ok(far_address(request.eb, place.0, place.1))
+            Ok(far_address(eb, place.0, place.1))
         }
     }
 }
@@ -133,15 +152,15 @@ fn addressed_word(code: AddressedCode, in_force: bool, value: Value) -> Result<L
     Ok(LineWords::One(Word::of_low_bits(code.least + field)))
 }
 
-// The value of an operand of a request's line.
+// The value of an operand of a line whose words stand at a place.
 fn known_value(
     symbols: &Symbols,
-    request: &WordRequest,
+    place: (FixedBank, Offset),
     operand: &Operand,
 ) -> Result<Value, FaultKind>
-    ensures { result ≡ value_of FaultKind.Undefined symbols.now (Value.Fixed request.now.bank request.now.offset) operand.now }
+    ensures { result ≡ value_of FaultKind.Undefined symbols.now (Value.Fixed place.0 place.1) operand.now }
 {
-    let here = Location::Fixed(request.bank, request.offset.number());
+    let here = Location::Fixed(place.0, place.1.number());
     value_of(FaultKind::Undefined, symbols, here, operand)
 }
 
@@ -275,7 +294,7 @@ pub(crate) fn request_fault(
     ])
 }
 
-fn fault_in(words: &Result<LineWords, FaultKind>) -> Option<FaultKind>
+pub(crate) fn fault_in(words: &Result<LineWords, FaultKind>) -> Option<FaultKind>
     ensures { result ≡ result_err (result_map_both words_in (λ kind. kind) words.now) }
 {
     match words {

@@ -37,6 +37,8 @@
   (setq-local comment-start "# ")
   (setq-local comment-start-skip "#+[ \t]*")
   (setq-local tab-width 8)
+  (when buffer-file-name
+    (setq-local compile-command (concat "agcws check " (shell-quote-argument (file-name-nondirectory buffer-file-name)))))
   (setq-local indent-tabs-mode nil)
   (setq-local indent-line-function #'indent-relative)
   (modify-syntax-entry ?# "<")

@@ -5,4 +5,5 @@ endif
 let b:did_ftplugin = 1
 setlocal commentstring=#\ %s comments=:# tabstop=8
 let &l:errorformat = '%f:%l:%c: %trror %m,%f:%l:%c: %tarning %m,%-G%.%#'
-let b:undo_ftplugin = "setlocal commentstring< comments< tabstop< errorformat<"
+let &l:makeprg = 'agcws check %:S'
+let b:undo_ftplugin = "setlocal commentstring< comments< tabstop< errorformat< makeprg<"

@@ -1,8 +1,7 @@
-use Rattle.std.proofs.Common.{◌∙◌, refl, sym, arith}
+use Rattle.std.proofs.Common.{◌∙◌}
 use Rattle.std.proofs.lemmas.Result.{err_from_is_err_and}
 use Rattle.cover.specs.Tallies.{selected_banks}
-use Rattle.words.proofs.Texts.{append-nothing}
-use Rattle.audit.proofs.Fronts.{begins_parts, front_ends, writes_more}
+use Rattle.audit.proofs.Fronts.{begins_parts, writes_more}
 use Rattle.cover.specs.CoverText.{empty_rows_of}
 use Rattle.cover.specs.Tallies.{figures_at}
 use Rattle.cover.proofs.rest.write_empty.Goals as goal

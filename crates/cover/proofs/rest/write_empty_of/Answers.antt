@@ -1,7 +1,6 @@
-use Rattle.std.proofs.Common.{◌∙◌, refl, sym, arith}
+use Rattle.std.proofs.Common.{◌∙◌, arith}
 use Rattle.std.proofs.lemmas.Result.{err_from_is_err_and}
 use Rattle.rope.specs.Places.{bank_words}
-use Rattle.words.proofs.Texts.{append-nothing}
 use Rattle.audit.proofs.Fronts.{begins_parts, front_ends, writes_more}
 use Rattle.cover.specs.CoverText.{empty_row, empty_rows_of}
 use Rattle.cover.specs.Tallies.{figures_at}

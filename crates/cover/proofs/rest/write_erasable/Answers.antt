@@ -1,7 +1,6 @@
-use Rattle.std.proofs.Common.{◌∙◌, refl, sym, arith}
+use Rattle.std.proofs.Common.{◌∙◌, arith}
 use Rattle.std.proofs.lemmas.Result.{err_from_is_err_and}
 use Rattle.space.specs.Cells.{erasable_count}
-use Rattle.words.proofs.Texts.{append-nothing}
 use Rattle.cover.proofs.Rows.{begins_erasable}
 use Rattle.audit.proofs.Fronts.{front_ends, writes_more}
 use Rattle.cover.specs.CoverText.{erasable_row, erasable_rows}

@@ -7,5 +7,5 @@ abbrev pub invariant-loop-breakpoint : goal.invariant-loop-breakpoint
 invariant-loop-breakpoint l = record {
   number : l.number ≡ l.breakpoint-index;
   items : l.text.items ++ breaks_from l.number (drop l.breakpoint-index l.breakpoints) ≡ breaks_from 0 l.breakpoints;
-  len : array_vec_len l.text ≤ 48 * l.breakpoint-index;
+  len : array_vec_len l.text ≤ 64 * l.breakpoint-index;
 }

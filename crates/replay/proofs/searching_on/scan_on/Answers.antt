@@ -1,7 +1,6 @@
-use Rattle.std.proofs.Common.{◌≡◌, ◌+◌, ◌-◌, Some, ◌∙◌, refl, sym, ap, arith}
+use Rattle.std.proofs.Common.{◌+◌, ◌-◌, ◌∙◌, refl, sym, ap, arith}
 use Rattle.std.specs.Fn.{FnReturnsAt}
 use Rattle.cpu.specs.State.{Processing}
-use Rattle.replay.specs.LastHit.{first_hit}
 use Rattle.replay.proofs.SessionLemmas.{steps_on}
 use Rattle.replay.proofs.LastHitLemmas.{first_here, first_later, first_none}
 use Rattle.replay.proofs.searching_on.scan_on.Goals as goal

@@ -1,24 +1,33 @@
-use Rattle.std.proofs.Common.{◌≡◌, ◌++◌, ◌∙◌, true, refl, ap, sym, inr}
+use Rattle.std.proofs.Common.{◌≡◌, ◌∙◌, true, ap, inr, arith}
 use Rattle.std.proofs.lemmas.Result.{err_from_is_err_and}
-use Rattle.words.specs.Devices.{WritesBeginning, one_more}
-use Rattle.cover.specs.CoverText.{cover_text, profile_text}
-use Rattle.cover.specs.Tallies.{figures_at}
+use Rattle.words.specs.Devices.{WritesBeginning}
+use Rattle.cover.specs.CoverText.{cover_text}
 use Rattle.workshop.proofs.Profiles.{text_is}
+use Rattle.workshop.proofs.Telling.{tells_none, tells_some}
 use Rattle.workshop.proofs.covering.cover.Goals as goal
 
-pub returns-in_err-write_profile : goal.returns-in_err-write_profile
-returns-in_err-write_profile g c =
+pub returns-in_err-write_profile-clause-covers : goal.returns-in_err-write_profile-clause-covers
+returns-in_err-write_profile-clause-covers g c =
     let p = err_from_is_err_and c.from_residual.result c.from_residual.ensures.1 in
     let text = text_is c.args.processor.now.scenario c.args.steps c.make_steps-cycles.new.tally (record { count = c.args.steps; cycles = c.make_steps-cycles.result }) c.rope.result.now c.args.rows.now
     c.make_steps-cycles.ensures.counts (ap (λ k. record { count = c.args.steps; cycles = k }) c.make_steps-cycles.ensures.cycles)
     (c.rope.ensures ∙ ap (λ s. s.rope) c.make_steps-cycles.ensures.scenario) in
     let breaks : g.W.Write.told ≡ true → WritesBeginning (g.W.Write.written c.args.out.now) (g.W.Write.written c.write_profile.new.out) (cover_text c.args.rows.now c.args.processor.now.scenario c.args.steps) = λ told.
     rw text at (c.in_err-write_profile.ensures.written told) in
-    rw (p.1, p.2) (inr ((breaks, c.in_err-write_profile.ensures.failures), c.make_steps-cycles.ensures.adds_up))
+    rw (p.1, p.2) (inr ((breaks, c.in_err-write_profile.ensures.failures), c.make_steps-cycles.ensures.adds_up, c.make_steps-cycles.ensures.rows_add_up))
 
-pub returns : goal.returns
-returns g c =
+pub returns-clause-covers : goal.returns-clause-covers
+returns-clause-covers g c =
     let text = text_is c.args.processor.now.scenario c.args.steps c.make_steps-cycles.new.tally (record { count = c.args.steps; cycles = c.make_steps-cycles.result }) c.rope.result.now c.args.rows.now
     c.make_steps-cycles.ensures.counts (ap (λ k. record { count = c.args.steps; cycles = k }) c.make_steps-cycles.ensures.cycles)
     (c.rope.ensures ∙ ap (λ s. s.rope) c.make_steps-cycles.ensures.scenario) in
-    inr ((λ told. rw text at (c.in_ok-write_profile.ensures.written told), c.in_ok-write_profile.ensures.failures), c.make_steps-cycles.ensures.adds_up)
+    inr ((λ told. rw text at (c.in_ok-write_profile.ensures.written told), c.in_ok-write_profile.ensures.failures), c.make_steps-cycles.ensures.adds_up, c.make_steps-cycles.ensures.rows_add_up)
+
+pub returns-in_default-clause-progress : goal.returns-in_default-clause-progress
+returns-in_default-clause-progress g c = tells_none c.args.steps _
+
+pub returns-in_err-write_profile-clause-progress : goal.returns-in_err-write_profile-clause-progress
+returns-in_err-write_profile-clause-progress g c =
+    let p = err_from_is_err_and c.from_residual.result c.from_residual.ensures.1 in
+    let all = c.make_steps-cycles.ensures.progress in
+    rw p.1 (tells_some c.args.steps c.args.steps _ _ all.told (omega arith) all.tells)

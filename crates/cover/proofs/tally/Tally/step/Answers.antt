@@ -1,4 +1,4 @@
-use Rattle.std.proofs.Common.{◌≡◌, ◌≤◌, ◌∙◌, ap, arith}
+use Rattle.std.proofs.Common.{◌≡◌, ap, arith}
 use Rattle.cpu.specs.Next.{next}
 use Rattle.cpu.proofs.RunLaws.{cycles-next, rise-next}
 use Rattle.cover.proofs.tally.Tally.step.Goals as goal

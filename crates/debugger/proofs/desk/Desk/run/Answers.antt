@@ -1,26 +1,29 @@
 use Rattle.std.proofs.Common.{◌≡◌, ◌∙◌, refl, arith}
+use Rattle.std.proofs.lemmas.Result.{err_from_is_err_and}
 use Rattle.commands.specs.declared.command.Command.TheVariants.{Run}
 use Rattle.commands.specs.declared.command.Request.TheVariants.{Known}
-use Rattle.debugger.specs.Replies.{answer, reply}
+use Rattle.debugger.specs.Replies.{answer, reply, ending_line}
+use Rattle.debugger.specs.Executions.{to_request}
 use Rattle.debugger.proofs.Stepping.{steps-broken, steps-told}
 use Rattle.debugger.proofs.desk.Desk.run.Goals as goal
 
-pub returns-in-Ok-clause-executes : goal.returns-in-Ok-clause-executes
+pub returns-clause-executes : goal.returns-clause-executes
 unfolding answer reply
-returns-in-Ok-clause-executes g c = λ told.
+returns-clause-executes g c = λ told.
     let W = g.W.Write in
     let s = c.args.session.now in
     let t = c.tell_ending.new.session in
     let looked = c.tell_ending.ensures.looked in
     let scene : t.scenario ≡ s.scenario = looked.scenario ∙ c.grow.ensures.scenario in
     let at : c.steps-self.result ≡ t.n = omega arith in
-    let made = rw c.as_slice-breakpoints.ensures at (c.in-Ok.ensures.growth told) in
-    steps-told g.K.Keeper.may_refuse s c.args.self.now.position c.args.self.now.breakpoints (Known (Run c.args.steps)) c.args.self.now.breakpoints c.args.steps (λ n. n) t c.steps-self.result c.in-Ok.ending (W.written c.args.out.now) (W.written c.grow.new.out) (W.written c.tell_ending.new.out) c.tell_ending.result
+    let made = rw c.as_slice-breakpoints.ensures at (c.in_ok-ending.ensures.growth told) in
+    steps-told g.K.Keeper.may_refuse s c.args.self.now.position c.args.self.now.breakpoints (to_request (Known (Run c.args.steps))) ending_line c.args.self.now.breakpoints c.args.steps (λ n. n) t c.steps-self.result c.in_ok-ending.ending (W.written c.args.out.now) (W.written c.grow.new.out) (W.written c.tell_ending.new.out) c.tell_ending.result
     (λ answers additions. refl) scene at (rw looked.steps made) (rw c.grow.ensures.scenario at (c.tell_ending.ensures.written told))
 
-pub returns-in-Err-clause-executes : goal.returns-in-Err-clause-executes
+pub returns-in_err-ending-clause-executes : goal.returns-in_err-ending-clause-executes
 unfolding answer reply
-returns-in-Err-clause-executes g c = λ told.
+returns-in_err-ending-clause-executes g c = λ told.
     let W = g.W.Write in
-    steps-broken g.K.Keeper.may_refuse c.args.session.now c.args.self.now.position c.args.self.now.breakpoints (Known (Run c.args.steps)) c.args.self.now.breakpoints c.args.steps (λ n. n) (W.written c.args.out.now) (W.written c.grow.new.out)
-    (λ answers additions. refl) (rw c.as_slice-breakpoints.ensures at (c.in-Err.ensures.growth told))
+    let p = err_from_is_err_and c.from_residual.result c.from_residual.ensures.1 in
+    rw p.1 (steps-broken g.K.Keeper.may_refuse c.args.session.now c.args.self.now.position c.args.self.now.breakpoints (to_request (Known (Run c.args.steps))) ending_line c.args.self.now.breakpoints c.args.steps (λ n. n) (W.written c.args.out.now) (W.written c.grow.new.out)
+    (λ answers additions. refl) (rw c.as_slice-breakpoints.ensures at (c.in_err-ending.ensures.growth told)))

@@ -1,4 +1,4 @@
-use Rattle.std.proofs.Common.{◌≡◌, ◌+◌, ◌-◌, ℕ, ◌∙◌, refl, ap, arith}
+use Rattle.std.proofs.Common.{◌≡◌, ◌+◌, ◌-◌, ◌∙◌, refl, ap, arith}
 use Rattle.std.specs.Fn.{FnReturnsAt}
 use Rattle.replay.specs.View.{SessionView}
 use Rattle.replay.specs.LastHit.{AnswersAs, first_hit}

@@ -1,0 +1,64 @@
+-- Rows of the texts, worked by hand.
+use Rattle.std.proofs.Common.{◌≡◌, List, [], ◌∷◌, ℕ, true, false, refl}
+use Rattle.std.specs.Prelude.{codes}
+use lib.Count.{ones}
+use Rattle.std.specs.Fmt.{digits}
+use Rattle.space.specs.Places.{window}
+use Rattle.words.specs.Numerals.{octal_text}
+use Rattle.rope.specs.Places.{Words, stands, word_at}
+use Rattle.cpu.specs.Codes.{basic_rows, extracode_rows, code_of}
+use Rattle.cpu.specs.Texts.{instruction_text}
+use Rattle.audit.specs.Differences.{differing_at}
+use Rattle.audit.specs.declared.differences.Extent.TheVariants.{All, Filled}
+use Rattle.audit.specs.Parities.{wrong_at, parity_line}
+use Rattle.audit.specs.SourceLines.{bank_line, octal_line}
+use Rattle.audit.specs.WordLines.{extracode_at, instruction_at, place_text}
+
+-- ## A source
+bank_12 : bank_line 0o12 ≡ codes "        BANK    12\n"
+unfolding bank_line octal_text
+bank_12 = refl
+
+-- EXTEND, and then MP 0100
+extend : (words : Words) → word_at words 0o12 0 ≡ 0o6 → octal_line words 0o12 0 ≡ codes "        OCT     00006   # 12,2000 EXTEND\n"
+unfolding octal_line octal_text place_text window instruction_at extracode_at instruction_text basic_rows code_of
+extend words first = rw first refl
+
+extracode : (words : Words) → extracode_at words 0o12 1 ≡ true → word_at words 0o12 1 ≡ 0o70100 → octal_line words 0o12 1 ≡ codes "        OCT     70100   # 12,2001 MP 0100\n"
+unfolding octal_line octal_text place_text window instruction_at instruction_text extracode_rows code_of
+extracode words extra second = rw (extra, second) refl
+
+-- ## Differences
+-- where none stands in the old memory the place is passed over, if the filled ones alone are asked for
+passed_over : (old new : Words) → stands old 3 0o1777 ≡ false → differing_at Filled old new 3 0o1777 ≡ []
+unfolding differing_at
+passed_over old new none = rw none refl
+
+compared : (old new : Words) → word_at old 3 0o1777 ≡ 0 → word_at new 3 0o1777 ≡ 0o77777 → differing_at All old new 3 0o1777 ≡ (3, 0o1777) ∷ []
+unfolding differing_at
+compared old new before after = rw (before, after) refl
+
+filled : (old new : Words) → stands old 3 0o1777 ≡ true → word_at old 3 0o1777 ≡ 0 → word_at new 3 0o1777 ≡ 0o77777 → differing_at Filled old new 3 0o1777 ≡ (3, 0o1777) ∷ []
+unfolding differing_at
+filled old new one before after = rw (one, before, after) refl
+
+-- ## Parities
+-- 64005 has five one bits, so its lowest bit is to be 0: 320, 012 in octal; with a 1 it is wrong. 00006 has two, so it is to be 1
+image : List ℕ
+image = 0o320 ∷ 0o13 ∷ 0 ∷ 0o15 ∷ []
+
+wrong_parity : wrong_at image 2 0 ≡ (2, 0) ∷ []
+unfolding image ones
+wrong_parity = refl
+
+right_parity : wrong_at image 2 1 ≡ []
+unfolding image ones
+right_parity = refl
+
+told : parity_line image (2, 0) ≡ codes "02,4000 64005 BYTE 0\n"
+unfolding image parity_line place_text octal_text window digits
+told = refl
+
+second : parity_line image (2, 1) ≡ codes "02,4001 00006 BYTE 2\n"
+unfolding image parity_line place_text octal_text window digits
+second = refl

@@ -1,0 +1,48 @@
+-- What the numbers of refusals mean.
+use Rattle.std.specs.Prelude.{ℕ, ◌==◌, Bool, List, [], ◌∷◌, ◌++◌, codes, decimal, if◌then◌else◌}
+use Rattle.std.specs.List.{list_any}
+
+-- the numbers
+abbrev pub numbers : List ℕ
+numbers = 2 ∷ 3 ∷ 4 ∷ 5 ∷ 6 ∷ 7 ∷ 10 ∷ 11 ∷ 12 ∷ 13 ∷ 14 ∷ 15 ∷ 16 ∷ 17 ∷ 18 ∷ 19 ∷ 20 ∷ 21 ∷ 22 ∷ 23 ∷ 24 ∷ 25 ∷ 26 ∷ 30 ∷ 31 ∷ 32 ∷ 33 ∷ 34 ∷ 35 ∷ []
+
+abbrev pub is_told : ℕ → Bool
+is_told number = list_any (λ n. n == number) numbers
+
+-- what a number means, in a line
+abbrev pub meaning : ℕ → List ℕ
+meaning number =
+    if number == 2 then codes "memory was refused"
+    else if number == 3 then codes "the image ends before its 73,728 bytes"
+    else if number == 4 then codes "bytes stand after the 73,728 of the image"
+    else if number == 5 then codes "the lowest bit of two bytes of the image is wrong: in version 1 it is 1, in version 2 they have an even number of one bits"
+    else if number == 6 then codes "a file could not be opened or read"
+    else if number == 7 then codes "a file could not be made, or a write failed"
+    else if number == 10 then codes "a byte stands here that a line may not hold"
+    else if number == 11 then codes "the line has more than 120 bytes"
+    else if number == 12 then codes "the source has more than 65536 lines"
+    else if number == 13 then codes "the label has no label's form, or is missing, or is not taken"
+    else if number == 14 then codes "an earlier line has this label"
+    else if number == 15 then codes "this is no operator"
+    else if number == 16 then codes "the operand is missing, or not taken, or has no operand's form"
+    else if number == 17 then codes "no line defines this symbol"
+    else if number == 18 then codes "no earlier line defines this symbol"
+    else if number == 19 then codes "there is no such bank for this operator"
+    else if number == 20 then codes "this stands past the end of its bank, or of erasable memory"
+    else if number == 21 then codes "a word stands at this place already"
+    else if number == 22 then codes "words stand in fixed memory, and the location is in erasable memory"
+    else if number == 23 then codes "this is an extracode, and EXTEND does not stand before it"
+    else if number == 24 then codes "this is no extracode, and EXTEND stands before it"
+    else if number == 25 then codes "the operator takes another kind of place, or a channel"
+    else if number == 26 then codes "the number is out of its range, or leads out of its bank"
+    else if number == 30 then codes "a line of the feed is no input and no series"
+    else if number == 31 then codes "the cycle of an input is below that of the input before it"
+    else if number == 32 then codes "the feed has more than 65,536 inputs besides its series"
+    else if number == 33 then codes "the counter does not take the sequence"
+    else if number == 34 then codes "a source or a feed has more than 8,388,608 bytes"
+    else if number == 35 then codes "the feed has more than 16 series"
+    else []
+
+-- a number, and what it means
+abbrev pub heading : ℕ → List ℕ
+heading number = codes "E" ++ decimal number ++ codes ": " ++ meaning number ++ codes "\n"

@@ -1,0 +1,49 @@
+//! What the numbers of refusals mean, as text.
+
+ghost use Rattle.std.specs.Prelude.{◌≡◌, ◌++◌, flat_map, IfOk, OnOk};
+ghost use Rattle.faults.specs.Refusals.{numbers, heading};
+
+use crate::findings::push_number;
+use crate::refusals::{NUMBERS, Refusal, meaning};
+use std::alloc::{AllocError, Global};
+
+/// What a refusal means, and what draws it.
+pub fn explanation(alloc: Global, refusal: &Refusal) -> Result<Vec<u8>, AllocError>
+    ensures { IfOk result (λ text. text.items ≡ heading refusal.now.number ++ refusal.now.causes.now) }
+{
+    let mut text = Vec::new(alloc);
+    push_heading(&mut text, refusal.number)?;
+    text.extend_from_slice(refusal.causes)?;
+    Ok(text)
+}
+
+/// What each number means, in a line.
+pub fn all_headings(alloc: Global) -> Result<Vec<u8>, AllocError>
+    ensures { IfOk result (λ text. text.items ≡ flat_map heading numbers) }
+{
+    let mut text = Vec::new(alloc);
+    push_headings(&mut text, &NUMBERS)?;
+    Ok(text)
+}
+
+// Appends numbers, and what each means.
+fn push_headings(text: &mut Vec<u8>, numbers: &[u8]) -> Result<(), AllocError>
+    ensures { OnOk result (text.new.items ≡ text.old.items ++ flat_map heading numbers.now) }
+{
+    for number in numbers {
+        push_heading(text, *number)?;
+    }
+    Ok(())
+}
+
+// Appends a number, and what it means.
+fn push_heading(text: &mut Vec<u8>, number: u8) -> Result<(), AllocError>
+    ensures { OnOk result (text.new.items ≡ text.old.items ++ heading number) }
+{
+    text.extend_from_slice(b"E")?;
+    push_number(text, u64::from(number))?;
+    text.extend_from_slice(b": ")?;
+    text.extend_from_slice(meaning(number))?;
+    text.extend_from_slice(b"\n")?;
+    Ok(())
+}

@@ -1,0 +1,4 @@
+pub mod Counting
+mod Exact
+pub mod LongWaits
+mod Rows

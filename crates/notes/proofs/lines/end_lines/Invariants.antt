@@ -1,0 +1,13 @@
+use Rattle.std.proofs.Common.{◌≡◌, ◌+◌, ◌-◌, ◌*◌, ◌≤◌, ◌++◌}
+use Rattle.std.specs.List.{range_with_len}
+use Rattle.arrayvec.specs.ArrayVec.{array_vec_len}
+use Rattle.notes.specs.RunNotes.{end_text}
+use Rattle.notes.specs.Waits.{kept_from, kept_text}
+use Rattle.notes.proofs.lines.end_lines.Given as goal
+
+abbrev pub invariant-loop-number : goal.invariant-loop-number
+invariant-loop-number l = record {
+  low : 1 ≤ l.number;
+  text : l.lines.items ++ kept_from l.cycles l.waits l.number (11 - l.number) ≡ end_text l.inside l.steps ++ kept_text l.cycles l.waits;
+  short : array_vec_len l.lines ≤ 40 + 80 * (l.number - 1);
+}

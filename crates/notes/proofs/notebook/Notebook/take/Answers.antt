@@ -1,0 +1,22 @@
+use Rattle.std.proofs.Common.{subst, refl, ◌≡◌, [], ◌∷◌}
+use Rattle.notes.specs.declared.kind.Kind.{Kind}
+use Rattle.notes.specs.declared.notebook.Told.{Told}
+use Rattle.notes.specs.Counted.{Book, Takes, taken_at, told_of}
+use Rattle.notes.proofs.Counting.{of_kinds, takes, told_at}
+use Rattle.notes.proofs.notebook.Notebook.take.Goals as goal
+
+pub returns-clause-takes : goal.returns-clause-takes
+returns-clause-takes c =
+    let new : Book = record { counts = c.take-quotients.new.self ∷ c.take-skips.new.self ∷ c.take-no_words.new.self ∷ c.take-in_erasable.new.self ∷ c.take-no_handlers.new.self ∷ []; waits = c.self.inside.waits; steps = c.self.inside.steps } in
+    subst (λ old. Takes c.args.processor.now.scenario c.args.machine.now old new) c.self.view_is
+    (takes c.args.processor.now.scenario c.args.machine.now c.next_step-step.result c.account_of.result c.number_of-number.result _ new
+    (c.next_step-step.ensures c.requires.fits) c.account_of.ensures c.number_of-number.ensures.number c.number_of-number.ensures.known
+    (of_kinds _ (rw c.happens-divides.ensures at c.take-quotients.ensures.left) (rw c.happens-is_skipping.ensures at c.take-skips.ensures.left) (rw c.happens-has_no_word.ensures at c.take-no_words.ensures.left) (rw c.happens-is_in_erasable.ensures at c.take-in_erasable.ensures.left) (rw c.happens-has_no_handler.ensures at c.take-no_handlers.ensures.left)) refl)
+
+pub returns-clause-told : goal.returns-clause-told
+returns-clause-told c =
+    let out : Told = record { quotients = c.take-quotients.result; skips = c.take-skips.result; no_words = c.take-no_words.result; in_erasable = c.take-in_erasable.result; no_handlers = c.take-no_handlers.result } in
+    subst (λ old. (kind : Kind) → told_of out kind ≡ taken_at c.args.processor.now.scenario c.args.machine.now old kind) c.self.view_is
+    (told_at c.args.processor.now.scenario c.args.machine.now c.next_step-step.result c.account_of.result c.number_of-number.result (record { counts = c.self.inside.quotients ∷ c.self.inside.skips ∷ c.self.inside.no_words ∷ c.self.inside.in_erasable ∷ c.self.inside.no_handlers ∷ []; waits = c.self.inside.waits; steps = c.self.inside.steps }) (told_of out)
+    (c.next_step-step.ensures c.requires.fits) c.account_of.ensures c.number_of-number.ensures.number
+    (of_kinds _ (rw c.happens-divides.ensures at c.take-quotients.ensures.out) (rw c.happens-is_skipping.ensures at c.take-skips.ensures.out) (rw c.happens-has_no_word.ensures at c.take-no_words.ensures.out) (rw c.happens-is_in_erasable.ensures at c.take-in_erasable.ensures.out) (rw c.happens-has_no_handler.ensures at c.take-no_handlers.ensures.out)))

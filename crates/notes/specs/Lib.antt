@@ -1,0 +1,4 @@
+pub mod Notes
+pub mod RunNotes
+pub mod Waits
+pub mod Counted

@@ -1,0 +1,16 @@
+//! The laws of notes. Each is the contract of a call that does nothing.
+
+ghost use Rattle.notes.specs.RunNotes.{NotesAreExact};
+ghost use Rattle.notes.specs.Waits.{WaitsAreExact};
+
+/// A note is counted if and only if it holds of some step, and told at a step if and only if it holds there for the first time.
+#[tactic(auto, using(crate::proofs::Exact::are_exact))]
+pub fn notes_are_exact()
+    ensures { NotesAreExact }
+{}
+
+/// An interrupt is told to wait long if and only if it is asked for after some step and after each later one, for so many cycles.
+#[tactic(auto, using(crate::proofs::LongWaits::are_exact))]
+pub fn waits_are_exact()
+    ensures { WaitsAreExact }
+{}

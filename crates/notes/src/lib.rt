@@ -1,0 +1,16 @@
+//! What happens in a run that is seldom meant.
+#![tactic(auto)]
+
+mod division;
+mod kind;
+pub mod laws;
+mod ledger;
+mod lines;
+mod notebook;
+mod step;
+mod text;
+mod waits;
+
+pub use kind::Kind;
+pub use notebook::Notebook;
+pub use text::write_notes;

@@ -1,0 +1,141 @@
+//! Whether something happens in a step that is seldom meant.
+
+ghost use Rattle.std.specs.Prelude.{◌≡◌, ◌*◌, ◌&&◌, ◌==◌, not};
+ghost use Rattle.cpu.specs.Effects.{place_in};
+ghost use Rattle.rope.specs.Places.{stands};
+ghost use Rattle.notes.specs.Notes.{divides, happens_in, has_word, is_code_in_erasable, is_too_great, is_z, names_z, skips};
+ghost use Rattle.notes.specs.RunNotes.{where_of};
+
+use crate::division::quotient_fits;
+use crate::kind::Kind;
+use cpu::{Account, Fetched, Machine, NextStep, Processor, instruction_name, named_address};
+use feed::interrupt::Interrupt;
+use rope::Rope;
+use space::numbers::Eras;
+use space::resolve::resolve;
+use space::{Addr12, Linear};
+use trace::entry_place;
+use words::Overflow;
+
+/// Whether something of a kind happens in a step that a machine is to make.
+pub(crate) fn happens(processor: &Processor, machine: &Machine, step: &NextStep, kind: Kind) -> bool
+    ensures { result ≡ happens_in processor.now.scenario.rope machine.now kind step.now }
+{
+    match step {
+        NextStep::Takes(_) => false,
+        NextStep::Enters(interrupt) => {
+            kind == Kind::NoHandler && !has_handler(processor.rope(), *interrupt)
+        }
+        NextStep::Executes(fetched) => match kind {
+            Kind::NoHandler => false,
+            Kind::NoWord => !fetched.waited && !has_word(processor.rope(), &fetched.place),
+            Kind::InErasable => !fetched.waited && is_code_in_erasable(&fetched.place),
+            Kind::Skip => skips(machine, fetched),
+            Kind::Quotient => divides(processor, machine, fetched),
+        },
+    }
+}
+
+/// Where a step is: where Z leads, or where an interrupt is entered. An input is nowhere, and so is a word that waited.
+pub(crate) fn account_of(step: &NextStep) -> Account
+    ensures { result ≡ where_of step.now }
+{
+    match step {
+        NextStep::Takes(_) => Account::Input,
+        NextStep::Enters(interrupt) => Account::Place(entry_place(*interrupt)),
+        NextStep::Executes(fetched) => {
+            if fetched.waited {
+                Account::Waiting
+            } else {
+                Account::Place(fetched.place)
+            }
+        }
+    }
+}
+
+/// Whether a word stands where an interrupt is entered.
+fn has_handler(rope: &Rope, interrupt: Interrupt) -> bool
+    ensures { result ≡ stands rope.now 2 (4 * interrupt) }
+{
+    has_word(rope, &entry_place(interrupt))
+}
+
+/// Whether a word stands at a place; at one of erasable memory always.
+fn has_word(rope: &Rope, place: &Linear) -> bool
+    ensures { result ≡ has_word rope.now place.now }
+{
+    match place {
+        Linear::Erasable(_) => true,
+        Linear::Fixed(bank, offset) => rope.has(*bank, *offset),
+    }
+}
+
+/// Whether a place is one of erasable memory, but Q, where RETURN leads.
+fn is_code_in_erasable(place: &Linear) -> bool
+    ensures { result ≡ is_code_in_erasable place.now }
+{
+    match place {
+        Linear::Erasable(place) => *place != Eras::Q,
+        Linear::Fixed(_, _) => false,
+    }
+}
+
+/// Whether TS skips: A overflows, and Z does not take it.
+fn skips(machine: &Machine, fetched: &Fetched) -> bool
+    ensures { result ≡ skips machine.now fetched.now }
+{
+    instruction_name(fetched.word, fetched.extra) == b"TS".as_slice()
+        && machine.reg(Eras::A).overflow() != Overflow::No
+        && !names_z(machine, fetched)
+}
+
+/// Whether an instruction names Z.
+fn names_z(machine: &Machine, fetched: &Fetched) -> bool
+    ensures { result ≡ names_z machine.now fetched.now }
+{
+    match named_address(fetched.word, fetched.extra) {
+        Some(address) => is_z(&place_at(machine, address)),
+        None => false,
+    }
+}
+
+/// Whether the quotient of DV does not fit. A division by Z is none of these.
+fn divides(processor: &Processor, machine: &Machine, fetched: &Fetched) -> bool
+    ensures { result ≡ divides processor.now.scenario.rope machine.now fetched.now }
+{
+    instruction_name(fetched.word, fetched.extra) == b"DV".as_slice()
+        && match named_address(fetched.word, fetched.extra) {
+            Some(address) => is_too_great(processor, machine, &place_at(machine, address)),
+            None => false,
+        }
+}
+
+/// Whether the quotient of A and L by what a place holds does not fit.
+#[tactic(auto, unfolding(cpu::specs::Effects::value_at))]
+fn is_too_great(processor: &Processor, machine: &Machine, place: &Linear) -> bool
+    ensures { result ≡ is_too_great processor.now.scenario.rope machine.now place.now }
+{
+    let divisor = match place {
+        Linear::Erasable(place) => machine.word(*place),
+        Linear::Fixed(bank, offset) => processor.rope().word(*bank, *offset),
+    };
+    !is_z(place) && !quotient_fits(machine.word(Eras::A), machine.word(Eras::L), divisor)
+}
+
+/// The place to which an address leads.
+#[tactic(auto, unfolding(cpu::specs::Effects::place_in))]
+fn place_at(machine: &Machine, address: Addr12) -> Linear
+    ensures { result ≡ place_in machine.now address }
+{
+    resolve(address, machine.store().banks())
+}
+
+/// Whether a place is Z.
+fn is_z(place: &Linear) -> bool
+    ensures { result ≡ is_z place.now }
+{
+    match place {
+        Linear::Erasable(place) => *place == Eras::Z,
+        Linear::Fixed(_, _) => false,
+    }
+}

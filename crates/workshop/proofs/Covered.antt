@@ -1,0 +1,18 @@
+-- What an engine that profiles a run has read, and what it has written.
+use Rattle.std.proofs.Common.{◌≡◌, ℕ, List, Result, Ok, subst}
+use Rattle.feed.specs.declared.entry.Entry.{Entry}
+use Rattle.workshop.specs.declared.fault.WorkshopFault.{WorkshopFault}
+use Rattle.workshop.specs.declared.origin.Origin.{Origin}
+use Rattle.workshop.specs.Covers.{Covers, CoversRun, ReadsSubject, Subject}
+use Rattle.workshop.specs.Loading.{Reads, ReadsInputs}
+use Rattle.workshop.specs.Runs.{Running}
+
+pub covers_by : (origin : Origin) (steps : ℕ) (before after : Running) (subject : Subject) (inputs : List Entry) (r : Result Subject WorkshopFault) (i : Result (List Entry) WorkshopFault)
+    (result : Result (Unit {0}) WorkshopFault) → r ≡ Ok subject → i ≡ Ok inputs → Reads (ReadsSubject origin) before.files.program after.files.program r
+    → Reads ReadsInputs before.files.feed after.files.feed i → CoversRun subject.1 (record { rope = subject.0; inputs = inputs }) steps before.out after.out result
+    → Covers origin steps before after result
+covers_by origin steps before after subject inputs r i result e f reads more run = record {
+  subject = Ok subject;
+  reads = subst (λ x. Reads (ReadsSubject origin) before.files.program after.files.program x) e reads;
+  next = record { inputs = Ok inputs; reads = subst (λ x. Reads ReadsInputs before.files.feed after.files.feed x) f more; next = run };
+}

@@ -1,0 +1,15 @@
+use Rattle.std.proofs.lemmas.Result.{err_from_is_err_and}
+use Rattle.workshop.proofs.Covered.{covers_by}
+use Rattle.workshop.proofs.Telling.{tells_none}
+use Rattle.workshop.proofs.covering.cover_and_tell.Goals as goal
+
+pub returns-in_err-rope-clause-progress : goal.returns-in_err-rope-clause-progress
+returns-in_err-rope-clause-progress g c = rw (err_from_is_err_and c.from_residual.result c.from_residual.ensures.1).1 (tells_none c.args.steps _)
+
+pub returns-in_err-read_feed-clause-progress : goal.returns-in_err-read_feed-clause-progress
+returns-in_err-read_feed-clause-progress g c = rw (err_from_is_err_and c.from_residual-in_err-read_feed.result c.from_residual-in_err-read_feed.ensures.1).1 (tells_none c.args.steps _)
+
+pub returns-clause-covers : goal.returns-clause-covers
+returns-clause-covers g c =
+    covers_by c.args.origin c.args.steps _ _ (c.in_ok-rope.rope, c.in_ok-rope.rows) c.in_ok-read_feed.field-0 _ _ _ c.in_ok-rope.was c.in_ok-read_feed.was c.read_subject.ensures c.read_feed.ensures
+    (rw c.new-processor.ensures.value at c.cover.ensures.covers)

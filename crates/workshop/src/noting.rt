@@ -1,0 +1,126 @@
+//! The engine that runs a program, and notes what is seldom meant.
+
+ghost use Rattle.std.specs.Prelude.{◌≡◌, ◌-◌, ◌≤◌, ◌<◌, ◌^◌, true, IfOk, OnOk};
+ghost use Rattle.notes.specs.Counted.{Counted};
+ghost use Rattle.notes.specs.RunNotes.{notes_text};
+ghost use Rattle.workshop.specs.Failures.{reader, writer};
+ghost use Rattle.workshop.specs.Notings.{EndsNoted, RunsNoted};
+ghost use Rattle.workshop.specs.Progress.{TellsRun};
+ghost use Rattle.workshop.specs.Runs.{Makes, summary_of};
+ghost use Rattle.cpu.specs.State.{Scenario};
+
+use crate::engine::{STEPS_BETWEEN_FLUSHES, Summary, hand_on, step_and_write};
+use crate::fault::WorkshopFault;
+use crate::inputs::load;
+use crate::origin::Origin;
+use crate::progress::tell;
+use cpu::{Machine, Processor};
+use notes::{Notebook, write_notes};
+use space::numbers::Eras;
+use std::alloc::Global;
+use trace::PlaceNames;
+use words::{Read, Write};
+
+/// Reads a program and then a feed, and runs the program for some steps, as `run_and_tell` does; and writes then what has happened
+/// in these steps that is seldom meant, as `NOTE QUOTIENT   02,4004  10100  DV D               STEP 5 CYCLES 13 TIMES 1`.
+///
+/// Memory for the notes is taken once, before the first step. The steps are made twice: for the notes once more. Where the run
+/// breaks off no note is written; after a write of them that failed a beginning of them stands.
+pub fn run_with_notes<P: Read, F: Read, W: Write, T: Write, N: Write>(
+    alloc: Global,
+    origin: Origin,
+    program: &mut P,
+    feed: &mut F,
+    steps: u64,
+    out: &mut W,
+    progress: &mut T,
+    notes: &mut N,
+) -> Result<Summary, WorkshopFault>
+    requires { steps ≤ 2 ^ 40 - 2 }
+    ensures runs { RunsNoted origin steps
+        (record { files = record { program = reader P.told P.left P.failures program.old; feed = reader F.told F.left F.failures feed.old }; texts = record { out = writer W.told W.written W.failures out.old; notes = writer N.told N.written N.failures notes.old } })
+        (record { files = record { program = reader P.told P.left P.failures program.new; feed = reader F.told F.left F.failures feed.new }; texts = record { out = writer W.told W.written W.failures out.new; notes = writer N.told N.written N.failures notes.new } }) result }
+    ensures handed_on { W.told ≡ true → 0 < steps → OnOk result (W.handed_on out.new ≡ W.written out.new) }
+    ensures progress { TellsRun steps (writer T.told T.written T.failures progress.old) (writer T.told T.written T.failures progress.new) result }
+{
+    let loaded = load(alloc, origin, program, feed)?;
+    let Ok(names) = PlaceNames::new(alloc, loaded.symbols) else {
+        return Err(WorkshopFault::NoMemory);
+    };
+    let Ok(mut notebook) = Notebook::new(alloc) else {
+        return Err(WorkshopFault::NoMemory);
+    };
+    let mut processor = Processor::new(loaded.rope, loaded.feed);
+    run_then_note(
+        &mut processor,
+        &names,
+        &mut notebook,
+        steps,
+        out,
+        progress,
+        notes,
+    )
+}
+
+/// Makes some steps from the start, and then writes their notes.
+fn run_then_note<W: Write, T: Write, N: Write>(
+    processor: &mut Processor,
+    names: &PlaceNames,
+    notebook: &mut Notebook,
+    steps: u64,
+    out: &mut W,
+    progress: &mut T,
+    notes: &mut N,
+) -> Result<Summary, WorkshopFault>
+    requires few { steps ≤ 2 ^ 40 - 2 }
+    requires none { (scenario : Scenario) → Counted scenario 0 notebook.old }
+    ensures ends { EndsNoted (notes_text names.now processor.old.scenario steps) processor.old.scenario steps
+        (record { out = writer W.told W.written W.failures out.old; notes = writer N.told N.written N.failures notes.old })
+        (record { out = writer W.told W.written W.failures out.new; notes = writer N.told N.written N.failures notes.new }) result }
+    ensures handed_on { W.told ≡ true → 0 < steps → OnOk result (W.handed_on out.new ≡ W.written out.new) }
+    ensures progress { TellsRun steps (writer T.told T.written T.failures progress.old) (writer T.told T.written T.failures progress.new) result }
+{
+    let summary = run_noting(processor, notebook, steps, out, progress)?;
+    write_notes(notebook, names, processor, steps, notes)?;
+    Ok(summary)
+}
+
+/// Makes some steps from the start, notes what happens in each, and writes the lines of what they put out, as a run without notes does.
+fn run_noting<W: Write, T: Write>(
+    processor: &mut Processor,
+    notebook: &mut Notebook,
+    steps: u64,
+    out: &mut W,
+    progress: &mut T,
+) -> Result<Summary, WorkshopFault>
+    requires few { steps ≤ 2 ^ 40 - 2 }
+    requires none { (scenario : Scenario) → Counted scenario 0 notebook.old }
+    ensures makes { Makes processor.old.scenario steps
+        (writer W.told W.written W.failures out.old) (writer W.told W.written W.failures out.new) result }
+    ensures scenario { processor.new.scenario ≡ processor.old.scenario }
+    ensures counted { OnOk result (Counted processor.old.scenario steps notebook.new) }
+    ensures summary { IfOk result (λ summary. summary ≡ summary_of processor.old.scenario steps) }
+    ensures handed_on { W.told ≡ true → 0 < steps → OnOk result (W.handed_on out.new ≡ W.written out.new) }
+    ensures progress { TellsRun steps (writer T.told T.written T.failures progress.old) (writer T.told T.written T.failures progress.new) result }
+{
+    let mut machine = Machine::start();
+    let mut outputs = 0;
+    let mut told = Ok(());
+    let mut done = 0;
+    while done < steps {
+        let stop = steps.min(done + STEPS_BETWEEN_FLUSHES);
+        while done < stop {
+            notebook.note(processor, &machine);
+            outputs += step_and_write(processor, &mut machine, out)?;
+            done += 1;
+        }
+        hand_on(out)?;
+        told = tell(told, done, progress);
+    }
+    Ok(Summary {
+        steps,
+        cycles: machine.cycles(),
+        outputs,
+        z: machine.reg(Eras::Z).to_u16(),
+    })
+}

@@ -1,0 +1,42 @@
+-- Small sources, told by the definitions alone: where each fault stands, and what is left out since it follows from another.
+use Rattle.std.proofs.Common.{◌≡◌, ℕ, ◌+◌, List, [], ◌∷◌, refl, map}
+use Rattle.std.specs.Prelude.{codes, ◌==◌, if◌then◌else◌}
+use Rattle.agc_text.specs.Fields.{runs}
+use Rattle.agc_text.specs.Lines.{lines}
+use Rattle.space.specs.Places.{window, fb_of, sup_of}
+use Rattle.yayul.specs.Operators.{operators}
+use Rattle.yayul.specs.Forms.{statement_of}
+use Rattle.yayul.specs.Layout.{line_effect}
+use Rattle.yayul.specs.Words.{request_words, request_faults}
+use Rattle.yayul.specs.Survey.{span_at, told}
+use Rattle.yayul.specs.declared.finding.Finding.{Finding}
+
+-- a source of lines, each but the last followed by a semicolon here
+abbrev source : List ℕ → List ℕ
+source text = map (λ byte. if byte == 0o73 then 0o12 else byte) text
+
+-- the line of a finding, its column from 1, how many bytes it marks, and its number
+abbrev row : Finding → ℕ × ℕ × ℕ × ℕ
+row f = (f.line, f.span.start + 1, f.span.width, f.number)
+
+-- sources with what is told of them
+abbrev told_rows : List (List ℕ × List (ℕ × ℕ × ℕ × ℕ))
+told_rows =
+    (codes " OCT 1", [])
+    ∷ (codes "START CA FIV; AD SIKS; TFC START;FIVE OCT 5", (1, 10, 3, 17) ∷ (2, 5, 4, 17) ∷ (3, 2, 3, 15) ∷ [])
+    ∷ (codes "CA FIVE;FIVE OCT 5", (1, 4, 4, 15) ∷ [])
+    ∷ (codes "X CA X +2000", (1, 6, 7, 26) ∷ [])
+    ∷ (codes "LONGLABEL CA FIV", (1, 1, 9, 13) ∷ (1, 14, 3, 17) ∷ [])
+    ∷ (codes "X OCT 1;X CA FIV", (2, 1, 1, 14) ∷ (2, 6, 3, 17) ∷ [])
+    ∷ (codes " EQUALS", (1, 2, 6, 13) ∷ (1, 2, 6, 16) ∷ [])
+    ∷ (codes " CA X;X FROB 1", (2, 3, 4, 15) ∷ [])
+    ∷ (codes " EXTEN; MP X; MP X;X OCT 1", (1, 2, 5, 15) ∷ (3, 2, 2, 23) ∷ [])
+    ∷ (codes "X EQUALS Y;Y EQUALS X", (1, 10, 1, 18) ∷ [])
+    ∷ (codes " SETLOC NOWHERE;X ERASE; CA 5", (1, 9, 7, 18) ∷ [])
+    ∷ (codes " SETLOC 100;X ERASE; CA X; CA X", (3, 2, 2, 22) ∷ [])
+    ∷ (codes " SETLOC 3777; ERASE;X ERASE", (3, 3, 5, 20) ∷ [])
+    ∷ []
+
+each_told : map {B = List (ℕ × ℕ × ℕ × ℕ)} (λ r. map row (told (source r.0))) told_rows ≡ map {B = List (ℕ × ℕ × ℕ × ℕ)} (λ r. r.1) told_rows
+unfolding told span_at runs operators statement_of line_effect request_words request_faults lines window fb_of sup_of
+each_told = refl

@@ -1,0 +1,101 @@
+-- Each fault of a source is told once.
+use Rattle.std.proofs.Common.{◌≡◌, ℕ, ◌+◌, ◌≤◌, ◌==◌, Bool, true, false, ◌&&◌, ◌||◌, not, cond, List, [], ◌∷◌, ◌++◌, map, refl, ap, ◌∙◌, arith}
+use Rattle.std.specs.List.{list_any, filter}
+use Rattle.std.proofs.lemmas.Bool.{and_left, and_right, ne_eqb}
+use Rattle.std.proofs.lemmas.List.Folds.{list_any-append}
+use Rattle.yayul.specs.Forms.{statement_of}
+use Rattle.yayul.specs.Layout.{fault_number}
+use Rattle.yayul.specs.Laws.{same_fault, StandEachOnce, FindingsStandOnce}
+use Rattle.yayul.specs.Survey.{Survey, unmarked, doubt, follows, kinds_in_order, is_one_of, finding, line_kinds, passed_line, passed_lines, told_line, told_lines, looked_at, told}
+use Rattle.yayul.specs.Language.{FaultKind}
+use Rattle.yayul.specs.declared.finding.Finding.{Finding}
+use Rattle.yayul.proofs.Taken.{or-parts}
+
+-- no kind is the kind of a later one
+abbrev Differ : List FaultKind → Type 0
+Differ [] = Unit {0}
+Differ (k ∷ kinds) = (is_one_of kinds k ≡ false) × Differ kinds
+
+-- findings on one line
+abbrev StandOn : ℕ → List Finding → Type 0
+StandOn line [] = Unit {0}
+StandOn line (f ∷ fs) = (f.line ≡ line) × StandOn line fs
+
+-- findings from a line on
+abbrev StandFrom : ℕ → List Finding → Type 0
+StandFrom line [] = Unit {0}
+StandFrom line (f ∷ fs) = (line ≤ f.line) × StandFrom line fs
+
+none_same : (test : FaultKind → Bool) (line : ℕ) (text : List ℕ) (k : FaultKind) (kinds : List FaultKind) → is_one_of kinds k ≡ false
+    → list_any (same_fault (finding line text k)) (map (finding line text) (filter test kinds)) ≡ false
+none_same test line text k [] e = refl
+none_same test line text k (j ∷ kinds) e =
+    by_test (or-parts (fault_number j == fault_number k) (is_one_of kinds k) e).0
+    (none_same test line text k kinds (or-parts (fault_number j == fault_number k) (is_one_of kinds k) e).1) (test j)
+  where
+    by_test : (fault_number j == fault_number k) ≡ false → list_any (same_fault (finding line text k)) (map (finding line text) (filter test kinds)) ≡ false
+        → (b : Bool) → list_any (same_fault (finding line text k)) (map (finding line text) (cond b (j ∷ filter test kinds) (filter test kinds))) ≡ false
+    by_test other later false = later
+    by_test other later true =
+        ap (λ b. b || list_any (same_fault (finding line text k)) (map (finding line text) (filter test kinds))) (and_right (line == line) (fault_number j == fault_number k) other) ∙ later
+
+kinds_once : (test : FaultKind → Bool) (line : ℕ) (text : List ℕ) (kinds : List FaultKind) → Differ kinds → StandEachOnce (map (finding line text) (filter test kinds))
+kinds_once test line text [] differ = tt
+kinds_once test line text (k ∷ kinds) differ = by_test (none_same test line text k kinds differ.0) (kinds_once test line text kinds differ.1) (test k)
+  where
+    by_test : list_any (same_fault (finding line text k)) (map (finding line text) (filter test kinds)) ≡ false → StandEachOnce (map (finding line text) (filter test kinds))
+        → (b : Bool) → StandEachOnce (map (finding line text) (cond b (k ∷ filter test kinds) (filter test kinds)))
+    by_test other later true = (other, later)
+    by_test other later false = later
+
+on_line : (line : ℕ) (text : List ℕ) (kinds : List FaultKind) → StandOn line (map (finding line text) kinds)
+on_line line text [] = tt
+on_line line text (k ∷ kinds) = (refl, on_line line text kinds)
+
+none_later : (f : Finding) (line : ℕ) (later : List Finding) → f.line ≡ line → StandFrom (line + 1) later → list_any (same_fault f) later ≡ false
+none_later f line [] here from = refl
+none_later f line (g ∷ later) here from =
+    ap (λ b. b || list_any (same_fault f) later) (and_left (g.line == f.line) (g.number == f.number) (ne_eqb g.line f.line (λ same. omega (arith, same, here, from.0))))
+    ∙ none_later f line later here from.1
+
+joined_once : (line : ℕ) (here later : List Finding) → StandOn line here → StandFrom (line + 1) later → StandEachOnce here → StandEachOnce later → StandEachOnce (here ++ later)
+joined_once line [] later on from here_once later_once = later_once
+joined_once line (f ∷ here) later on from here_once later_once = (
+  list_any-append (same_fault f) here later ∙ ap (λ b. b || list_any (same_fault f) later) here_once.0 ∙ none_later f line later on.0 from,
+  joined_once line here later on.1 from here_once.1 later_once,
+)
+
+from_on : (a line : ℕ) (here : List Finding) → a ≤ line → StandOn line here → StandFrom a here
+from_on a line [] le on = tt
+from_on a line (f ∷ here) le on = (omega (arith, le, on.0), from_on a line here le on.1)
+
+from_less : (a b : ℕ) (fs : List Finding) → a ≤ b → StandFrom b fs → StandFrom a fs
+from_less a b [] le from = tt
+from_less a b (f ∷ fs) le from = (omega (arith, le, from.0), from_less a b fs le from.1)
+
+from_both : (a : ℕ) (here later : List Finding) → StandFrom a here → StandFrom a later → StandFrom a (here ++ later)
+from_both a [] later here_from later_from = later_from
+from_both a (f ∷ here) later here_from later_from = (here_from.0, from_both a here later here_from.1 later_from)
+
+lines_from : (texts : List (List ℕ)) (whole : Survey) (line : ℕ) (s : Survey) → StandFrom line (told_lines whole line s texts)
+lines_from [] whole line s = tt
+lines_from (text ∷ texts) whole line s =
+    from_both line (told_line whole line s text) (told_lines whole (line + 1) (passed_line line s text) texts)
+    (from_on line line (told_line whole line s text) (omega arith) (on_line line text _))
+    (from_less line (line + 1) (told_lines whole (line + 1) (passed_line line s text) texts) (omega arith) (lines_from texts whole (line + 1) (passed_line line s text)))
+
+kinds_differ : Differ kinds_in_order
+kinds_differ = (refl, (refl, (refl, (refl, (refl, (refl, (refl, (refl, (refl, (refl, (refl, (refl, (refl, (refl, (refl, (refl, (refl, (refl, tt))))))))))))))))))
+
+lines_once : (texts : List (List ℕ)) (whole : Survey) (line : ℕ) (s : Survey) → StandEachOnce (told_lines whole line s texts)
+lines_once [] whole line s = tt
+lines_once (text ∷ texts) whole line s =
+    let test : FaultKind → Bool =
+    λ kind. is_one_of (line_kinds whole line s text) kind && not (follows (doubt whole.lost s.lost s.known text (statement_of text).operation) kind) in
+    joined_once line (told_line whole line s text) (told_lines whole (line + 1) (passed_line line s text) texts)
+    (on_line line text (filter test kinds_in_order)) (lines_from texts whole (line + 1) (passed_line line s text))
+    (kinds_once test line text kinds_in_order kinds_differ) (lines_once texts whole (line + 1) (passed_line line s text))
+
+pub findings_stand_once : (source : List ℕ) → FindingsStandOnce source
+unfolding told
+findings_stand_once source = lines_once (looked_at source) (passed_lines 1 unmarked (looked_at source)) 1 unmarked

@@ -1,0 +1,17 @@
+use Rattle.std.proofs.Common.{◌≡◌, ◌≤◌, ◌-◌, ◌++◌, length, take}
+use Rattle.agc_text.specs.Lines.{lines}
+use Rattle.yayul.specs.Survey.{Survey, unmarked, passed_lines, told_lines, looked_at}
+use Rattle.yayul.specs.Inside.Surveys.{Surveys}
+use Rattle.yayul.proofs.survey.told_lines.Given as goal
+
+abbrev pub invariant-loop-text : goal.invariant-loop-text
+invariant-loop-text l = record {
+  state : Survey;
+  stands : Surveys l.line state l.survey;
+  same : told_lines (passed_lines 1 unmarked (looked_at l.source)) 1 unmarked (looked_at l.source)
+      ≡ l.told.items ++ told_lines (passed_lines 1 unmarked (looked_at l.source)) l.line state (take (65538 - l.line) (lines l.rest));
+  few : l.line ≤ 65538;
+}
+
+abbrev pub decreases-loop-text : goal.decreases-loop-text
+decreases-loop-text l = length l.rest

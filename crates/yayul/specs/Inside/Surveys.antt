@@ -1,0 +1,18 @@
+-- What the code holds of a survey.
+use Rattle.std.specs.Prelude.{◌≡◌, ◌++◌, ℕ, List}
+use Rattle.yayul.specs.Layout.{standing}
+use Rattle.yayul.specs.Language.{FaultKind}
+use Rattle.yayul.specs.Survey.{Survey}
+use Rattle.yayul.specs.Inside.Answers.{Agrees}
+use Rattle.yayul.specs.declared.survey.LineFaults.{LineFaults}
+use Rattle.yayul.specs.declared.survey.Survey.{Survey as Held}
+
+-- the faults of a line
+abbrev pub kinds_of : LineFaults → List FaultKind
+kinds_of f = standing f.of_text ++ standing f.of_layout ++ standing f.of_words
+
+-- what stands before a line agrees with a survey
+pub record Surveys (line : ℕ) (s : Survey) (v : Held) : Type 0 where
+  pub agrees : Agrees line s.layout v.layout v.placing
+  pub lost : v.lost ≡ s.lost
+  pub known : v.known ≡ s.known

@@ -1,0 +1,311 @@
+//! All faults of a source at once.
+
+ghost use Rattle.std.specs.Prelude.{◌≡◌, ◌+◌, ◌++◌, ◌==◌, ◌&&◌, ◌||◌, not, ℕ, false, map, filter, IfErr, IfOk, OnOk};
+ghost use Rattle.std.specs.List.{list_any};
+ghost use Rattle.std.specs.Option.{option_map_or};
+ghost use Rattle.yayul.specs.Layout.{standing, fault_number};
+ghost use Rattle.yayul.specs.Forms.{statement_of};
+ghost use Rattle.yayul.specs.Program.{no_memory};
+ghost use Rattle.yayul.specs.Survey.{Survey as Surveyed, unmarked, noted, displaces, some_stands, passed_line, passed_lines, is_one_of, follows, finding, told_of, told_line, told_lines, looked_at, told};
+ghost use Rattle.yayul.specs.Inside.Surveys.{Surveys, kinds_of};
+
+use crate::assembly::NO_MEMORY;
+use crate::conditions::Conditions;
+use crate::doubt::{Doubt, Known};
+use crate::faults::{Fault, FaultKind, least_fault};
+use crate::finding::{Finding, span_at};
+use crate::language::{Label, Statement};
+use crate::layout::{Layout, Placing};
+use crate::line::{LINE_COUNT, text_conditions};
+use crate::statement::statement_of;
+use agc_text::next_line;
+use std::alloc::{AllocError, Global};
+use symbols::{Symbols, Value};
+use words::Word;
+
+/// What stands before a line. A refused line does nothing, but that its label is lost.
+#[derive(Drop)]
+pub(crate) struct Survey {
+    layout: Layout,
+    placing: Placing,
+    /// The labels of refused lines.
+    lost: Symbols,
+    known: Known,
+}
+
+impl Survey {
+    fn start(alloc: Global) -> Result<Survey, Fault>
+        ensures start { IfOk result (λ survey. Surveys 1 unmarked survey) }
+        ensures err { IfErr result (λ fault. fault ≡ no_memory) }
+    {
+        let Ok(placing) = Placing::start(alloc) else {
+            return Err(NO_MEMORY);
+        };
+        Ok(Survey {
+            layout: Layout::start(alloc),
+            placing,
+            lost: Symbols::new(alloc),
+            known: Known {
+                location: true,
+                extracode: true,
+                wrong: None,
+            },
+        })
+    }
+
+    // Passes a line that says this.
+    fn pass(&mut self, line: u32, text: &[u8], statement: Statement) -> Result<(), Fault>
+        requires { statement ≡ statement_of text.now }
+        ensures leads { (s : Surveyed) → Surveys line s self.old → OnOk result (Surveys (line + 1) (passed_line line s text.now) self.new) }
+        ensures err { IfErr result (λ fault. fault ≡ no_memory) }
+    {
+        let Statement { label, operation } = statement;
+        let of_text = text_conditions(line, text);
+        let of_layout = self.layout.conditions(&self.placing, &label, &operation);
+        let refused = is_refused(&of_text, &of_layout);
+        let displaced = is_displaced(&of_layout);
+        self.known = self.known.after(text, &operation, refused, displaced);
+        if refused {
+            return self.lose(label);
+        }
+        match self
+            .layout
+            .operation(&mut self.placing, line, label, operation)
+        {
+            Ok(()) => Ok(()),
+            Err(_) => Err(NO_MEMORY),
+        }
+    }
+
+    // A label that has no value.
+    fn lose(&mut self, label: Label) -> Result<(), Fault>
+        ensures lost { OnOk result (self.new.lost ≡ noted self.old.lost label) }
+        ensures layout { self.new.layout ≡ self.old.layout }
+        ensures placing { self.new.placing ≡ self.old.placing }
+        ensures known { self.new.known ≡ self.old.known }
+        ensures err { IfErr result (λ fault. fault ≡ no_memory) }
+    {
+        match label {
+            Label::Named(name) => match self.lost.define(name, Value::Num(Word::ZERO)) {
+                Ok(_) => Ok(()),
+                Err(_) => Err(NO_MEMORY),
+            },
+            Label::Missing | Label::Malformed => Ok(()),
+        }
+    }
+}
+
+// Whether some fault stands of a line's bytes, its length and its number, or of its fields.
+fn is_refused(of_text: &[Option<FaultKind>], of_layout: &[Option<FaultKind>]) -> bool
+    ensures { result ≡ (some_stands (standing of_text.now) || some_stands (standing of_layout.now)) }
+{
+    is_any(of_text) || is_any(of_layout)
+}
+
+// Whether some fault stands.
+fn is_any(conditions: &[Option<FaultKind>]) -> bool
+    ensures { result ≡ some_stands (standing conditions.now) }
+{
+    least_fault(conditions).is_some()
+}
+
+// Whether a fault of where words stand does.
+fn is_displaced(conditions: &[Option<FaultKind>]) -> bool
+    ensures { result ≡ list_any (λ c. option_map_or displaces c false) conditions.now }
+{
+    conditions.iter().any(|condition| displaces(*condition))
+}
+
+fn displaces(condition: Option<FaultKind>) -> bool
+    ensures { result ≡ option_map_or displaces condition false }
+{
+    matches!(
+        condition,
+        Some(FaultKind::BankFull | FaultKind::PlaceTaken | FaultKind::CodeInErasable)
+    )
+}
+
+/// All faults of a source that do not follow from others, in the order of lines and columns.
+#[tactic(auto, unfolding(crate::specs::Survey::told))]
+pub fn findings(alloc: Global, source: &[u8]) -> Result<Vec<Finding>, Fault>
+    ensures told { IfOk result (λ findings. findings.items ≡ told source.now) }
+    ensures err { IfErr result (λ fault. fault ≡ no_memory) }
+{
+    let whole = passed_lines(alloc, source)?;
+    told_lines(alloc, source, &whole)
+}
+
+// What stands after the lines of a source.
+fn passed_lines(alloc: Global, source: &[u8]) -> Result<Survey, Fault>
+    ensures passed { IfOk result (λ survey. (line : ℕ) × Surveys line (passed_lines 1 unmarked (looked_at source.now)) survey) }
+    ensures err { IfErr result (λ fault. fault ≡ no_memory) }
+{
+    let mut survey = Survey::start(alloc)?;
+    let mut rest = source;
+    let mut line = 1;
+    while let Some((text, after)) = next_line(rest) {
+        if line > LINE_COUNT + 1 {
+            return Ok(survey);
+        }
+        survey.pass(line, text, statement_of(text))?;
+        rest = after;
+        line += 1;
+    }
+    Ok(survey)
+}
+
+// What is told of the lines of a source, where this stands after all of them.
+fn told_lines(alloc: Global, source: &[u8], whole: &Survey) -> Result<Vec<Finding>, Fault>
+    requires { (line : ℕ) × Surveys line (passed_lines 1 unmarked (looked_at source.now)) whole.now }
+    ensures told { IfOk result (λ findings. findings.items ≡ told_lines (passed_lines 1 unmarked (looked_at source.now)) 1 unmarked (looked_at source.now)) }
+    ensures err { IfErr result (λ fault. fault ≡ no_memory) }
+{
+    let mut survey = Survey::start(alloc)?;
+    let mut told = Vec::new(alloc);
+    let mut rest = source;
+    let mut line = 1;
+    while let Some((text, after)) = next_line(rest) {
+        if line > LINE_COUNT + 1 {
+            return Ok(told);
+        }
+        let statement = statement_of(text);
+        match survey.tell(whole, line, text, &statement, &mut told) {
+            Ok(()) => survey.pass(line, text, statement)?,
+            Err(_) => return Err(NO_MEMORY),
+        }
+        rest = after;
+        line += 1;
+    }
+    Ok(told)
+}
+
+/// The kinds of faults in the order in which those of a line are told: at the label, the operator and the operand, and beyond them.
+const KINDS_IN_ORDER: [FaultKind; 18] = [
+    FaultKind::BadLabel,
+    FaultKind::TwiceDefined,
+    FaultKind::NotAscii,
+    FaultKind::TooManyLines,
+    FaultKind::UnknownOperator,
+    FaultKind::BankFull,
+    FaultKind::PlaceTaken,
+    FaultKind::CodeInErasable,
+    FaultKind::NeedsExtend,
+    FaultKind::NotExtracode,
+    FaultKind::BadOperand,
+    FaultKind::Undefined,
+    FaultKind::UsedTooEarly,
+    FaultKind::BadBank,
+    FaultKind::WrongKindOfAddress,
+    FaultKind::OutOfRange,
+    FaultKind::LongLine,
+    FaultKind::NoMemory,
+];
+
+// The faults of a line, each where its condition holds.
+#[derive(Drop)]
+struct LineFaults {
+    of_text: [Option<FaultKind>; 3],
+    of_layout: Conditions,
+    of_words: [Option<FaultKind>; 2],
+}
+
+// A line of which faults are told.
+#[derive(Clone, Copy, Drop)]
+struct Telling<'a> {
+    line: u32,
+    text: &'a [u8],
+    doubt: Doubt,
+}
+
+impl Survey {
+    // Appends what is told of a line that says this, where `whole` stands after the last line.
+    fn tell(
+        &self,
+        whole: &Survey,
+        line: u32,
+        text: &[u8],
+        statement: &Statement,
+        told: &mut Vec<Finding>,
+    ) -> Result<(), AllocError>
+        requires { statement.now ≡ statement_of text.now }
+        ensures { (s w : Surveyed) (last : ℕ) → Surveys line s self.now → Surveys last w whole.now → OnOk result (told.new.items ≡ told.old.items ++ told_line w line s text.now) }
+    {
+        let Statement { label, operation } = statement;
+        let telling = Telling {
+            line,
+            text,
+            doubt: Doubt::of(&whole.lost, &self.lost, self.known, text, operation),
+        };
+        let faults = LineFaults {
+            of_text: text_conditions(line, text),
+            of_layout: self.layout.conditions(&self.placing, label, operation),
+            of_words: self
+                .layout
+                .word_conditions(&whole.layout.symbols, operation),
+        };
+        telling.tell(&faults, told)
+    }
+}
+
+impl Telling<'_> {
+    // Appends what is told of the faults of the line.
+    fn tell(self, faults: &LineFaults, told: &mut Vec<Finding>) -> Result<(), AllocError>
+        ensures { OnOk result (told.new.items ≡ told.old.items ++ told_of self.entry.doubt self.entry.line self.entry.text.now (kinds_of faults.now)) }
+    {
+        self.tell_each(faults, &KINDS_IN_ORDER, told)
+    }
+
+    // Appends those of some kinds of faults that stand on the line and do not follow from others.
+    fn tell_each(
+        self,
+        faults: &LineFaults,
+        kinds: &[FaultKind],
+        told: &mut Vec<Finding>,
+    ) -> Result<(), AllocError>
+        ensures { OnOk result (told.new.items ≡ told.old.items ++ map (finding self.entry.line self.entry.text.now) (filter (λ kind. is_one_of (kinds_of faults.now) kind && not (follows self.entry.doubt kind)) kinds.now)) }
+    {
+        for kind in kinds {
+            if faults.has(*kind) && !self.doubt.follows(*kind) {
+                told.push(self.finding(*kind))?;
+            }
+        }
+        Ok(())
+    }
+
+    fn finding(self, kind: FaultKind) -> Finding
+        ensures { result ≡ finding self.entry.line self.entry.text.now kind }
+    {
+        Finding {
+            line: self.line,
+            number: kind.number(),
+            span: span_at(self.text, kind),
+        }
+    }
+}
+
+impl LineFaults {
+    // Whether a kind of fault stands on the line.
+    #[tactic(auto, using(crate::proofs::Displaced::one_of_conditions))]
+    fn has(&self, kind: FaultKind) -> bool
+        ensures { result ≡ is_one_of (kinds_of self.now) kind }
+    {
+        is_one_of(&self.of_text, kind)
+            || is_one_of(&self.of_layout, kind)
+            || is_one_of(&self.of_words, kind)
+    }
+}
+
+fn is_one_of(conditions: &[Option<FaultKind>], kind: FaultKind) -> bool
+    ensures { result ≡ list_any (λ c. option_map_or (λ other. fault_number other == fault_number kind) c false) conditions.now }
+{
+    conditions.iter().any(|condition| is_kind(*condition, kind))
+}
+
+fn is_kind(condition: Option<FaultKind>, kind: FaultKind) -> bool
+    ensures { result ≡ option_map_or (λ other. fault_number other == fault_number kind) condition false }
+{
+    match condition {
+        Some(other) => other.number() == kind.number(),
+        None => false,
+    }
+}

@@ -1,0 +1,133 @@
+"""Tries `agcws check` and `agcws explain`: mistakes with the places that are told, by hand; the rows of `explain` beside the manual's; and that `check` and `asm` agree."""
+import os
+import random
+import re
+import subprocess
+
+# Sources with mistakes, a semicolon between two lines, and what is told of each: line, column and number, in order.
+MISTAKES = [
+    (" OCT 1", []),
+    ("START CA FIV; AD SIKS; TFC START;FIVE OCT 5", [(1, 10, 17), (2, 5, 17), (3, 2, 15)]),
+    ("CA FIVE;FIVE OCT 5", [(1, 4, 15)]),
+    (" ca 5; oct 1", [(1, 2, 15), (2, 2, 15)]),
+    (" CA X,1;X OCT 9", [(1, 5, 17), (2, 7, 16)]),
+    (" CA A; TS L", [(1, 5, 17), (2, 5, 17)]),
+    (" MP X;X OCT 1", [(1, 2, 23)]),
+    (" EXTEND; CA X;X OCT 1", [(2, 2, 24)]),
+    (" TS SUM;SUM OCT 0", [(1, 5, 25)]),
+    ("LONGLABEL CA FIV", [(1, 1, 13), (1, 14, 17)]),
+    ("X OCT 1;X CA FIV", [(2, 1, 14), (2, 6, 17)]),
+    (" OCT 1 //it", [(1, 6, 16)]),
+    (" OCT 1\r; OCT 2\r", [(1, 7, 10)]),
+    (" BANK 18; OCT 1", [(1, 7, 16)]),
+    (" SETLOC 4024; TC 0; TC 0; TC 0; TC 0; TC 0; SETLOC 4030; TC 0; TC 0", [(8, 2, 21)]),
+    (" SETLOC 100;X ERASE; CA X; CA X", [(3, 2, 22)]),
+    # what follows from another fault is left out: a symbol whose line is refused, extracode after a word that is not known, places after a lost location
+    (" CA X;X FROB 1", [(2, 3, 15)]),
+    (" EXTEN; MP X; MP X;X OCT 1", [(1, 2, 15), (3, 2, 23)]),
+    ("X EQUALS Y;Y EQUALS X", [(1, 10, 18)]),
+    (" SETLOC NOWHERE;X ERASE; CA 5", [(1, 9, 18)]),
+    ("X EQUALS 10 11 12;LONGNAMES TS X", [(1, 10, 16), (2, 1, 13)]),
+]
+TOLD = re.compile(rb"^(.*):(\d+):(\d+): error E(\d+): (.+)$")
+FAULT = re.compile(rb"^agcws: E(\d+) LINE (\d+)\n$")
+WORDS = ["CA", "TS", "TC", "TCF", "EXTEND", "MP", "READ", "INDEX", "OCT", "DEC", "SETLOC", "BANK", "BLOCK", "ERASE", "EQUALS", "EBANK=", "2CADR", "CADR", "ECADR", "FROB", "NOOP", "X", "Y", "Z", "X", "LONGLABEL",
+         "5", "100", "4000", "18", "7777", "2000", "5777", "+1", "-1", "-5", "1.5", "44", "#", "\xb5", "\r", "$", "3777", "100000"]
+
+
+def told_by(program, path):
+    """The status of a check, and what it tells: line, column and number of each, and the count."""
+    ran = subprocess.run([program, "check", path], capture_output=True, timeout=60)
+    rows = [TOLD.match(it) for it in ran.stdout.split(b"\n")]
+    found = [tuple(int(it[i]) for i in (2, 3, 4)) for it in rows if it and it[1] == path.encode()]
+    return ran.returncode, found, ran.stdout.split(b"\n")[-2:-1], ran.stderr
+
+
+def check_mistakes(program, room, told):
+    path = f"{room}/mistakes.agc"
+    for shown, wanted in MISTAKES:
+        with open(path, "wb") as file:
+            file.write(shown.replace(";", "\n").encode("latin-1") + b"\n")
+        count = f"{len(wanted)} error{'' if len(wanted) == 1 else 's'}".encode()
+        got = told_by(program, path)
+        told(f"check of {shown}", got == (int(bool(wanted)), wanted, [count], b""), f"wanted {wanted}, got {got}")
+
+
+def check_excerpt(program, room, told):
+    path = f"{room}/excerpt.agc"
+    with open(path, "wb") as file:
+        file.write(b"X OCT 1\n\tCA\tFIV # \xb5\n CA FIV +1\n")
+    wanted = f"""{path}:2:11: error E10: a byte stands here that a line may not hold
+    2 | \tCA\tFIV # ?
+      | \t  \t      ^
+{path}:3:5: error E17: no line defines this symbol
+    3 |  CA FIV +1
+      |     ^^^
+2 errors
+""".encode()
+    got = subprocess.run([program, "check", path], capture_output=True, timeout=60)
+    told("what check writes", (got.returncode, got.stdout, got.stderr) == (1, wanted, b""), f"got {got}")
+
+
+def rows_explained(program, number):
+    """What is explained of a number: each mistake, the source that draws it, and its line."""
+    text = subprocess.run([program, "explain", f"E{number}"], capture_output=True, text=True, timeout=60).stdout
+    for part in text.split("\n- ")[1:]:
+        mistake, *rest = part.rstrip("\n").split("\n")
+        source = [it for it in rest if it.startswith("    ") or it.startswith("  > ")]
+        lines = [str(i) for i, it in enumerate(source, 1) if it.startswith("  > ")]
+        yield mistake, ";".join(it[4:] for it in source), "".join(lines)
+
+
+def plain(text):
+    """A row of the manual without what makes it a table's."""
+    return text.partition(". Cure: ")[0].replace("`", "")
+
+
+def check_rows(program, manual, told):
+    rows = re.findall(r"^\| E(\d+) \| (.*) \| (.*) \| (\d*) ?\|$", manual, re.M)
+    for number in sorted({int(it[0]) for it in rows if int(it[0]) >= 10 and it[0] != "34"}):
+        wanted = [(plain(mistake), "" if source.startswith("(") else source.strip("`").replace("\xb5", "\\xC2\\xB5"), line) for n, mistake, source, line in rows if int(n) == number]
+        got = list(rows_explained(program, number))
+        told(f"explain E{number} and the manual", got == wanted, f"wanted {wanted}, got {got}")
+
+
+def check_numbers(program, told):
+    ran = lambda *words: subprocess.run([program, "explain", *words], capture_output=True, timeout=60)
+    numbers = [int(it) for it in re.findall(rb"^E(\d+): .", ran().stdout, re.M)]
+    told("explain lists the numbers", numbers == [*range(2, 8), *range(10, 27), *range(30, 36)], str(numbers))
+    told("explain 17 is explain E17", ran("17") == ran("E17") or ran("17").stdout == ran("E17").stdout)
+    for word in ("99", "E1", "X", "E", "256"):
+        got = ran(word)
+        told(f"explain {word}", (got.returncode, got.stdout, got.stderr) == (2, b"", b"error: no refusal has this number; agcws explain lists them\n"), str(got))
+
+
+def sources(count, seed):
+    chosen = random.Random(seed)
+    for _ in range(count):
+        lines = []
+        for _ in range(chosen.randint(1, 12)):
+            lines.append(("" if chosen.random() < 0.4 else " ") + " ".join(chosen.choice(WORDS) for _ in range(chosen.randint(1, 3))))
+        yield "\n".join(lines).encode("latin-1") + b"\n"
+
+
+def check_agreement(program, room, told, count=400, seed="agreement"):
+    """Where `asm` takes a source `check` tells nothing; and what `asm` tells is among what `check` does."""
+    path, wrong, refused = f"{room}/agreement.agc", [], 0
+    for text in sources(count, seed):
+        with open(path, "wb") as file:
+            file.write(text)
+        fault = FAULT.match(subprocess.run([program, "asm", path, "/dev/null"], capture_output=True, timeout=60).stderr)
+        status, found, _, _ = told_by(program, path)
+        refused += bool(fault)
+        if status != int(bool(fault)) or bool(found) != bool(fault) or fault and (int(fault[2]), int(fault[1])) not in {(it[0], it[2]) for it in found}:
+            wrong.append((text, fault, found))
+    told(f"check and asm of {count} sources", not wrong and 0 < refused < count, f"{refused} refused, {len(wrong)} wrong: {wrong[:1]}")
+
+
+def check_checks(program, room, told, manual):
+    check_mistakes(program, room, told)
+    check_excerpt(program, room, told)
+    check_rows(program, manual, told)
+    check_numbers(program, told)
+    check_agreement(program, room, told)
