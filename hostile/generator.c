@@ -294,6 +294,21 @@ static struct numbers numbers_of(const char *seed, enum kind kind, uint64_t numb
     return numbers;
 }
 
+/* Gives a number of steps to each `on` that has none: it would go on without an end where no breakpoint holds. */
+static void bound_each_on(struct made *made)
+{
+    int begins = 1;
+    for (size_t at = 0; at < made->length; at++) {
+        unsigned char byte = made->bytes[at];
+        if (begins && byte == 'o' && at + 1 < made->length && made->bytes[at + 1] == 'n') {
+            size_t next = at + 2;
+            while (next < made->length && (made->bytes[next] == ' ' || made->bytes[next] == '\t')) next++;
+            if (next == made->length || made->bytes[next] < '0' || made->bytes[next] > '9') insert(made, at + 2, " 40 ", 4);
+        }
+        begins = byte == '\n' || (begins && (byte == ' ' || byte == '\t'));
+    }
+}
+
 size_t make_case(const char *seed, int kind, uint64_t number, const struct text *sound, size_t sounds, unsigned char *into)
 {
     struct numbers numbers = numbers_of(seed, (enum kind)kind, number);
@@ -311,6 +326,7 @@ size_t make_case(const char *seed, int kind, uint64_t number, const struct text 
     }
     if (kind == IMAGE && percent(&numbers, 50)) change_words(&numbers, &made);
     else if (way % 2 == 1 || way == 2) change(&numbers, &made);
+    if (kind == COMMAND_LINES) bound_each_on(&made);
     return made.length;
 }
 
