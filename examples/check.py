@@ -578,6 +578,57 @@ def check_parities(room):
         compare(f"the parity of an image that is {label}", agcws("parity", path), 1, b"", b"agcws: " + error + b"\n")
 
 
+def ones_sum(total, word):
+    """The sum of two words by their values, where one that overflows comes back by 2^14 - 1; -0 is 77777, and +0 comes of zeros alone."""
+    value = (total - 32767 if total >= 16384 else total) + (word - 32767 if word >= 16384 else word)
+    value += -16383 if value > 16383 else 16383 if value < -16383 else 0
+    return value if value > 0 or total == word == 0 else value + 32767
+
+
+def check_sums_made(room):
+    """Images with check words: each bank's words, two TC to themselves, and the word by which the sum is the bank's number or its complement."""
+    source, plain, made = f"{room}/sums.agc", f"{room}/plain.rope", f"{room}/made.rope"
+    for seed in range(20):
+        chance = random.Random(seed)
+        banks = {bank: [chance.choice([0, 0o77777, chance.randrange(32768)]) for _ in range(chance.choice([1, 2, 40, 1021]))] for bank in chance.sample(range(36), 6)}
+        lines = [line for bank, words in banks.items() for line in [f"\tBANK\t{bank:o}"] + [f"\tOCT\t{word:05o}" for word in words]]
+        write(source, "\n".join(lines).encode() + b"\n")
+        listing = agcws("asm", "--rope", "1", source, plain)
+        compare(f"the listing of check words {seed}", agcws("asm", "--sums", "--rope", "1", source, made), *listing)
+        wanted = bytearray(read(plain))
+        for bank, words in banks.items():
+            first = {2: 0o4000, 3: 0o6000}.get(bank, 0o2000) + len(words)
+            total = 0
+            for word in words + [first, first + 1]:
+                total = ones_sum(total, word)
+            number = 32767 - bank if total >= 16384 else bank
+            last = ones_sum(number, 32767 - total)
+            told(f"the sum of bank {bank:o}, seed {seed}", ones_sum(total, last) in (bank, 32767 - bank))
+            at = 2048 * {0: 2, 1: 3, 2: 0, 3: 1}.get(bank, bank) + 2 * len(words)
+            wanted[at : at + 6] = b"".join((2 * word).to_bytes(2, "big") for word in (first, first + 1, last))
+        told(f"the image with check words {seed}", read(made) == bytes(wanted))
+    os.remove(made)
+    for bank, count in ((2, 1022), (0o43, 1024)):
+        write(source, f"\tBANK\t4\n\tOCT\t1\n\tBANK\t{bank:o}\n".encode() + b"\tOCT\t1\n" * count)
+        compare(f"no room in bank {bank:o}", agcws("asm", "--sums", source, made), 1, b"", f"agcws: bank {bank:02o} has no room for check words: they take 3 places after its last word\n".encode())
+        told("no image where a bank has no room", not os.path.exists(made))
+    write(source, b" OCT 9\n")
+    compare("a refused source with check words", agcws("asm", "--sums", source, made), 1, b"", b"agcws: E16 LINE 1\n")
+
+
+def check_sources_of_ropes(room):
+    """Images of random words: the source that is written of each comes back to its bytes."""
+    path, source, made = f"{room}/random.rope", f"{room}/random.agc", f"{room}/again.rope"
+    for seed in range(100):
+        chance = random.Random(seed)
+        words = [chance.randrange(32768) for _ in range(IMAGE_BYTES // 2)]
+        image = b"".join((2 * word + (bin(word).count("1") + 1) % 2).to_bytes(2, "big") for word in words)
+        write(path, image)
+        status, text, err = agcws("words", "--source", path)
+        write(source, text)
+        told(f"the source of image {seed}", (status, err) == (0, b"") and agcws("asm", source, made)[0] == 0 and read(made) == image)
+
+
 def check_command_line():
     """Help, and command lines that are wrong, against the texts of examples/help; and the version."""
     for name in ["agcws", "asm", "run", "trace", "cover", "debug", "check", "explain", "upgrade", "words", "compare", "sums", "parity"]:
@@ -597,7 +648,7 @@ def check_command_line():
     version = re.search(rb'PROGRAM_VERSION: &str = "(.*)";', read(f"{ROOT}/crates/agcws/src/command_line.rt")).group(1)
     compare("agcws --version", agcws("--version"), 0, b"agcws " + version + b"\n")
     source, empty = f"{EXAMPLES}/five_plus_five.agc", f"{EXAMPLES}/empty.feed"
-    for words in [[], ["fly"], ["asm", source], ["run", source, empty], ["run", source, empty, "-1"], ["run", source, empty, "1099511627775"], ["asm", "--rope", "3", source, "x"], ["debug", source], ["upgrade", source], ["words"], ["words", source, "44"], ["words", source, "8"], ["words", source, "002"], ["compare", source], ["sums"], ["parity"], ["words", "--parity", "odd", source], ["run", "--parity", "ignore", source, empty, "4"], ["run", "--rope", "1", source, empty, "4"]]:
+    for words in [[], ["fly"], ["asm", source], ["asm", "--sums", source], ["run", source, empty], ["run", source, empty, "-1"], ["run", source, empty, "1099511627775"], ["asm", "--rope", "3", source, "x"], ["debug", source], ["upgrade", source], ["words"], ["words", source, "44"], ["words", source, "8"], ["words", source, "002"], ["compare", source], ["sums"], ["parity"], ["words", "--parity", "odd", source], ["run", "--parity", "ignore", source, empty, "4"], ["run", "--rope", "1", source, empty, "4"]]:
         status, out, err = agcws(*words)
         told(f"agcws {' '.join(words[:1])} with {len(words)} words", (status, out) == (2, b"") and err)
     compare("+4 steps", agcws("run", source, empty, "+4"), 0, b"7 CH 010 00012\n")
@@ -870,6 +921,8 @@ def main():
         check_upgrade(room)
         check_ropes(room)
         check_parities(room)
+        check_sums_made(room)
+        check_sources_of_ropes(room)
         check_command_line()
         check_targets(room)
         check_whole_images(room)

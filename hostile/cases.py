@@ -35,6 +35,17 @@ CALLS = {
         ["debug", "--image", "case", EMPTY],
         ["debug", "--image", "--rope=1", "case", CLOCK],
         ["upgrade", "case", "made"],
+        ["parity", "case"],
+        ["parity", "--form=hardware", "case"],
+        ["words", "--source", "--parity=ignore", "case"],
+        ["words", "--form=hardware", "case", "02"],
+        ["sums", "--parity=ignore", "--form=hardware", "case"],
+        ["compare", "--parity=ignore", "--new-form=hardware", "case", "twin"],
+        ["compare", "--only", FIVE, "case"],
+        ["run", "--image", "--parity=ignore", "case", EMPTY, "300"],
+        ["trace", "--image", "case", EMPTY, "300"],
+        ["cover", "--image", "--rope=1", "case", CLOCK, "300"],
+        ["debug", "--extended", "--image", "--form=hardware", "case", EMPTY],
     ],
 }
 

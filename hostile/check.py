@@ -115,6 +115,7 @@ def memory(room):
         "cover": ("cover", source, feed, "300"),
         "cover --image": ("cover", "--image", "--rope", "1", old, feed, "300"),
         **sessions_of,
+        "asm --sums": ("asm", "--sums", source, made),
         "upgrade": ("upgrade", old, made),
         "words": ("words", new),
         "words of a bank": ("words", "--rope", "1", old, "02"),
@@ -306,7 +307,7 @@ def devices(room):
     writing += [("compare", "--old=1", "--new=1", image, other), ("sums", "--rope=1", image), ("parity", image), ("--help",), ("words", "--help"), ("--version",)]
     writing += [("debug", FIVE, EMPTY), ("debug", "--image", "--rope=1", other, EMPTY)]
     outputs_that_fail(writing)
-    for words in (("asm", FIVE, "/dev/full"), ("upgrade", image, "/dev/full"), ("asm", FIVE, folder), ("upgrade", image, folder), ("asm", FIVE, f"{folder}/none/rope"), ("upgrade", image, f"{folder}/none/rope")):
+    for words in (("asm", FIVE, "/dev/full"), ("asm", "--sums", FIVE, "/dev/full"), ("upgrade", image, "/dev/full"), ("asm", FIVE, folder), ("upgrade", image, folder), ("asm", FIVE, f"{folder}/none/rope"), ("upgrade", image, f"{folder}/none/rope")):
         status, out, err = agcws(*words)
         told(f"devices: {name_of(words)}", (status, err) == (3, E7), f"{status} {out[-80:]!r} {err!r}")
     if os.path.exists(made):
@@ -532,7 +533,7 @@ class Worker:
 
     def why(self, kind, words, status, out, err):
         has_made = os.path.exists(self.made)
-        if status == 1 and words[0] == "compare" and not err:
+        if status == 1 and words[0] in ("compare", "parity") and not err:
             return "" if re.search(rb"(^|\n)COUNT [1-9]\d*\n$", out) else "no difference is told"
         if status == 0:
             is_made = has_made and os.path.getsize(self.made) == IMAGE_BYTES if "made" in words else not has_made

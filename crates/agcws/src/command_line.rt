@@ -76,6 +76,9 @@ pub const FROM: &str = "FROM";
 /// The option that is the last step of which a line is written.
 pub const TO: &str = "TO";
 
+/// The option by which an image has check words.
+pub const WITH_SUMS: &str = "WITH_SUMS";
+
 /// The argument that names the source.
 pub const SOURCE: &str = "SRC";
 
@@ -151,13 +154,18 @@ const ASM_HELP: &str = "Files:
         is written beside its place, as ROPE.part0, and put there whole: where
         that fails an old image stands as it was.
   ROPE may not end in .agc or .feed, nor be the file SRC, by whatever path.
+        With --sums each bank with a word has three more, right after its last
+        one, as flight ropes have them: two TC to themselves, and the word that
+        makes the bank's sum its number, or the complement of its number where
+        the sum before it is negative.
 
 Output: the listing, a row for each line of the source with its number, its
 place and its word in octal, and then the symbols.
 
 Exit status:
   0  done
-  1  the source is refused
+  1  the source is refused; or with --sums a bank has no room for three words
+     more, which a line to standard error tells by the bank's number
   2  the command line is wrong
   3  a file, a device or memory failed
 Status 1 and 3 print one line to standard error, as agcws: E14 LINE 9. What the
@@ -494,7 +502,7 @@ pub fn command<'a>(alloc: Global) -> Result<Command<'a>, AllocError> {
         .subcommand(parity_command(alloc)?)
 }
 
-/// `agcws asm [--rope VERSION] SRC ROPE`.
+/// `agcws asm [--sums] [--rope VERSION] SRC ROPE`.
 fn asm_command<'a>(alloc: Global) -> Result<Command<'a>, AllocError> {
     Command::new(alloc, ASM)
         .about("Assembles a source to a rope image and a listing")
@@ -504,6 +512,12 @@ fn asm_command<'a>(alloc: Global) -> Result<Command<'a>, AllocError> {
             Arg::new(alloc, ROPE)
                 .required(true)
                 .help("The rope image, a file that is made or written over"),
+        )?
+        .arg(
+            Arg::new(alloc, WITH_SUMS)
+                .long("sums")
+                .action(ArgAction::SetTrue)
+                .help("Adds the words that make the banks' sums"),
         )?
         .arg(
             Arg::new(alloc, VERSION)

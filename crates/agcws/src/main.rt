@@ -14,7 +14,7 @@ use command_line::{
     AS_SOURCE, ASM, BANK, BANK_COUNT, BANKS, CHECK, COMPARE, COVER, DEBUG, END, EXPLAIN, EXTENDED,
     FEED, FORM, FROM, IGNORED_PARITY, IMAGE, NEW, NEW_FORM, NEW_VERSION, NOTES, NUMBER, OLD,
     OLD_FORM, OLD_VERSION, ONLY, PARITY, PROGRESS, ROPE, RUN, SOURCE, STEPS, SUMS, TO, TRACE,
-    UPGRADE, VERSION, VERSION_ONE, VERSION_TWO, WORDS, command,
+    UPGRADE, VERSION, VERSION_ONE, VERSION_TWO, WITH_SUMS, WORDS, command,
 };
 use gathered::Gathered;
 use image_file::ImageFile;
@@ -26,8 +26,8 @@ use target::wrong_target;
 use words::{Read, ReadAhead, Std, Write, write_all};
 use workshop::{
     Bank, Form, InForm, Origin, Refusal, Summary, Unheard, Version, WorkshopFault, all_headings,
-    asm_engine, check_engine, compare_engine, compare_only_engine, cover_and_tell, cover_program,
-    debug_extended, debug_program, explanation, may_run, parity_engine, refusal_of, report,
+    asm_engine, asm_with_check_words, check_engine, compare_engine, compare_only_engine, cover_and_tell, cover_program,
+    debug_extended, debug_program, explanation, may_run, parity_engine, refusal_of, report, report_no_room,
     run_and_tell, run_program, run_with_notes, source_engine, sums_engine, trace_and_tell,
     trace_program, upgrade_engine, words_engine, write_end,
 };
@@ -170,7 +170,7 @@ fn refuse_arguments(rt: &HostRuntime, text: &[u8]) -> Result<u8, WorkshopFault> 
     }
 }
 
-/// `agcws asm [--rope VERSION] SRC ROPE`. The file ROPE is made at the first write, so that a refused source leaves none. A
+/// `agcws asm [--sums] [--rope VERSION] SRC ROPE`. The file ROPE is made at the first write, so that a refused source leaves none. A
 /// path of the source, or of one, is refused for ROPE before anything is opened.
 fn asm(rt: &HostRuntime, matches: &ArgMatches<'_>) -> Result<u8, WorkshopFault> {
     let (Some(source), Some(rope)) = (matches.get_str(SOURCE), matches.get_str(ROPE)) else {
@@ -185,10 +185,34 @@ fn asm(rt: &HostRuntime, matches: &ArgMatches<'_>) -> Result<u8, WorkshopFault> 
     let mut source = Std::new(fs::open(rt, source).map_err(not_opened)?);
     let refused = Cell::new(false);
     let mut image = Std::new(ImageFile::new(rt, rope, &refused));
+    if matches.get_flag(WITH_SUMS) {
+        return asm_with_sums(rt, &mut source, &mut image, version, &refused);
+    }
     with_stdout(rt, |listing| {
         let outcome = asm_engine(rt.alloc(), &mut source, &mut image, listing, version);
         ended(outcome, &refused)
     })
+}
+
+/// `agcws asm --sums [--rope VERSION] SRC ROPE`, once the files are known. A bank without room is told in words.
+fn asm_with_sums<S: Read, I: Write>(
+    rt: &HostRuntime,
+    source: &mut S,
+    image: &mut I,
+    version: Version,
+    refused: &Cell<bool>,
+) -> Result<u8, WorkshopFault> {
+    let full = with_stdout(rt, |listing| {
+        let outcome = asm_with_check_words(rt.alloc(), source, image, listing, version);
+        match outcome {
+            Err(_) if refused.get() => Err(WorkshopFault::NoMemory),
+            outcome => outcome,
+        }
+    })?;
+    match full {
+        Some(bank) => report_no_room(bank, &mut Std::new(rt.stderr())),
+        None => Ok(DONE),
+    }
 }
 
 /// Standard output, with what is to be written gathered.

@@ -1,3 +1,5 @@
+pub mod CheckSums
+pub mod Ends
 pub mod Fronts
 pub mod Listed
 pub mod Places

@@ -8,6 +8,7 @@ use Rattle.words.specs.Numerals.{octal_text}
 use Rattle.rope.specs.Places.{Words, stands, word_at}
 use Rattle.cpu.specs.Codes.{basic_rows, extracode_rows, code_of}
 use Rattle.cpu.specs.Texts.{instruction_text}
+use Rattle.audit.specs.CheckWords.{check_word}
 use Rattle.audit.specs.Differences.{differing_at}
 use Rattle.audit.specs.declared.differences.Extent.TheVariants.{All, Filled}
 use Rattle.audit.specs.Parities.{wrong_at, parity_line}
@@ -62,3 +63,23 @@ told = refl
 second : parity_line image (2, 1) ≡ codes "02,4001 00006 BYTE 2\n"
 unfolding image parity_line place_text octal_text window digits
 second = refl
+
+-- ## Check words
+-- a sum of 1 in bank 2 wants 1 more
+one_more : check_word 2 1 ≡ 1
+one_more = refl
+
+-- a sum of -1 in bank 2 wants 1 less, for -2
+one_less : check_word 2 0o77776 ≡ 0o77776
+one_less = refl
+
+-- a sum of 5 in bank 0 wants -5
+none_left : check_word 0 5 ≡ 0o77772
+none_left = refl
+
+-- the greatest sum in bank 043 wants 043 less it, and the least -043 less it
+from_greatest : check_word 0o43 0o37777 ≡ 0o40043
+from_greatest = refl
+
+from_least : check_word 0o43 0o40000 ≡ 0o37734
+from_least = refl

@@ -1,3 +1,4 @@
+pub mod CheckWords
 pub mod Differences
 pub mod Parities
 pub mod SourceLines

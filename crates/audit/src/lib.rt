@@ -1,12 +1,14 @@
-//! Fixed memory as text: its words, a source that gives them, its differences from another, and the sums of its banks.
+//! Fixed memory as text: its words, a source that gives them, its differences from another, and the sums of its banks, with the words that make them.
 #![tactic(auto)]
 
+mod check_words;
 mod differences;
 mod lines;
 mod parities;
 mod source;
 mod sums;
 
+pub use check_words::{NoRoom, add_check_words, check_words_hold};
 pub use differences::{Extent, write_differences};
 pub use lines::{word_line, write_words};
 pub use parities::write_parities;

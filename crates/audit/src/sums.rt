@@ -39,7 +39,7 @@ fn sum_line(rope: &Rope, bank: Bank) -> Line
 }
 
 /// The sum of a bank's words.
-fn bank_sum(rope: &Rope, bank: Bank) -> Word
+pub(crate) fn bank_sum(rope: &Rope, bank: Bank) -> Word
     ensures { result ≡ sum_before rope.now bank bank_words }
 {
     let mut total = Word::ZERO;
@@ -50,7 +50,7 @@ fn bank_sum(rope: &Rope, bank: Bank) -> Word
 }
 
 /// A total and one word more.
-fn added(total: Word, word: Word) -> Word
+pub(crate) fn added(total: Word, word: Word) -> Word
     ensures { result ≡ added total word }
 {
     let sum = total.extend().add(word.extend());

@@ -58,6 +58,17 @@ impl Rope {
         }
     }
 
+    /// The same words again, or `NoMemory`.
+    pub fn copied(&self, alloc: Global) -> Result<Rope, RopeFault>
+        ensures ok { IfOk result (λ r. r ≡ self.now) }
+        ensures err { IfErr result (λ e. e ≡ NoMemory) }
+    {
+        match copied_slots(alloc, &self.slots) {
+            Ok(slots) => Ok(Rope { slots }),
+            Err(_) => Err(RopeFault::NoMemory),
+        }
+    }
+
     /// Whether a word stands at this place.
     pub fn has(&self, bank: Bank, offset: Offset) -> bool
         ensures { result ≡ stands self.now bank offset }
@@ -128,4 +139,13 @@ fn empty_slots(alloc: Global) -> Result<Vec<Option<Word>>, AllocError>
     let mut slots = Vec::with_capacity(alloc, PLACES)?;
     slots.resize(PLACES, None)?;
     Ok(slots)
+}
+
+// The same slots again.
+fn copied_slots(alloc: Global, slots: &[Option<Word>]) -> Result<Vec<Option<Word>>, AllocError>
+    ensures { IfOk result (λ v. v.items ≡ slots.now) }
+{
+    let mut copy = Vec::with_capacity(alloc, PLACES)?;
+    copy.extend_from_slice(slots)?;
+    Ok(copy)
 }

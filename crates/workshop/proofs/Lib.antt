@@ -9,6 +9,7 @@ mod TracedSteps
 mod Written
 mod Profiles
 pub mod Telling
+mod Checked
 mod Covered
 mod NotedSteps
 mod Noted

@@ -16,7 +16,7 @@ mod progress;
 mod ropes;
 mod tracing;
 
-pub use assembly::asm_engine;
+pub use assembly::{asm_engine, asm_with_check_words, report_no_room};
 pub use checking::check_engine;
 pub use covering::{cover_and_tell, cover_program};
 pub use debugger::{debug_session, extended_session};

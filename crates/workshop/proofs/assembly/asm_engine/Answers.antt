@@ -1,19 +1,6 @@
-use Rattle.std.proofs.Common.{Ok, rules}
-use Rattle.std.proofs.lemmas.Result.{err_from_is_err_and}
+use Rattle.std.proofs.Common.{Ok}
+use Rattle.workshop.proofs.Checked.{of_words}
 use Rattle.workshop.proofs.assembly.asm_engine.Goals as goal
 
-pub returns-in_err-list : goal.returns-in_err-list
-returns-in_err-list g c =
-    let p = err_from_is_err_and c.from_residual-in_err-list.result c.from_residual-in_err-list.ensures.1 in
-    rw (p.1, p.2) (record {
-      program = Ok c.in_ok-program.program;
-      reads = c.in_ok-program.ensures;
-      next = record { imaged = Ok tt; writes = search rules; next = (λ told. c.in_err-list.ensures.written told, c.in_err-list.ensures.failures) };
-    })
-
 pub returns : goal.returns
-returns g c = record {
-  program = Ok c.in_ok-program.program;
-  reads = c.in_ok-program.ensures;
-  next = record { imaged = Ok tt; writes = search rules; next = (λ told. c.in_ok-list.ensures.written told, c.in_ok-list.ensures.failures) };
-}
+returns g c = record { program = Ok c.in_ok-program.program; reads = c.in_ok-program.ensures; next = of_words c.rope.ensures (c.write_program.ensures _ _) }
