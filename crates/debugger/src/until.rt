@@ -92,6 +92,10 @@ fn first_at<K: Keeper>(session: &mut Session<K>, cycles: u64) -> Option<u64>
     if cycles == 0 {
         return Some(0);
     }
+    // (Cycles rise: where the last step has fewer, all have.)
+    if session.present().cycles() < cycles {
+        return None;
+    }
     let count = session.steps();
     session.seek_on(1, count, |machine| cycles <= machine.cycles())
 }

@@ -1,4 +1,5 @@
 pub mod Counting
+pub mod Divisions
 mod Exact
 pub mod LongWaits
 mod Rows

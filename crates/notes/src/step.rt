@@ -84,8 +84,9 @@ fn is_code_in_erasable(place: &Linear) -> bool
 fn skips(machine: &Machine, fetched: &Fetched) -> bool
     ensures { result ≡ skips machine.now fetched.now }
 {
-    instruction_name(fetched.word, fetched.extra) == b"TS".as_slice()
-        && machine.reg(Eras::A).overflow() != Overflow::No
+    // (A seldom overflows: names are compared last.)
+    machine.reg(Eras::A).overflow() != Overflow::No
+        && instruction_name(fetched.word, fetched.extra) == b"TS".as_slice()
         && !names_z(machine, fetched)
 }
 
@@ -100,10 +101,12 @@ fn names_z(machine: &Machine, fetched: &Fetched) -> bool
 }
 
 /// Whether the quotient of DV does not fit. A division by Z is none of these.
+#[tactic(auto, using(crate::proofs::Divisions::basic_never))]
 fn divides(processor: &Processor, machine: &Machine, fetched: &Fetched) -> bool
     ensures { result ≡ divides processor.now.scenario.rope machine.now fetched.now }
 {
-    instruction_name(fetched.word, fetched.extra) == b"DV".as_slice()
+    fetched.extra
+        && instruction_name(fetched.word, fetched.extra) == b"DV".as_slice()
         && match named_address(fetched.word, fetched.extra) {
             Some(address) => is_too_great(processor, machine, &place_at(machine, address)),
             None => false,
