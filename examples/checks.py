@@ -29,6 +29,19 @@ MISTAKES = [
     (" SETLOC NOWHERE;X ERASE; CA 5", [(1, 9, 18)]),
     ("X EQUALS 10 11 12;LONGNAMES TS X", [(1, 10, 16), (2, 1, 13)]),
 ]
+# Sources with what is likely a mistake, and the warnings that are told of each with --unused, in order. START, DONE and what is reserved last are named by a line of their own.
+WARNINGS = [
+    (" OCT 1", []),
+    ("RETURN", [(1, 1, 1), (1, 1, 8)]),
+    (" TC CA;CA TC CA", [(2, 1, 1)]),
+    (" CA 5", [(1, 5, 2)]),
+    (" CA 60; CA 61; CS 0; TS 5; CA 5 +1; CA 00005", [(1, 5, 2), (3, 5, 2), (6, 5, 2)]),
+    (" EXTEND; MP 7; INDEX 5; CA 5D", [(2, 5, 2)]),
+    (" SETLOC 100;X ERASE;Y ERASE +1; SETLOC 4000; DXCH X; DXCH Y; DAS X; EXTEND; DCA X; EXTEND; DCS X +1; TS X", [(5, 7, 3), (7, 6, 3), (9, 6, 3)]),
+    ("X OCT 1; CA Y;Y OCT 2", [(1, 1, 8)]),
+]
+# A fault and warnings on one line and beside it.
+BOTH = " CA 5;CA FIV; AD 6"
 TOLD = re.compile(rb"^(.*):(\d+):(\d+): error E(\d+): (.+)$")
 FAULT = re.compile(rb"^agcws: E(\d+) LINE (\d+)\n$")
 WORDS = ["CA", "TS", "TC", "TCF", "EXTEND", "MP", "READ", "INDEX", "OCT", "DEC", "SETLOC", "BANK", "BLOCK", "ERASE", "EQUALS", "EBANK=", "2CADR", "CADR", "ECADR", "FROB", "NOOP", "X", "Y", "Z", "X", "LONGLABEL",
@@ -43,14 +56,56 @@ def told_by(program, path):
     return ran.returncode, found, ran.stdout.split(b"\n")[-2:-1], ran.stderr
 
 
+def counted(count, noun):
+    return f"{count} {noun}{'' if count == 1 else 's'}"
+
+
+WARNED = re.compile(rb"^(.*):(\d+):(\d+): (error E|warning W)(\d+): (.+)$")
+
+
+def warned_by(program, path, *options):
+    """The status of a check, and all that it tells: line, column, and the number behind its letter; and the count."""
+    ran = subprocess.run([program, "check", *options, path], capture_output=True, timeout=60)
+    rows = [WARNED.match(it) for it in ran.stdout.split(b"\n")]
+    found = [(int(it[2]), int(it[3]), it[4][-1:].decode() + it[5].decode()) for it in rows if it and it[1] == path.encode()]
+    return ran.returncode, found, ran.stdout.split(b"\n")[-2:-1], ran.stderr
+
+
+def check_warnings(program, room, told):
+    path = f"{room}/warnings.agc"
+    for shown, wanted in WARNINGS:
+        with open(path, "wb") as file:
+            file.write(shown.replace(";", "\n").encode() + b"\n")
+        for options, drawn in (["--unused"], wanted), ([], [it for it in wanted if it[2] != 8]):
+            _, found, count, errors = warned_by(program, path, *options)
+            warned = [it for it in found if it[2][0] == "W"]
+            rows = [(line, column, f"W{number}") for line, column, number in drawn]
+            faults = len(found) - len(warned)
+            told(f"warnings {options} of {shown}", (warned, count, errors) == (rows, [f"{counted(faults, 'error')}, {counted(len(rows), 'warning')}".encode()], b""), f"wanted {rows}, got {found} {count}")
+    with open(path, "wb") as file:
+        file.write(BOTH.replace(";", "\n").encode() + b"\n")
+    wanted = 1, [(1, 5, "W2"), (2, 4, "E15"), (2, 1, "W1"), (3, 5, "W2")], [b"1 error, 3 warnings"], b""
+    got = warned_by(program, path)
+    told("warnings among faults", got == wanted, f"wanted {wanted}, got {got}")
+
+
+def check_examples_quiet(program, told, folder):
+    """No example that runs draws a warning."""
+    names = sorted({line.split()[0] for line in open(f"{folder}/runs.txt") if line.strip() and not line.startswith("#")})
+    for name in names:
+        path = f"{folder}/{name}.agc"
+        ran = subprocess.run([program, "check", path], capture_output=True, timeout=60)
+        told(f"no warning in {name}.agc", (ran.returncode, ran.stdout) == (0, b"0 errors, 0 warnings\n"), str(ran.stdout[:300]))
+
+
 def check_mistakes(program, room, told):
     path = f"{room}/mistakes.agc"
     for shown, wanted in MISTAKES:
         with open(path, "wb") as file:
             file.write(shown.replace(";", "\n").encode("latin-1") + b"\n")
-        count = f"{len(wanted)} error{'' if len(wanted) == 1 else 's'}".encode()
-        got = told_by(program, path)
-        told(f"check of {shown}", got == (int(bool(wanted)), wanted, [count], b""), f"wanted {wanted}, got {got}")
+        count = counted(len(wanted), "error").encode()
+        status, found, end, errors = told_by(program, path)
+        told(f"check of {shown}", (status, found, errors) == (int(bool(wanted)), wanted, b"") and end[0].startswith(count + b", "), f"wanted {wanted}, got {found} {end}")
 
 
 def check_excerpt(program, room, told):
@@ -63,7 +118,7 @@ def check_excerpt(program, room, told):
 {path}:3:5: error E17: no line defines this symbol
     3 |  CA FIV +1
       |     ^^^
-2 errors
+2 errors, 0 warnings
 """.encode()
     got = subprocess.run([program, "check", path], capture_output=True, timeout=60)
     told("what check writes", (got.returncode, got.stdout, got.stderr) == (1, wanted, b""), f"got {got}")
@@ -128,6 +183,8 @@ def check_agreement(program, room, told, count=400, seed="agreement"):
 def check_checks(program, room, told, manual):
     check_mistakes(program, room, told)
     check_excerpt(program, room, told)
+    check_warnings(program, room, told)
+    check_examples_quiet(program, told, os.path.dirname(os.path.abspath(__file__)))
     check_rows(program, manual, told)
     check_numbers(program, told)
     check_agreement(program, room, told)

@@ -127,6 +127,7 @@ def memory(room):
         "parity": ("parity", old),
         "check": ("check", source),
         "check of a source with faults": ("check", feed),
+        "check of labels": ("check", "--unused", source),
         "explain": ("explain",),
         "explain of a number": ("explain", "E16"),
         "a refused source": ("run", feed, feed, "300"),
@@ -303,7 +304,7 @@ def devices(room):
     agcws("asm", "--rope", "1", FIVE, other)
     # Calls that write some output, the last two a session's.
     writing = [("run", FIVE, EMPTY, "100"), ("trace", FIVE, EMPTY, "100"), ("cover", FIVE, EMPTY, "100"), ("run", "--end", FIVE, EMPTY, "100"), ("run", "--progress", FIVE, EMPTY, "100"), ("run", "--notes", FIVE, EMPTY, "100"), ("run", "--image", "--rope=1", other, EMPTY, "100"), ("asm", FIVE, made), ("words", "--rope=1", image)]
-    writing += [("check", FIVE), ("explain",), ("explain", "17")]
+    writing += [("check", FIVE), ("check", "--unused", FIVE), ("explain",), ("explain", "17")]
     writing += [("compare", "--old=1", "--new=1", image, other), ("sums", "--rope=1", image), ("parity", image), ("--help",), ("words", "--help"), ("--version",)]
     writing += [("debug", FIVE, EMPTY), ("debug", "--image", "--rope=1", other, EMPTY)]
     outputs_that_fail(writing)
@@ -596,7 +597,8 @@ def some_checks(made, seed, first, last):
             status, out, err, _, _ = worker.run(["check", worker.case], worker.case)
             found = [(int(line), int(kind)) for line, kind in TOLD_FAULT.findall(out)]
             refused += bool(one)
-            count = f"{len(found)} error{'' if len(found) == 1 else 's'}\n".encode()
+            warned = len(re.findall(rb"^.*:\d+:\d+: warning W\d+: .+$", out, re.M))
+            count = f"{len(found)} error{'' if len(found) == 1 else 's'}, {warned} warning{'' if warned == 1 else 's'}\n".encode()
             is_right = (int(one[2]), int(one[1])) in found if one else not found
             if not is_right or status != int(bool(one)) or err or not out.endswith(count) or len(set(found)) != len(found):
                 wrong.append((number, status, one and one[0], found[:5], err))

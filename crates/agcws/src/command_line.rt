@@ -102,6 +102,9 @@ pub const IMAGE: &str = "IMAGE";
 /// The option by which a session has more commands, and refusals in words.
 pub const EXTENDED: &str = "EXTENDED";
 
+/// The option by which labels that no operand names are told.
+pub const UNUSED: &str = "UNUSED";
+
 /// The option that is the version of the first of two images.
 pub const OLD_VERSION: &str = "OLD_VERSION";
 
@@ -464,8 +467,16 @@ with the file, the line and the column, and then how many there are. A fault
 that follows from another, as that of a symbol whose own line is refused, is
 left out. agcws explain E17 tells what draws E17, and its cures.
 
+What is no fault, and likely a mistake, is told as a warning of the same form:
+  W1  an operator's name in the first column, where it is a label
+  W2  CA, CAE, CS, AD, MASK, MSK, CCS, MP, DV or SU of an octal number from 0
+      to 60: that is a register or a counter, and not the number
+  W3  DXCH, DAS, DCA or DCS of a label beside which ERASE stands alone: it
+      reserves one word
+  W8  with --unused: a label that no operand names
+
 Exit status:
-  0  there is no fault: agcws asm takes the source
+  0  there is no fault, warnings or none: agcws asm takes the source
   1  there is a fault; or the source is too long (E34)
   2  the command line is wrong
   3  a file, a device or memory failed
@@ -528,11 +539,17 @@ fn asm_command<'a>(alloc: Global) -> Result<Command<'a>, AllocError> {
         )
 }
 
-/// `agcws check SRC`.
+/// `agcws check [--unused] SRC`.
 fn check_command<'a>(alloc: Global) -> Result<Command<'a>, AllocError> {
     Command::new(alloc, CHECK)
-        .about("Tells all faults of a source, in words")
+        .about("Tells all faults of a source, and likely mistakes, in words")
         .after_help(CHECK_HELP)
+        .arg(
+            Arg::new(alloc, UNUSED)
+                .long("unused")
+                .action(ArgAction::SetTrue)
+                .help("Warn of labels that no operand names too"),
+        )?
         .arg(
             Arg::new(alloc, SOURCE)
                 .required(true)

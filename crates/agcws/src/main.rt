@@ -13,7 +13,7 @@ use clap::error::ErrorKind;
 use command_line::{
     AS_SOURCE, ASM, BANK, BANK_COUNT, BANKS, CHECK, COMPARE, COVER, DEBUG, END, EXPLAIN, EXTENDED,
     FEED, FORM, FROM, IGNORED_PARITY, IMAGE, NEW, NEW_FORM, NEW_VERSION, NOTES, NUMBER, OLD,
-    OLD_FORM, OLD_VERSION, ONLY, PARITY, PROGRESS, ROPE, RUN, SOURCE, STEPS, SUMS, TO, TRACE,
+    OLD_FORM, OLD_VERSION, ONLY, PARITY, PROGRESS, ROPE, RUN, SOURCE, STEPS, SUMS, TO, TRACE, UNUSED,
     UPGRADE, VERSION, VERSION_ONE, VERSION_TWO, WITH_SUMS, WORDS, command,
 };
 use gathered::Gathered;
@@ -472,14 +472,15 @@ fn debug(rt: &HostRuntime, matches: &ArgMatches<'_>) -> Result<u8, WorkshopFault
     Ok(DONE)
 }
 
-/// `agcws check SRC`.
+/// `agcws check [--unused] SRC`.
 fn check(rt: &HostRuntime, matches: &ArgMatches<'_>) -> Result<u8, WorkshopFault> {
     let Some(name) = matches.get_str(SOURCE) else {
         return Ok(WRONG_ARGUMENTS);
     };
     let mut source = opened(rt, name)?;
+    let unused = matches.get_flag(UNUSED);
     let count = with_stdout(rt, |out| {
-        check_engine(rt.alloc(), name.as_bytes(), &mut source, out)
+        check_engine(rt.alloc(), name.as_bytes(), unused, &mut source, out)
     })?;
     Ok(if count == 0 { DONE } else { REFUSED })
 }

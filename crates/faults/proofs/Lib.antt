@@ -1,1 +1,3 @@
+pub mod Merging
 mod Pushed
+mod WarningRows

@@ -1,9 +1,13 @@
--- The faults of a source as lines of text.
-use Rattle.std.specs.Prelude.{ℕ, ◌+◌, ◌-◌, ◌==◌, List, [], ◌∷◌, ◌++◌, length, map, take, max, min, replicate, codes, decimal, flat_map, slice_get, unwrap_or, if◌then◌else◌}
+-- The faults and the warnings of a source as lines of text.
+use Rattle.std.specs.Prelude.{ℕ, ◌+◌, ◌-◌, ◌==◌, List, [], ◌∷◌, ◌++◌, length, map, take, drop, max, min, replicate, codes, decimal, flat_map, nat_le, slice_get, unwrap_or, if◌then◌else◌}
+use Rattle.std.specs.List.{position_or_len}
 use Rattle.agc_text.specs.Bytes.{is_text_byte, space, tab}
 use Rattle.agc_text.specs.Lines.{lines}
 use Rattle.yayul.specs.declared.finding.Finding.{Finding}
 use Rattle.faults.specs.Refusals.{meaning}
+use Rattle.faults.specs.Warnings.{warning_meaning}
+use Rattle.faults.specs.declared.findings.Severity.{Severity}
+use Rattle.faults.specs.declared.findings.Severity.TheVariants.{Error, Warning}
 
 -- a byte as it is shown: a question mark for one that a line may not hold
 abbrev pub shown_byte : ℕ → ℕ
@@ -30,20 +34,48 @@ abbrev pub place_text : List ℕ → List ℕ → Finding → List ℕ
 place_text name text f = name ++ codes ":" ++ decimal f.line ++ codes ":" ++ decimal (min f.span.start (length text) + 1)
 
 -- what it is
-abbrev pub message_text : ℕ → List ℕ
-message_text number = codes ": error E" ++ decimal number ++ codes ": " ++ meaning number ++ codes "\n"
+abbrev pub message_text : Severity → ℕ → List ℕ
+message_text Error number = codes ": error E" ++ decimal number ++ codes ": " ++ meaning number ++ codes "\n"
+message_text Warning number = codes ": warning W" ++ decimal number ++ codes ": " ++ warning_meaning number ++ codes "\n"
 
-abbrev pub finding_text : List ℕ → List ℕ → Finding → List ℕ
-finding_text name text f = place_text name text f ++ message_text f.number ++ row_text text f ++ marks_text text f
+abbrev pub finding_text : List ℕ → List ℕ → Severity → Finding → List ℕ
+finding_text name text severity f = place_text name text f ++ message_text severity f.number ++ row_text text f ++ marks_text text f
 
 -- the line of a number, of some lines
 abbrev pub text_at : List (List ℕ) → ℕ → List ℕ
 text_at texts line = unwrap_or (slice_get texts (line - 1)) []
 
--- how many there are
-abbrev pub count_text : ℕ → List ℕ
-count_text count = decimal count ++ (if count == 1 then codes " error\n" else codes " errors\n")
+-- the lines of a finding of a source
+abbrev pub shown_finding : List ℕ → List (List ℕ) → Severity × Finding → List ℕ
+shown_finding name texts f = finding_text name (text_at texts f.1.line) f.0 f.1
 
--- the lines of some faults of a source, and how many there are
-unfoldable pub report : List ℕ → List ℕ → List Finding → List ℕ
-report name source findings = flat_map (λ f. finding_text name (text_at (lines source) f.line) f) findings ++ count_text (length findings)
+-- how many of some findings in order stand before a line
+abbrev pub count_before : ℕ → List Finding → ℕ
+count_before line findings = position_or_len (λ f. nat_le line f.line) findings
+
+-- a fault
+abbrev pub as_error : Finding → Severity × Finding
+as_error f = (Error, f)
+
+-- a warning
+abbrev pub as_warning : Finding → Severity × Finding
+as_warning f = (Warning, f)
+
+-- the faults and the warnings of a source in the order of lines, the faults of a line first
+abbrev pub merged : List Finding → List Finding → List (Severity × Finding)
+merged [] warnings = map as_warning warnings
+merged (f ∷ fs) warnings =
+    map as_warning (take (count_before f.line warnings) warnings) ++ as_error f ∷ merged fs (drop (count_before f.line warnings) warnings)
+
+-- so many of something
+abbrev pub counted : ℕ → List ℕ → List ℕ
+counted count noun = decimal count ++ codes " " ++ noun ++ (if count == 1 then [] else codes "s")
+
+-- how many there are
+abbrev pub count_text : ℕ → ℕ → List ℕ
+count_text errors warnings = counted errors (codes "error") ++ codes ", " ++ counted warnings (codes "warning") ++ codes "\n"
+
+-- the lines of the faults and the warnings of a source, and how many there are
+unfoldable pub report : List ℕ → List ℕ → List Finding → List Finding → List ℕ
+report name source faults warnings =
+    flat_map (shown_finding name (lines source)) (merged faults warnings) ++ count_text (length faults) (length warnings)

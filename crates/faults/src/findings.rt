@@ -1,10 +1,11 @@
-//! The faults of a source as lines of text.
+//! The faults and the warnings of a source as lines of text.
 
-ghost use Rattle.std.specs.Prelude.{◌≡◌, ◌<◌, ◌++◌, ◌+◌, ◌-◌, map, take, length, replicate, codes, decimal, flat_map, max, OnOk, IfOk};
+ghost use Rattle.std.specs.Prelude.{◌≡◌, ◌<◌, ◌≤◌, ◌++◌, ◌+◌, ◌-◌, map, take, length, replicate, codes, decimal, flat_map, max, OnOk, IfOk};
 ghost use Rattle.agc_text.specs.Lines.{lines};
 ghost use Rattle.agc_text.specs.Bytes.{space};
-ghost use Rattle.faults.specs.Report.{shown_byte, margin_byte, numbered, row_text, marks_text, place_text, message_text, finding_text, text_at, count_text, report};
+ghost use Rattle.faults.specs.Report.{shown_byte, margin_byte, numbered, row_text, marks_text, place_text, message_text, finding_text, text_at, shown_finding, count_before, as_error, as_warning, merged, counted, count_text, report};
 
+use crate::mistakes::warning_meaning;
 use crate::refusals::meaning;
 use agc_text::{is_text, next_line};
 use arrayvec::ArrayVec;
@@ -18,25 +19,35 @@ const DIGITS: usize = 20;
 /// How many columns the number of a line has.
 const NUMBER_WIDTH: usize = 5;
 
-/// The lines of some faults of a source, which has this name, and how many there are.
+/// Whether what is found bars a source from assembling.
+#[derive(Clone, Copy, PartialEq, Eq, Debug, Drop)]
+pub enum Severity {
+    /// A fault, which does.
+    Error,
+    /// What is likely a mistake, and does not.
+    Warning,
+}
+
+/// The lines of the faults and the warnings of a source, which has this name, in the order of lines, and how many there are.
 #[tactic(auto, unfolding(crate::specs::Report::report))]
 pub fn report(
     alloc: Global,
     name: &[u8],
     source: &[u8],
-    findings: &[Finding],
+    faults: &[Finding],
+    warnings: &[Finding],
 ) -> Result<Vec<u8>, AllocError>
-    ensures { IfOk result (λ text. text.items ≡ report name.now source.now findings.now) }
+    ensures { IfOk result (λ text. text.items ≡ report name.now source.now faults.now warnings.now) }
 {
     let texts = line_texts(alloc, source)?;
     let mut out = Vec::new(alloc);
-    push_findings(&mut out, name, &texts, findings)?;
-    push_count(&mut out, findings.len())?;
+    push_merged(&mut out, name, &texts, faults, warnings)?;
+    push_counts(&mut out, faults.len(), warnings.len())?;
     Ok(out)
 }
 
 // The lines of a source.
-fn line_texts(alloc: Global, source: &[u8]) -> Result<Vec<&[u8]>, AllocError>
+pub(crate) fn line_texts(alloc: Global, source: &[u8]) -> Result<Vec<&[u8]>, AllocError>
     ensures { IfOk result (λ texts. map (λ text. text.now) texts.items ≡ lines source.now) }
 {
     let mut texts = Vec::new(alloc);
@@ -48,19 +59,65 @@ fn line_texts(alloc: Global, source: &[u8]) -> Result<Vec<&[u8]>, AllocError>
     Ok(texts)
 }
 
-// Appends the lines of some faults.
-fn push_findings(
+// Appends the lines of faults and warnings, in the order of lines.
+fn push_merged(
     out: &mut Vec<u8>,
     name: &[u8],
     texts: &[&[u8]],
-    findings: &[Finding],
+    faults: &[Finding],
+    warnings: &[Finding],
 ) -> Result<(), AllocError>
-    ensures { OnOk result (out.new.items ≡ out.old.items ++ flat_map (λ f. finding_text name.now (text_at (map (λ t. t.now) texts.now) f.line) f) findings.now) }
+    ensures { OnOk result (out.new.items ≡ out.old.items ++ flat_map (shown_finding name.now (map (λ t. t.now) texts.now)) (merged faults.now warnings.now)) }
 {
-    for finding in findings {
-        push_finding(out, name, text_at(texts, finding.line), finding)?;
+    let mut rest = warnings;
+    for fault in faults {
+        let (earlier, later) = rest.split_at(count_before(fault.line, rest));
+        push_warnings(out, name, texts, earlier)?;
+        push_shown_finding(out, name, texts, Severity::Error, fault)?;
+        rest = later;
+    }
+    push_warnings(out, name, texts, rest)
+}
+
+// How many of some findings in order stand before a line.
+fn count_before(line: u32, findings: &[Finding]) -> usize
+    ensures value { result ≡ count_before line findings.now }
+    ensures within { result ≤ length findings.now }
+{
+    for (index, finding) in findings.iter().enumerate() {
+        if line <= finding.line {
+            return index;
+        }
+    }
+    findings.len()
+}
+
+// Appends the lines of some warnings.
+fn push_warnings(
+    out: &mut Vec<u8>,
+    name: &[u8],
+    texts: &[&[u8]],
+    warnings: &[Finding],
+) -> Result<(), AllocError>
+    ensures { OnOk result (out.new.items ≡ out.old.items ++ flat_map (shown_finding name.now (map (λ t. t.now) texts.now)) (map as_warning warnings.now)) }
+{
+    for warning in warnings {
+        push_shown_finding(out, name, texts, Severity::Warning, warning)?;
     }
     Ok(())
+}
+
+// Appends the lines of a finding.
+fn push_shown_finding(
+    out: &mut Vec<u8>,
+    name: &[u8],
+    texts: &[&[u8]],
+    severity: Severity,
+    finding: &Finding,
+) -> Result<(), AllocError>
+    ensures { OnOk result (out.new.items ≡ out.old.items ++ shown_finding name.now (map (λ t. t.now) texts.now) (severity, finding.now)) }
+{
+    push_finding(out, name, text_at(texts, finding.line), severity, finding)
 }
 
 // The line of a number; one that does not stand is empty.
@@ -90,14 +147,24 @@ fn push_place(
     push_number(out, column as u64)
 }
 
-// Appends what a fault is.
-fn push_message(out: &mut Vec<u8>, number: u8) -> Result<(), AllocError>
-    ensures { OnOk result (out.new.items ≡ out.old.items ++ message_text number) }
+// Appends what a finding is.
+fn push_message(out: &mut Vec<u8>, severity: Severity, number: u8) -> Result<(), AllocError>
+    ensures { OnOk result (out.new.items ≡ out.old.items ++ message_text severity number) }
 {
-    out.extend_from_slice(b": error E")?;
+    match severity {
+        Severity::Error => push_told(out, b": error E", number, meaning(number)),
+        Severity::Warning => push_told(out, b": warning W", number, warning_meaning(number)),
+    }
+}
+
+// Appends what kind of a finding a number is of, the number, and what it means.
+fn push_told(out: &mut Vec<u8>, kind: &[u8], number: u8, meaning: &[u8]) -> Result<(), AllocError>
+    ensures { OnOk result (out.new.items ≡ out.old.items ++ kind.now ++ decimal number ++ codes ": " ++ meaning.now ++ codes "\n") }
+{
+    out.extend_from_slice(kind)?;
     push_number(out, u64::from(number))?;
     out.extend_from_slice(b": ")?;
-    out.extend_from_slice(meaning(number))?;
+    out.extend_from_slice(meaning)?;
     out.extend_from_slice(b"\n")?;
     Ok(())
 }
@@ -130,12 +197,13 @@ fn push_finding(
     out: &mut Vec<u8>,
     name: &[u8],
     text: &[u8],
+    severity: Severity,
     finding: &Finding,
 ) -> Result<(), AllocError>
-    ensures { OnOk result (out.new.items ≡ out.old.items ++ finding_text name.now text.now finding.now) }
+    ensures { OnOk result (out.new.items ≡ out.old.items ++ finding_text name.now text.now severity finding.now) }
 {
     push_place(out, name, text, finding)?;
-    push_message(out, finding.number)?;
+    push_message(out, severity, finding.number)?;
     push_row(out, text, finding)?;
     push_marks(out, text, finding)
 }
@@ -204,15 +272,26 @@ fn push_repeated(out: &mut Vec<u8>, count: usize, byte: u8) -> Result<(), AllocE
     Ok(())
 }
 
-// Appends how many faults there are.
-fn push_count(out: &mut Vec<u8>, count: usize) -> Result<(), AllocError>
-    ensures { OnOk result (out.new.items ≡ out.old.items ++ count_text count) }
+// Appends how many faults and how many warnings there are.
+fn push_counts(out: &mut Vec<u8>, faults: usize, warnings: usize) -> Result<(), AllocError>
+    ensures { OnOk result (out.new.items ≡ out.old.items ++ count_text faults warnings) }
+{
+    push_counted(out, faults, b"error")?;
+    out.extend_from_slice(b", ")?;
+    push_counted(out, warnings, b"warning")?;
+    out.extend_from_slice(b"\n")?;
+    Ok(())
+}
+
+// Appends how many there are of something.
+fn push_counted(out: &mut Vec<u8>, count: usize, noun: &[u8]) -> Result<(), AllocError>
+    ensures { OnOk result (out.new.items ≡ out.old.items ++ counted count noun.now) }
 {
     push_number(out, count as u64)?;
-    out.extend_from_slice(if count == 1 {
-        b" error\n".as_slice()
-    } else {
-        b" errors\n".as_slice()
-    })?;
+    out.extend_from_slice(b" ")?;
+    out.extend_from_slice(noun)?;
+    if count != 1 {
+        out.extend_from_slice(b"s")?;
+    }
     Ok(())
 }

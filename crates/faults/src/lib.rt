@@ -1,10 +1,13 @@
-//! Faults in words: what their numbers mean, and those of a source with the lines that they stand on.
+//! Faults in words: what their numbers mean, and those of a source with the lines that they stand on, beside its warnings.
 #![tactic(auto)]
 
 mod explaining;
 mod findings;
+mod mistakes;
+mod names;
 mod refusals;
 
 pub use explaining::{all_headings, explanation};
-pub use findings::report;
+pub use findings::{Severity, report};
+pub use mistakes::{warning_meaning, warnings};
 pub use refusals::{NUMBERS, Refusal, meaning, refusal_of};

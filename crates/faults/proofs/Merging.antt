@@ -1,0 +1,63 @@
+-- Lists that are gone through, and what is appended on the way.
+use Rattle.std.proofs.Common.{◌≡◌, ◌∙◌, ℕ, ◌+◌, ◌≤◌, length, arith, Bool, true, not, cond, List, [], ◌∷◌, ◌++◌, map, take, drop, is_some, refl, ap, sym, inl, inr, append_assoc}
+use Rattle.std.specs.Prelude.{flat_map, if◌then◌else◌}
+use Rattle.std.proofs.lemmas.Bool.{cases_Bool}
+use Rattle.std.proofs.lemmas.Bool.Decides.{nat_tests}
+use Rattle.std.proofs.lemmas.Grind.{flat_map-append}
+use Rattle.std.proofs.lemmas.List.{map-append}
+use Rattle.std.proofs.lemmas.Map.Made.{is_some-lookup}
+use Rattle.agc_text.specs.Tables.{same_name, value_in}
+use Rattle.symbols.specs.declared.values.Value.{Value}
+use Rattle.yayul.specs.declared.finding.Finding.{Finding}
+use Rattle.faults.specs.declared.findings.Severity.{Severity}
+use Rattle.faults.specs.declared.mistakes.Names.{Names}
+use Rattle.faults.specs.Report.{count_before, as_error, as_warning, merged}
+use Rattle.faults.specs.Warnings.{is_short, is_among, with_name, parts_of, line_warnings, warned_lines}
+
+-- a fault, after the warnings of earlier lines
+pub merged_step :
+    (g : Severity × Finding → List ℕ) (faults rest warnings : List Finding) (f : Finding) (o0 o1 o2 : List ℕ) → faults ≡ f ∷ rest
+    → o1 ≡ o0 ++ flat_map g (map as_warning (take (count_before f.line warnings) warnings)) → o2 ≡ o1 ++ g (as_error f)
+    → o2 ++ flat_map g (merged rest (drop (count_before f.line warnings) warnings)) ≡ o0 ++ flat_map g (merged faults warnings)
+merged_step g faults rest warnings f o0 o1 o2 next e1 e2 =
+    let n = count_before f.line warnings in
+    let early = map as_warning (take n warnings) in
+    let later = merged rest (drop n warnings) in
+    ap (λ o. o ++ flat_map g later) (e2 ∙ ap (λ o. o ++ g (as_error f)) e1)
+    ∙ append_assoc (o0 ++ flat_map g early) (g (as_error f)) (flat_map g later)
+    ∙ append_assoc o0 (flat_map g early) (g (as_error f) ++ flat_map g later)
+    ∙ ap (λ t. o0 ++ t) (sym (flat_map-append g early (as_error f ∷ later)))
+    ∙ ap (λ fs. o0 ++ flat_map g (merged fs warnings)) (sym next)
+
+-- the warnings of a line, and of those after it
+pub warned_step :
+    (unused : Bool) (names : Names) (line : ℕ) (texts rest : List (List ℕ)) (text : List ℕ) (o0 o1 : List Finding) → texts ≡ text ∷ rest
+    → o1 ≡ o0 ++ line_warnings unused names line (parts_of text)
+    → o1 ++ warned_lines unused names (line + 1) rest ≡ o0 ++ warned_lines unused names line texts
+warned_step unused names line texts rest text o0 o1 next e =
+    ap (λ o. o ++ warned_lines unused names (line + 1) rest) e
+    ∙ append_assoc o0 (line_warnings unused names line (parts_of text)) (warned_lines unused names (line + 1) rest)
+    ∙ ap (λ t. o0 ++ warned_lines unused names line t) (sym next)
+
+-- a name that is defined in a table where it is not there yet
+pub name_added :
+    (table after : List (List ℕ × Value)) (text : List ℕ) (added : Bool) (value : Value) → is_short text ≡ true → added ≡ not (is_some (value_in table text))
+    → after ≡ (if added then table ++ (text, value) ∷ [] else table) → map (λ e. e.0) after ≡ with_name (map (λ e. e.0) table) text
+name_added table after text added value short says is =
+    let names = map {B = List ℕ} (λ e. e.0) table in
+    let there : is_some (value_in table text) ≡ is_among names text = is_some-lookup (same_name text) table in
+    elim (cases_Bool (is_some (value_in table text))) [
+      | inl found ↦ rw short (rw (sym there ∙ found) (ap (map (λ e. e.0)) (is ∙ ap (λ b. if b then table ++ (text, value) ∷ [] else table) (says ∙ ap not found))))
+      | inr lacks ↦ rw short (rw (sym there ∙ lacks) (ap (map (λ e. e.0)) (is ∙ ap (λ b. if b then table ++ (text, value) ∷ [] else table) (says ∙ ap not lacks))
+          ∙ map-append (λ e. e.0) table ((text, value) ∷ [])))
+    ]
+
+-- four texts appended
+pub four_appended :
+    (out a b c d o1 o2 o3 o4 : List ℕ) → o1 ≡ out ++ a → o2 ≡ o1 ++ b → o3 ≡ o2 ++ c → o4 ≡ o3 ++ d → o4 ≡ out ++ (a ++ b ++ c ++ d)
+four_appended out a b c d o1 o2 o3 o4 e1 e2 e3 e4 =
+    e4 ∙ ap (λ o. o ++ d) (e3 ∙ ap (λ o. o ++ c) (e2 ∙ ap (λ o. o ++ b) e1 ∙ append_assoc out a b) ∙ append_assoc out (a ++ b) c) ∙ append_assoc out (a ++ b ++ c) d
+
+-- a name that is a text which is no longer than a label
+pub short_name : (name text : List ℕ) → length text ≤ 8 → name ≡ text → is_short name ≡ true
+short_name name text few same = grind (arith, nat_tests)

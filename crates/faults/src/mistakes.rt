@@ -1,0 +1,300 @@
+//! What in a source is likely a mistake, though it is no fault.
+
+ghost use Rattle.std.specs.Prelude.{◌≡◌, ◌≤◌, ◌++◌, map, length, take, IfOk, OnOk};
+ghost use Rattle.std.specs.List.{fold};
+ghost use Rattle.std.specs.Option.{option_map};
+ghost use Rattle.agc_text.specs.Fields.{fields, label_of};
+ghost use Rattle.agc_text.specs.Views.{piece};
+ghost use Rattle.yayul.specs.Survey.{field_at, looked_at, span_of};
+ghost use Rattle.faults.specs.Warnings.{warning_meaning, parts_of, parts_in, is_among, has_operator, has_alone, warned_if, at_field, operator_names, label_warnings, readers, is_register_number, number_warnings, pair_operators, erase_operators, reserves_one, with_field, with_single, pair_warnings, unused_warnings, names_of, line_warnings, warned_lines, warnings};
+
+use crate::findings::line_texts;
+use crate::names::{NameSet, is_among, is_short};
+use agc_text::{Field, Line, Number, octal_value};
+use std::alloc::{AllocError, Global};
+use yayul::{Finding, Span};
+
+/// How many lines are looked at: as many as a source may have, and one.
+const LINES: usize = 65_537;
+
+/// What the number of a warning means, in a line.
+pub fn warning_meaning(number: u8) -> &'static [u8]
+    ensures { result.now ≡ warning_meaning number }
+{
+    match number {
+        1 => b"this is an operator's name, and in the first column it is a label",
+        2 => b"this is the register or the counter of that number, and not the number",
+        3 =>
+            b"the operator takes two words, and ERASE reserves one for this name; ERASE +1 reserves two",
+        8 => b"no operand names this label",
+        _ => b"",
+    }
+}
+
+/// The warnings of a source, in the order of lines; those of labels that no operand names where they are asked for.
+#[tactic(auto, unfolding(crate::specs::Warnings::warnings))]
+pub fn warnings(alloc: Global, source: &[u8], unused: bool) -> Result<Vec<Finding>, AllocError>
+    ensures { IfOk result (λ found. found.items ≡ warnings unused source.now) }
+{
+    let lines = looked_at(alloc, source)?;
+    let names = Names::of(alloc, &lines)?;
+    let mut found = Vec::new(alloc);
+    names.warn(unused, &lines, &mut found)?;
+    Ok(found)
+}
+
+// The lines of a source that are looked at.
+fn looked_at(alloc: Global, source: &[u8]) -> Result<Vec<&[u8]>, AllocError>
+    ensures lines { IfOk result (λ texts. map (λ text. text.now) texts.items ≡ looked_at source.now) }
+    ensures few { IfOk result (λ texts. length texts.items ≤ LINES) }
+{
+    let mut texts = line_texts(alloc, source)?;
+    texts.truncate(LINES);
+    Ok(texts)
+}
+
+// The names of a source.
+#[derive(Drop)]
+struct Names {
+    /// Those for which one word is reserved.
+    singles: NameSet,
+    /// Those that an operand is.
+    operands: NameSet,
+}
+
+impl Names {
+    // The names of some lines.
+    fn of(alloc: Global, lines: &[&[u8]]) -> Result<Names, AllocError>
+        ensures { IfOk result (λ names. names ≡ names_of (map (λ text. text.now) lines.now)) }
+    {
+        let mut names = Names {
+            singles: NameSet::new(alloc),
+            operands: NameSet::new(alloc),
+        };
+        for text in lines {
+            names.note(&parts_of(text))?;
+        }
+        Ok(names)
+    }
+
+    // Adds the names of a line.
+    fn note(&mut self, parts: &Line<'_>) -> Result<(), AllocError>
+        ensures singles { OnOk result (self.new.singles ≡ with_single self.old.singles (parts_in parts.now)) }
+        ensures operands { OnOk result (self.new.operands ≡ with_field self.old.operands (option_map piece parts.now.operand)) }
+    {
+        if reserves_one(parts) {
+            add_field(&mut self.singles, parts.label)?;
+        }
+        add_field(&mut self.operands, parts.operand)
+    }
+
+    // Appends the warnings of the lines.
+    fn warn(
+        &self,
+        unused: bool,
+        lines: &[&[u8]],
+        found: &mut Vec<Finding>,
+    ) -> Result<(), AllocError>
+        requires { length lines.now ≤ LINES }
+        ensures { OnOk result (found.new.items ≡ found.old.items ++ warned_lines unused self.now 1 (map (λ text. text.now) lines.now)) }
+    {
+        for (index, text) in lines.iter().enumerate() {
+            self.warn_of(unused, index as u32 + 1, &parts_of(text), found)?;
+        }
+        Ok(())
+    }
+
+    // Appends the warnings of a line.
+    fn warn_of(
+        &self,
+        unused: bool,
+        line: u32,
+        parts: &Line<'_>,
+        found: &mut Vec<Finding>,
+    ) -> Result<(), AllocError>
+        ensures { OnOk result (found.new.items ≡ found.old.items ++ line_warnings unused self.now line (parts_in parts.now)) }
+    {
+        warn_of_label(line, parts, found)?;
+        if unused {
+            warn_of_unused(&self.operands, line, parts, found)?;
+        }
+        warn_of_number(line, parts, found)?;
+        warn_of_pair(&self.singles, line, parts, found)
+    }
+}
+
+// A line taken apart.
+fn parts_of(text: &[u8]) -> Line<'_>
+    ensures { parts_in result ≡ parts_of text.now }
+{
+    Line::of(text)
+}
+
+// Adds a field to some names, where it stands.
+fn add_field(names: &mut NameSet, field: Option<Field<'_>>) -> Result<(), AllocError>
+    ensures { OnOk result (names.new ≡ with_field names.old (option_map piece field.entry)) }
+{
+    match field {
+        Some(field) => names.add(field.text),
+        None => Ok(()),
+    }
+}
+
+// Appends a warning of a number at a field of a line, where a condition holds.
+fn warn_if(
+    condition: bool,
+    line: u32,
+    number: u8,
+    field: Field<'_>,
+    found: &mut Vec<Finding>,
+) -> Result<(), AllocError>
+    ensures { OnOk result (found.new.items ≡ found.old.items ++ warned_if condition line number (piece field.entry)) }
+{
+    if condition {
+        let span = Span {
+            start: field.start,
+            width: field.text.len(),
+        };
+        found.push(Finding { line, number, span })?;
+    }
+    Ok(())
+}
+
+// Whether the operator is one of some.
+fn has_operator(names: &[&str], parts: &Line<'_>) -> bool
+    ensures { result ≡ has_operator (map (λ name. name.now) names.now) (parts_in parts.now) }
+{
+    match parts.operator {
+        Some(operator) => is_among(names, operator.text),
+        None => false,
+    }
+}
+
+// Whether the operator is one of some, and no offset stands.
+fn has_alone(names: &[&str], parts: &Line<'_>) -> bool
+    ensures { result ≡ has_alone (map (λ name. name.now) names.now) (parts_in parts.now) }
+{
+    has_operator(names, parts) && parts.offset.is_none()
+}
+
+// An operator's name as a label.
+fn warn_of_label(line: u32, parts: &Line<'_>, found: &mut Vec<Finding>) -> Result<(), AllocError>
+    ensures { OnOk result (found.new.items ≡ found.old.items ++ label_warnings line (parts_in parts.now)) }
+{
+    match parts.label {
+        Some(label) => warn_if(is_operator(label.text), line, 1, label, found),
+        None => Ok(()),
+    }
+}
+
+// A label that no operand names.
+fn warn_of_unused(
+    operands: &NameSet,
+    line: u32,
+    parts: &Line<'_>,
+    found: &mut Vec<Finding>,
+) -> Result<(), AllocError>
+    ensures { OnOk result (found.new.items ≡ found.old.items ++ unused_warnings operands.now line (parts_in parts.now)) }
+{
+    match parts.label {
+        Some(label) => {
+            let unused = is_short(label.text) && !operands.has(label.text);
+            warn_if(unused, line, 8, label, found)
+        }
+        None => Ok(()),
+    }
+}
+
+// The number of a register or a counter where a word is read.
+fn warn_of_number(line: u32, parts: &Line<'_>, found: &mut Vec<Finding>) -> Result<(), AllocError>
+    ensures { OnOk result (found.new.items ≡ found.old.items ++ number_warnings line (parts_in parts.now)) }
+{
+    match parts.operand {
+        Some(operand) => {
+            let reads = has_alone(readers(), parts) && is_register_number(operand.text);
+            warn_if(reads, line, 2, operand, found)
+        }
+        None => Ok(()),
+    }
+}
+
+// Two words of a name for which one is reserved.
+fn warn_of_pair(
+    singles: &NameSet,
+    line: u32,
+    parts: &Line<'_>,
+    found: &mut Vec<Finding>,
+) -> Result<(), AllocError>
+    ensures { OnOk result (found.new.items ≡ found.old.items ++ pair_warnings singles.now line (parts_in parts.now)) }
+{
+    match parts.operand {
+        Some(operand) => {
+            let lacks_one = has_alone(pair_operators(), parts) && singles.has(operand.text);
+            warn_if(lacks_one, line, 3, operand, found)
+        }
+        None => Ok(()),
+    }
+}
+
+// ERASE without an operand.
+fn reserves_one(parts: &Line<'_>) -> bool
+    ensures { result ≡ reserves_one (parts_in parts.now) }
+{
+    has_operator(erase_operators(), parts) && parts.operand.is_none()
+}
+
+// Octal digits of a place that a register or a counter has.
+fn is_register_number(text: &[u8]) -> bool
+    ensures { result ≡ is_register_number text.now }
+{
+    matches!(octal_value(text), Some(Number::Small(number)) if number < 0o61)
+}
+
+// An operator's name.
+fn is_operator(text: &[u8]) -> bool
+    ensures { result ≡ is_among operator_names text.now }
+{
+    is_among(operator_names(), text)
+}
+
+const READERS: [&str; 10] = [
+    "CA", "CAE", "CS", "AD", "MASK", "MSK", "CCS", "MP", "DV", "SU",
+];
+
+const PAIR_OPERATORS: [&str; 4] = ["DXCH", "DAS", "DCA", "DCS"];
+
+const ERASE_OPERATORS: [&str; 1] = ["ERASE"];
+
+const OPERATOR_NAMES: [&str; 71] = [
+    "SETLOC", "BANK", "BLOCK", "ERASE", "EQUALS", "=", "EBANK=", "OCT", "DEC", "ADRES", "ECADR",
+    "CADR", "FCADR", "2CADR", "TC", "TCR", "CCS", "TCF", "DAS", "LXCH", "INCR", "ADS", "CA", "CAE",
+    "CAF", "CS", "INDEX", "NDX", "DXCH", "TS", "XCH", "AD", "MASK", "MSK", "READ", "WRITE", "RAND",
+    "WAND", "ROR", "WOR", "RXOR", "DV", "BZF", "MSU", "QXCH", "AUG", "DIM", "DCA", "DCS", "SU",
+    "BZMF", "MP", "RELINT", "INHINT", "EXTEND", "RESUME", "XXALQ", "XLQ", "RETURN", "DDOUBL", "ZL",
+    "COM", "DTCF", "DTCB", "OVSK", "TCAA", "DOUBLE", "ZQ", "DCOM", "SQUARE", "NOOP",
+];
+
+fn readers() -> &'static [&'static str]
+    ensures { map (λ name. name.now) result.now ≡ readers }
+{
+    &READERS
+}
+
+fn pair_operators() -> &'static [&'static str]
+    ensures { map (λ name. name.now) result.now ≡ pair_operators }
+{
+    &PAIR_OPERATORS
+}
+
+fn erase_operators() -> &'static [&'static str]
+    ensures { map (λ name. name.now) result.now ≡ erase_operators }
+{
+    &ERASE_OPERATORS
+}
+
+#[tactic(auto, unfolding(yayul::specs::Operators::operators))]
+fn operator_names() -> &'static [&'static str]
+    ensures { map (λ name. name.now) result.now ≡ operator_names }
+{
+    &OPERATOR_NAMES
+}
