@@ -26,10 +26,11 @@ use target::wrong_target;
 use words::{Read, ReadAhead, Std, Write, write_all};
 use workshop::{
     Bank, Form, InForm, Origin, Refusal, Summary, Unheard, Version, WorkshopFault, all_headings,
-    asm_engine, asm_with_check_words, check_engine, compare_engine, compare_only_engine, cover_and_tell, cover_program,
-    debug_extended, debug_program, explanation, may_run, parity_engine, refusal_of, report, report_no_room,
-    run_and_tell, run_program, run_with_notes, source_engine, sums_engine, trace_and_tell,
-    trace_program, upgrade_engine, words_engine, write_end,
+    asm_engine, asm_with_check_words, check_engine, compare_engine, compare_only_engine,
+    cover_and_tell, cover_program, debug_extended, debug_program, explanation, may_run,
+    parity_engine, refusal_of, report, report_no_room, run_and_tell, run_program, run_with_notes,
+    source_engine, sums_engine, trace_and_tell, trace_program, upgrade_engine, words_engine,
+    write_end,
 };
 
 /// The exit status where all is done.
@@ -172,7 +173,7 @@ fn refuse_arguments(rt: &HostRuntime, text: &[u8]) -> Result<u8, WorkshopFault> 
 
 /// `agcws asm [--sums] [--rope VERSION] SRC ROPE`. The file ROPE is made at the first write, so that a refused source leaves none. A
 /// path of the source, or of one, is refused for ROPE before anything is opened.
-fn asm(rt: &HostRuntime, matches: &ArgMatches<'_>) -> Result<u8, WorkshopFault> {
+fn asm<'a>(rt: &'a HostRuntime, matches: &'a ArgMatches<'_>) -> Result<u8, WorkshopFault> {
     let (Some(source), Some(rope)) = (matches.get_str(SOURCE), matches.get_str(ROPE)) else {
         return Ok(WRONG_ARGUMENTS);
     };

@@ -10,7 +10,7 @@ is_division r = same_name (row_of r.instruction).name (codes "DV")
 
 neither : (b c : Bool) → (b || c) ≡ false → (b ≡ false) × (c ≡ false)
 neither true c e = absurd (cc)
-neither false c e = (refl , e)
+neither false c e = (refl, e)
 
 chosen : (b : Bool) (r : Range) (o : Option Range) → is_division r ≡ false → is_division (unwrap_or o no_range) ≡ false
     → is_division (unwrap_or (cond b (Some r) o) no_range) ≡ false

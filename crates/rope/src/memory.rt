@@ -63,10 +63,10 @@ impl Rope {
         ensures ok { IfOk result (λ r. r ≡ self.now) }
         ensures err { IfErr result (λ e. e ≡ NoMemory) }
     {
-        match copied_slots(alloc, &self.slots) {
-            Ok(slots) => Ok(Rope { slots }),
-            Err(_) => Err(RopeFault::NoMemory),
-        }
+        let Ok(slots) = copied_slots(alloc, &self.slots) else {
+            return Err(RopeFault::NoMemory);
+        };
+        Ok(Rope { slots })
     }
 
     /// Whether a word stands at this place.
