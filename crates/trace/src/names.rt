@@ -59,7 +59,6 @@ impl PlaceNames {
         let positions = first_positions(alloc, &symbols)?;
         Ok(PlaceNames { symbols, positions })
     }
-
 }
 
 /// By one look.
@@ -78,7 +77,6 @@ impl Names for PlaceNames {
 impl Names for Symbols {
     ghost table = { λ symbols. symbols };
 
-    #[tactic(auto, using(crate::proofs::Finding::next_sought, crate::proofs::Finding::found_there, crate::proofs::Finding::none_left, crate::proofs::Finding::within_stands))]
     fn symbol_at(&self, place: &Linear) -> Option<&[u8]> {
         for index in 0..self.len() {
             if let Some(symbol) = self.entry(index) {
