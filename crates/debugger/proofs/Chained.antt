@@ -1,7 +1,8 @@
 -- The cells that are followed before a step, and the text of a chain link by link.
-use Rattle.std.proofs.Common.{◌≡◌, ℕ, zero, suc, ◌+◌, ◌==◌, Bool, true, false, not, ◌&&◌, ◌||◌, cond, List, [], ◌∷◌, ◌++◌, length, map, Some, None, Option, refl, sym, ap, ◌∙◌, arith, append_assoc, ◌⊎◌, inl, inr}
+use Rattle.std.proofs.Common.{◌≡◌, ℕ, zero, suc, ◌+◌, ◌==◌, Bool, true, false, not, ◌&&◌, ◌||◌, cond, List, [], ◌∷◌, ◌++◌, length, drop, get_or, ◌<◌, Some, None, Option, refl, sym, ap, ◌∙◌, arith, append_assoc, ◌⊎◌, inl, inr}
 use Rattle.std.proofs.lemmas.Bool.Decides.{nat_tests}
 use Rattle.std.proofs.lemmas.Bool.{cases_Bool}
+use Rattle.std.proofs.Math.Seq.{drop-cons}
 use Rattle.std.specs.List.{flat_map}
 use Rattle.std.specs.Ordering.{nat_cmp, eq_by_cmp}
 use Rattle.std.specs.Cmp.{nat_cmp_total}
@@ -13,7 +14,7 @@ use Rattle.cpu.specs.Chains.{cells_among, writes_at, before_step}
 use Rattle.cpu.specs.declared.spot.Spot.{Spot}
 use Rattle.cpu.specs.declared.spot.Spot.TheVariants.{Cell, InRope}
 use Rattle.cpu.proofs.Chaining.{own_source}
-use Rattle.replay.specs.Whys.{last_writer, why_steps}
+use Rattle.replay.specs.Whys.{and_then, last_writer, why_steps}
 use Rattle.debugger.specs.Whys.{CellSet, those_in, left_in, same_spot, has_spot, with_spots, reads, with_cells, cells_before, link_line, chain_text, end_from, chained_text, why_text}
 
 -- whether a cell is among some spots
@@ -76,24 +77,26 @@ left_has (c ∷ cs) cells q =
     let one = out_has cells c q (set.contains cells c) refl in
     grind (arith, nat_tests)
 
-taken_has : (cs : List ℕ) (cells : CellSet) (q : ℕ) → is_in q (those_in cs cells) ≡ (is_in q cs && set.contains cells q)
 taken_by : (c : ℕ) (cs : List ℕ) (cells : CellSet) (q : ℕ) (b : Bool) → set.contains cells c ≡ b
+    → ((others : CellSet) → is_in q (those_in cs others) ≡ (is_in q cs && set.contains others q))
     → is_in q (cond b (c ∷ those_in cs (set.remove cells c)) (those_in cs cells)) ≡ ((q == c || is_in q cs) && set.contains cells q)
-taken_by c cs cells q true h =
-    let rest = taken_has cs (set.remove cells c) q in
+taken_by c cs cells q true h later =
+    let rest = later (set.remove cells c) in
     let one = set.contains-remove nat_cmp_total cells c q in
     elim (cases_Bool (q == c)) [
       | inl same ↦ let e : q ≡ c = grind (arith, nat_tests) in let some : set.contains cells q ≡ true = ap (set.contains cells) e ∙ h in rw (same, some) refl
       | inr other ↦ let gone : eq_by_cmp nat_cmp q c ≡ false = grind (arith, nat_tests) in rw (other, rest, one, gone) refl
     ]
-taken_by c cs cells q false h =
-    let rest = taken_has cs cells q in
+taken_by c cs cells q false h later =
+    let rest = later cells in
     elim (cases_Bool (q == c)) [
       | inl same ↦ let e : q ≡ c = grind (arith, nat_tests) in let none : set.contains cells q ≡ false = ap (set.contains cells) e ∙ h in rw (rest, none) (grind (arith, nat_tests))
       | inr other ↦ rw (rest, other) refl
     ]
+
+taken_has : (cs : List ℕ) (cells : CellSet) (q : ℕ) → is_in q (those_in cs cells) ≡ (is_in q cs && set.contains cells q)
 taken_has [] cells q = refl
-taken_has (c ∷ cs) cells q = taken_by c cs cells q (set.contains cells c) refl
+taken_has (c ∷ cs) cells q = taken_by c cs cells q (set.contains cells c) refl (λ others. taken_has cs others q)
 
 has_append : (xs ys : List Spot) (q : ℕ) → has_cell (xs ++ ys) q ≡ (has_cell xs q || has_cell ys q)
 unfolding has_cell
@@ -114,11 +117,11 @@ stands_has (Cell c ∷ told) (InRope bank offset) q here has = absurd cc
 stands_has (InRope b o ∷ told) (Cell d) q here has = stands_has told (Cell d) q here has
 stands_has (InRope b o ∷ told) (InRope bank offset) q here has = absurd cc
 
-told_has : (told xs : List Spot) (q : ℕ) → has_cell (with_spots told xs) q ≡ (has_cell told q || has_cell xs q)
 told_by : (told : List Spot) (x : Spot) (xs : List Spot) (q : ℕ) (b : Bool) → has_spot told x ≡ b
+    → ((others : List Spot) → has_cell (with_spots others xs) q ≡ (has_cell others q || has_cell xs q))
     → has_cell (with_spots (cond b told (told ++ x ∷ [])) xs) q ≡ (has_cell told q || (has_cell (x ∷ []) q || has_cell xs q))
-told_by told x xs q true here =
-    told_has told xs q
+told_by told x xs q true here more =
+    more told
     ∙ same_truth _ _
     (λ h. elim (either (has_cell told q) (has_cell xs q) h) [
       | inl old ↦ left_of _ _ old
@@ -126,16 +129,19 @@ told_by told x xs q true here =
     ])
     (λ h. elim (either (has_cell told q) _ h) [
       | inl old ↦ left_of _ _ old
-      | inr more ↦ elim (either (has_cell (x ∷ []) q) (has_cell xs q) more) [
+      | inr later ↦ elim (either (has_cell (x ∷ []) q) (has_cell xs q) later) [
         | inl one ↦ left_of _ _ (stands_has told x q here one)
         | inr new ↦ right_of (has_cell told q) _ new
       ]
     ])
-told_by told x xs q false here =
-    told_has (told ++ x ∷ []) xs q ∙ ap (λ b. b || has_cell xs q) (has_append told (x ∷ []) q) ∙ or_assoc (has_cell told q) (has_cell (x ∷ []) q) (has_cell xs q)
+told_by told x xs q false here more =
+    more (told ++ x ∷ []) ∙ ap (λ b. b || has_cell xs q) (has_append told (x ∷ []) q) ∙ or_assoc (has_cell told q) (has_cell (x ∷ []) q) (has_cell xs q)
+
+told_has : (told xs : List Spot) (q : ℕ) → has_cell (with_spots told xs) q ≡ (has_cell told q || has_cell xs q)
+unfolding has_cell
 told_has told [] q = same_truth _ _ (λ h. left_of _ _ h) (λ h. elim (either (has_cell told q) false h) [ | inl old ↦ old | inr none ↦ absurd cc ])
 told_has told (x ∷ xs) q =
-    told_by told x xs q (has_spot told x) refl
+    told_by told x xs q (has_spot told x) refl (λ others. told_has others xs q)
     ∙ ap (λ b. has_cell told q || b) (sym (has_append (x ∷ []) xs q))
 
 -- the cells from which cells come
@@ -212,6 +218,7 @@ module _ (k : Link) (xs : List Spot) (q : ℕ) where
   told = those_in (targets k) (cells_among xs)
 
   before_is : set.contains (cells_before k (cells_among xs)) q ≡ ((not (is_in q (targets k)) && has_cell xs q) || has_cell (flat_map (λ c. sources k (Cell c)) (those_in (targets k) (cells_among xs))) q)
+  unfolding has_cell
   before_is =
       added_has (left_in (targets k) (cells_among xs)) (reads k (those_in (targets k) (cells_among xs))) q
       ∙ ap (λ b. b || has_cell (reads k (those_in (targets k) (cells_among xs))) q) (left_has (targets k) (cells_among xs) q ∙ ap (λ b. not (is_in q (targets k)) && b) (among_has xs q))
@@ -236,7 +243,7 @@ module _ (k : Link) (xs : List Spot) (q : ℕ) where
         | inr kept ↦
           let own = own_source k (Cell f.0) kept in
           let is : q ≡ f.0 = own_has q f.0 (sym (ap (λ (ys : List Spot). has_cell ys q) own) ∙ f.2) in
-          left_of _ _ (both _ _ (rw (is, kept) refl) (rw is f.1))
+          left_of _ _ (both (not (is_in q (targets k))) (has_cell xs q) (rw (is, kept) refl) (rw is f.1))
       ]
 
 pub follows_on : (k : Link) (xs : List Spot) → cells_before k (cells_among xs) ≡ cells_among (flat_map (sources k) xs)
@@ -244,9 +251,20 @@ follows_on k xs = set.same_set nat_cmp_total set.nat_cmp-IsAntisymmetric _ _ (λ
     before_is k xs q ∙ same_truth _ _ (to k xs q) (from k xs q) ∙ sym (among_has (flat_map (sources k) xs) q))
 
 -- spots after spots
-pub with_more : (told xs ys : List Spot) → with_spots told (xs ++ ys) ≡ with_spots (with_spots told xs) ys
-with_more told [] ys = refl
-with_more told (x ∷ xs) ys = with_more (cond (has_spot told x) told (told ++ x ∷ [])) xs ys
+with_more : (here xs ys : List Spot) → with_spots here (xs ++ ys) ≡ with_spots (with_spots here xs) ys
+with_more here [] ys = refl
+with_more here (x ∷ xs) ys = with_more (cond (has_spot here x) here (here ++ x ∷ [])) xs ys
+
+-- what was read for the cells up to one, and for that cell
+pub read_more : (k : Link) (cs : List ℕ) (i c : ℕ) (old new whole : List Spot) → i < length cs → c ≡ get_or cs i c → new ≡ with_spots old (sources k (Cell c))
+    → with_spots old (flat_map (λ d. sources k (Cell d)) (drop i cs)) ≡ whole → with_spots new (flat_map (λ d. sources k (Cell d)) (drop (i + 1) cs)) ≡ whole
+read_more k cs i c old new whole within is read so_far =
+    let next : suc i ≡ i + 1 = omega arith in
+    let here : drop i cs ≡ c ∷ drop (i + 1) cs = drop-cons cs i c within ∙ ap (λ d. d ∷ drop (suc i) cs) (sym is) ∙ ap (λ n. c ∷ drop n cs) next in
+    ap (λ (xs : List Spot). with_spots xs (flat_map (λ d. sources k (Cell d)) (drop (i + 1) cs))) read
+    ∙ sym (with_more old (sources k (Cell c)) (flat_map (λ d. sources k (Cell d)) (drop (i + 1) cs)))
+    ∙ ap (λ (ds : List ℕ). with_spots old (flat_map (λ d. sources k (Cell d)) ds)) (sym here)
+    ∙ so_far
 
 -- the text of a chain
 module _ (symbols : SymbolTable) (scenario : Scenario) (p : ℕ) (xs : List Spot) where
@@ -256,7 +274,10 @@ module _ (symbols : SymbolTable) (scenario : Scenario) (p : ℕ) (xs : List Spot
 
   pub why_none : (k : ℕ) → last_writer scenario xs p ≡ None → why_text symbols scenario (suc k) p xs ≡ end_from symbols false xs
   unfolding why_text why_steps
-  why_none k none = rw none refl
+  why_none k none =
+      let short : (0 == suc k) ≡ false = grind (arith, nat_tests) in
+      ap (λ (o : Option ℕ). chained_text symbols scenario (suc k) xs (and_then o (λ t. why_steps scenario k t (before_step scenario t xs)))) none
+      ∙ ap (λ b. end_from symbols b xs) short
 
   pub why_some : (k t : ℕ) → last_writer scenario xs p ≡ Some t → why_text symbols scenario (suc k) p xs ≡ link_line symbols scenario t xs ++ why_text symbols scenario k t (before_step scenario t xs)
   unfolding why_text why_steps

@@ -154,7 +154,7 @@ module _ (s : Talk) (whole : List ℕ) (most : ℕ) (rest : List ℕ) (now : ℕ
 
 -- what lines cost
 efforts-append : (read : Reading) (xs ys : List (List ℕ)) → efforts read (xs ++ ys) ≡ efforts read xs + efforts read ys
-efforts-append read [] ys = refl
+efforts-append read [] ys = omega arith
 efforts-append read (x ∷ xs) ys = let rest = efforts-append read xs ys in omega arith
 
 pub efforts-push : (read : Reading) (xs : List (List ℕ)) (line : List ℕ) → efforts read (xs ++ line ∷ []) ≡ efforts read xs + effort (read line)

@@ -1,5 +1,5 @@
 -- The lines of `why`, one after another.
-use Rattle.std.proofs.Common.{◌≡◌, ℕ, zero, suc, ◌+◌, ◌-◌, ◌*◌, ◌<◌, ◌≤◌, List, [], ◌++◌, Option, Some, None, Result, Ok, Err, refl, sym, ap, ◌∙◌, append_assoc, append-nil, arith}
+use Rattle.std.proofs.Common.{◌≡◌, true, false, ℕ, zero, suc, ◌+◌, ◌-◌, ◌*◌, ◌<◌, ◌≤◌, List, [], ◌++◌, Option, Some, None, Result, Ok, Err, refl, sym, ap, ◌∙◌, append_assoc, append-nil, arith}
 use Rattle.words.specs.Devices.{Writes, WritesBeginning}
 use Rattle.words.specs.declared.device.WriteFailed.{WriteFailed}
 use Rattle.words.proofs.Texts.{append-then, beginning-after, beginning-longer}
@@ -8,7 +8,7 @@ use Rattle.cpu.specs.State.{Scenario}
 use Rattle.cpu.specs.Chains.{cells_among, before_step}
 use Rattle.cpu.specs.declared.spot.Spot.{Spot}
 use Rattle.replay.specs.Whys.{last_writer}
-use Rattle.debugger.specs.Whys.{CellSet, why_text, link_line, end_from}
+use Rattle.debugger.specs.Whys.{CellSet, why_text, last_text, target_spots, link_line, end_from}
 use Rattle.debugger.specs.ToldLinks.{ToldLinks}
 use Rattle.debugger.proofs.Chained.{why_zero, why_none, why_some}
 
@@ -56,8 +56,23 @@ module _ (symbols : SymbolTable) (scenario : Scenario) (whole old now : List ℕ
   told_part new line step some found is w =
       rw (more step some found, ← is t.spots t.pending_is) (beginning-after old now new t.text _ t.written (beginning-longer now new line _ w))
 
+-- one text after another
+pub two_parts : (old now new text rest whole : List ℕ) (result : Result (Unit {0}) WriteFailed) → whole ≡ text ++ rest → now ≡ old ++ text → Writes now new rest result → Writes old new whole result
+two_parts old now new text rest whole (Ok x) is first second = append-then old now new text rest first second ∙ ap (λ (y : List ℕ). old ++ y) (sym is)
+two_parts old now new text rest whole (Err failed) is first second = rw is (beginning-after old now new text rest first second)
+
+-- what the step did that led to p steps, which are one at least
+pub last_lines : (symbols : SymbolTable) (scenario : Scenario) (p : ℕ) → 0 < p
+    → last_text symbols scenario p ≡ link_line symbols scenario (p - 1) (target_spots scenario (p - 1)) ++ end_from symbols true (before_step scenario (p - 1) (target_spots scenario (p - 1)))
+unfolding last_text
+last_lines symbols scenario zero h = absurd (omega (arith, h))
+last_lines symbols scenario (suc t) h =
+    let e : suc t - 1 ≡ t = omega arith in
+    let xs = target_spots scenario t in
+    rw e (ap (λ (y : List ℕ). y ++ end_from symbols true (before_step scenario t xs)) (append-nil (link_line symbols scenario t xs)))
+
 -- what a link costs: a search, and two looks
 pub cost_more : (first at sought shown n t left links : ℕ) → 0 < left → at + 4 * left * n ≤ first + 4 * links * n → sought + 2 * t < at + 2 * n → shown ≤ sought + 2 * (n - t) → t ≤ n
     → shown + 4 * (left - 1) * n ≤ first + 4 * links * n
 cost_more first at sought shown n t zero links some so_far search look within = absurd (omega (arith, some))
-cost_more first at sought shown n t (suc left) links some so_far search look within = omega arith
+cost_more first at sought shown n t (suc left) links some so_far search look within = let e : suc left - 1 ≡ left = omega arith in rw e (omega arith)

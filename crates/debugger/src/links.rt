@@ -1,9 +1,10 @@
 //! The steps of a chain: what each has written, and what it read for that.
 
-ghost use Rattle.std.specs.Prelude.{◌≡◌, ◌+◌, ◌*◌, ◌≤◌, ◌++◌, length, filter};
+ghost use Rattle.std.specs.Prelude.{◌≡◌, ◌+◌, ◌*◌, ◌≤◌, ◌++◌, length, filter, map};
 ghost use Rattle.std.specs.List.{flat_map};
 ghost use Rattle.arrayvec.specs.ArrayVec.{array_vec_len};
 ghost use Rattle.cpu.specs.State.{FitsRun};
+ghost use Rattle.cpu.specs.Chains.{cells_among};
 ghost use Rattle.cpu.specs.Links.{link, targets, sources};
 ghost use Rattle.cpu.specs.declared.spot.Spot.TheVariants as spot;
 ghost use Rattle.debugger.specs.Whys.{those_in, left_in, same_spot, has_spot, with_spots, reads, with_cells, cells_before, cells_of};
@@ -68,7 +69,6 @@ fn take_out(cells: &[Cell], pending: &mut CellSet) -> Targets
 }
 
 /// What the next step of a machine reads for some cells that it writes, each spot once.
-#[tactic(auto, using(crate::proofs::Chained::with_more))]
 fn spots_read(processor: &Processor, machine: &Machine, cells: &[Cell]) -> Spots
     requires fits { FitsRun processor.now.scenario machine.now }
     requires few { length cells.now ≤ 10 }
@@ -88,18 +88,18 @@ fn push_spots(spots: &mut Spots, more: &[Spot])
     ensures len { array_vec_len spots.new ≤ array_vec_len spots.old + length more.now }
 {
     for spot in more {
-        if !has_spot(spots.as_slice(), *spot) {
+        if !has_spot(spots.as_slice(), spot) {
             spots.push(*spot);
         }
     }
 }
 
 /// Whether a spot is among some.
-fn has_spot(spots: &[Spot], spot: Spot) -> bool
-    ensures { result ≡ has_spot spots.now spot }
+fn has_spot(spots: &[Spot], spot: &Spot) -> bool
+    ensures { result ≡ has_spot spots.now spot.now }
 {
     for other in spots {
-        if is_same(*other, spot) {
+        if is_same(other, spot) {
             return true;
         }
     }
@@ -107,15 +107,15 @@ fn has_spot(spots: &[Spot], spot: Spot) -> bool
 }
 
 /// Whether two spots are one.
-fn is_same(one: Spot, other: Spot) -> bool
-    ensures { result ≡ same_spot one other }
+fn is_same(one: &Spot, other: &Spot) -> bool
+    ensures { result ≡ same_spot one.now other.now }
 {
-    match one {
-        Spot::Cell(cell) => match other {
+    match *one {
+        Spot::Cell(cell) => match *other {
             Spot::Cell(same) => cell == same,
             Spot::InRope(..) => false,
         },
-        Spot::InRope(bank, offset) => match other {
+        Spot::InRope(bank, offset) => match *other {
             Spot::Cell(_) => false,
             Spot::InRope(same, place) => bank == same && offset == place,
         },
@@ -134,8 +134,20 @@ fn follow(pending: &mut CellSet, spots: &[Spot])
     }
 }
 
+/// Cells as a set.
+pub(crate) fn all_among(cells: &[Cell]) -> CellSet
+    ensures { result ≡ cells_among (map (λ c. spot.Cell c) cells.now) }
+{
+    let mut among = CellSet::new();
+    let mut left = cells.len();
+    while left > 0 {
+        left -= 1;
+        among.insert(cells[left]);
+    }
+    among
+}
+
 /// The cells of a set, in their order.
-#[tactic(auto, using(crate::proofs::Counted::cell_passed, crate::proofs::Counted::cell_taken), unfolding(crate::specs::Whys::cells_of))]
 pub(crate) fn cells_of(pending: &CellSet) -> Cells
     ensures { result.items ≡ cells_of pending.now }
 {

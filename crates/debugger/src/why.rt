@@ -1,6 +1,6 @@
 //! `why`: how a word came to be what it is.
 
-ghost use Rattle.std.specs.Prelude.{◌≡◌, List, ◌+◌, ◌-◌, ◌*◌, ◌<◌, ◌≤◌, ◌++◌, true};
+ghost use Rattle.std.specs.Prelude.{◌≡◌, List, ◌+◌, ◌-◌, ◌*◌, ◌<◌, ◌≤◌, ◌++◌, ◌^◌, true};
 ghost use Rattle.words.specs.Devices.{Writes, failures_after};
 ghost use Rattle.cpu.specs.Run.{run};
 ghost use Rattle.cpu.specs.Chains.{cells_among, link_at, before_step};
@@ -12,7 +12,7 @@ ghost use Rattle.debugger.specs.Executions.{HasLooked};
 
 use crate::desk::Desk;
 use crate::link_texts::{LinkLine, Part, Piece, by_line, cells_part, end_text, kind_part, reads_part};
-use crate::links::{Link, Targets, link_of};
+use crate::links::{Link, Targets, all_among, link_of};
 use commands::Subject;
 use cpu::{Cell, CellSet};
 use replay::{Keeper, Session};
@@ -105,13 +105,7 @@ fn cells_written<K: Keeper>(session: &mut Session<K>, step: u64) -> CellSet
     ensures looked { HasLooked session.old session.new (session.old.n - step) }
 {
     match session.with_present(step) {
-        Ok((machine, _, processor)) => {
-            let mut cells = CellSet::new();
-            for cell in processor.targets(machine).as_slice().iter().rev() {
-                cells.insert(*cell);
-            }
-            cells
-        }
+        Ok((machine, _, processor)) => all_among(processor.targets(machine).as_slice()),
         Err(_) => unreachable!(),
     }
 }
@@ -131,7 +125,8 @@ fn link_line<K: Keeper>(
     step: u64,
     pending: &mut CellSet,
 ) -> LinkLine
-    requires { step < session.old.n }
+    requires within { step < session.old.n }
+    requires fits { step + 1 < 2 ^ 64 }
     ensures line { (xs : List Spot) → pending.old ≡ cells_among xs → result.items ≡ link_line symbols.now session.old.scenario step xs }
     ensures pending { (xs : List Spot) → pending.old ≡ cells_among xs → pending.new ≡ cells_among (before_step session.old.scenario step xs) }
     ensures looked { HasLooked session.old session.new (2 * (session.old.n - step)) }

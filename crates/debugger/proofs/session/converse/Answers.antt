@@ -1,4 +1,4 @@
-use Rattle.std.proofs.Common.{◌≡◌, ◌∙◌, ◌+◌, ◌++◌, ◌∷◌, [], true, false, Ok, refl, sym, ap, arith, rules}
+use Rattle.std.proofs.Common.{◌≡◌, ℕ, ◌∙◌, ◌+◌, ◌++◌, ◌∷◌, [], true, false, Ok, refl, sym, ap, arith, rules}
 use Rattle.cpu.specs.Run.{outs}
 use Rattle.cpu.proofs.RunLaws.{outs-zero}
 use Rattle.debugger.specs.Replies.{last_of, tail_length}
