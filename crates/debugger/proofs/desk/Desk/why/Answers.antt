@@ -1,4 +1,5 @@
 use Rattle.std.proofs.Common.{◌≡◌, ℕ, ◌<◌, ◌≤◌, ◌∙◌, Some, None, true, false, List, ap, arith}
+use Rattle.std.proofs.lemmas.Result.{err_from_is_err_and}
 use Rattle.cpu.specs.State.{Scenario}
 use Rattle.cpu.specs.Chains.{cells_among, before_step}
 use Rattle.replay.specs.View.{SessionView}
@@ -20,11 +21,12 @@ pub returns-in_err-write_all-clause-writes : goal.returns-in_err-write_all-claus
 returns-in_err-write_all-clause-writes g c = λ told.
     let far = c.loop-left.invariant in
     let scene = ap (λ (v : SessionView). v.scenario) c.seek_writer.ensures.after.same ∙ far.scenario in
-    told_part c.args.symbols.now c.args.session.now.scenario _ _ _ c.loop-left.left c.loop-left.before c.loop-left.pending (far.told told) _ c.as_slice-in-loop-left.result.now c.in-Some.step
+    let failed = err_from_is_err_and c.from_residual.result c.from_residual.ensures.1 in
+    rw failed.1 (told_part c.args.symbols.now c.args.session.now.scenario _ _ _ c.loop-left.left c.loop-left.before c.loop-left.pending (far.told told) _ c.as_slice-in-loop-left.result.now c.in-Some.step
     (omega (arith, c.loop-left-test.true))
     (λ xs is. c.in-Some.ensures.writer xs is ∙ ap (λ (q : Scenario). last_writer q xs c.loop-left.before) far.scenario)
     (λ xs is. c.as_slice-in-loop-left.ensures.value ∙ c.link_line.ensures.line xs is ∙ ap (λ (q : Scenario). link_line c.args.symbols.now q c.in-Some.step xs) scene)
-    (c.in_err-write_all.ensures.written told)
+    (c.in_err-write_all.ensures.written told))
 
 pub loop-left-preserved : goal.loop-left-preserved
 loop-left-preserved g c =
