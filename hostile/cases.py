@@ -49,7 +49,7 @@ CALLS = {
     ],
 }
 
-# A session of 34 commands, two of which add an input, and three of which only an extended session has.
+# A session of 37 commands, two of which add an input, and six of which only an extended session has.
 ADDED = b"add 5000 TIME1 PINC"
 COMMANDS = b"""run 100
 break at FIVE
@@ -73,6 +73,9 @@ goto 3
 on 40
 regs all
 until 400
+why
+why 25
+why CH010 40
 clear
 run 900
 mem 25

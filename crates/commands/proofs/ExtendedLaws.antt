@@ -26,10 +26,10 @@ none-taken (entry ∷ more) name texts none =
       | inr other ↦ rw other (none-taken more name texts none.1)
     ]
 
--- two fields are too many after any name
-pub two-too-many : (name a b : List ℕ) (more : List (List ℕ)) → option_and_then (λ form. form (a ∷ b ∷ more)) (value_in extended_forms name) ≡ None
+-- three fields are too many after any name
+pub three-too-many : (symbols : SymbolTable) (name a b c : List ℕ) (more : List (List ℕ)) → option_and_then (λ form. form (a ∷ b ∷ c ∷ more)) (value_in (extended_forms symbols) name) ≡ None
 unfolding extended_forms
-two-too-many name a b more = none-taken extended_forms name (a ∷ b ∷ more) (refl, (refl, (refl, (refl, (refl, (refl, tt))))))
+three-too-many symbols name a b c more = none-taken (extended_forms symbols) name (a ∷ b ∷ c ∷ more) (refl, (refl, (refl, (refl, (refl, (refl, (refl, tt)))))))
 
 -- what a line asks for that is kept whole
 pub extended-kept : (symbols : SymbolTable) (line text : List ℕ) → Some text ≡ kept line → extended_in symbols text (fields text) ≡ extended_request_of symbols line

@@ -13,14 +13,16 @@ use Rattle.symbols.specs.Values.{SymbolTable}
 use Rattle.commands.specs.Commands.{forms}
 use Rattle.commands.specs.Extended.{extended_request_of, extended_forms}
 use Rattle.commands.specs.Usages.{usages}
+use Rattle.commands.specs.Subjects.{registers}
+use Rattle.commands.specs.declared.subject.Subject.TheVariants as subject
 use Rattle.commands.specs.declared.command.Command.TheVariants.{Registers, Memory, Clear, Step, Add}
 use Rattle.commands.specs.declared.command.Request.TheVariants.{Nothing, TooLong, WrongCounter, Known}
 use Rattle.commands.specs.declared.extended.ExtendedRequest.{ExtendedRequest}
-use Rattle.commands.specs.declared.extended.ExtendedRequest.TheVariants.{Plain, Says, Help, Breaks, ClearOne, On, AllRegisters, Until}
+use Rattle.commands.specs.declared.extended.ExtendedRequest.TheVariants.{Plain, Says, Help, Breaks, ClearOne, On, AllRegisters, Until, WhyStep, Why}
 
 -- a place in fixed memory, and a number that is no place
 abbrev symbols : SymbolTable
-symbols = (codes "FIVE", value.Fixed 2 5) ∷ (codes "BIG", value.Num 0o10000) ∷ []
+symbols = (codes "FIVE", value.Fixed 2 5) ∷ (codes "BIG", value.Num 0o10000) ∷ (codes "SUM", value.Erasable 0o101) ∷ (codes "Q", value.Erasable 0o102) ∷ (codes "CH12", value.Fixed 2 6) ∷ []
 
 abbrev asked : List (List ℕ) → List ExtendedRequest
 asked lines = map (extended_request_of symbols) lines
@@ -42,6 +44,27 @@ echoes : asked (codes "echo DONE 5" ∷ codes " echo  two # three" ∷ codes "ec
     ≡ Says (codes "DONE 5\n") ∷ Says (codes " two # three\n") ∷ Says (codes "\n") ∷ Says (codes "\n") ∷ []
 unfolding extended_request_of extended_forms usages forms runs parsed counters sequences
 echoes = refl
+
+-- what `why` is about: an erasable place, and where no symbol has the name a register or a channel; and how many links it tells
+whys : asked (codes "why" ∷ codes "why SUM" ∷ codes "why SUM 3" ∷ codes "why 101 999" ∷ codes "why A" ∷ codes "why BB 0" ∷ codes "why Q" ∷ codes "why CH010" ∷ codes "why CH7 2" ∷ [])
+    ≡ WhyStep ∷ Why (subject.Place 0o101) 16 ∷ Why (subject.Place 0o101) 3 ∷ Why (subject.Place 0o101) 999 ∷ Why (subject.Place 0) 16 ∷ Why (subject.Place 6) 0 ∷ Why (subject.Place 0o102) 16 ∷ Why (subject.Channel 8) 16 ∷ Why (subject.Channel 7) 2 ∷ []
+unfolding extended_request_of extended_forms usages forms runs parsed counters sequences registers
+whys = refl
+
+wrong_whys : asked (codes "why FIVE" ∷ codes "why CH12" ∷ codes "why SUMM" ∷ codes "why SUMM 3" ∷ codes "why SUM x" ∷ codes "why SUM 1000" ∷ codes "why SUM 3 4" ∷ codes "why CH1000" ∷ codes "why CH" ∷ [])
+    ≡ map (λ text. Says (codes "E50 COMMAND " ++ text))
+    (codes "why takes nothing, a place, or a place and a count\n"
+    ∷ codes "why takes nothing, a place, or a place and a count\n"
+    ∷ codes "no symbol SUMM\n"
+    ∷ codes "no symbol SUMM\n"
+    ∷ codes "why takes nothing, a place, or a place and a count\n"
+    ∷ codes "why takes nothing, a place, or a place and a count\n"
+    ∷ codes "why takes nothing, a place, or a place and a count\n"
+    ∷ codes "no symbol CH1000\n"
+    ∷ codes "no symbol CH\n"
+    ∷ [])
+unfolding extended_request_of extended_forms usages forms runs parsed counters sequences registers
+wrong_whys = refl
 
 -- refusals say which field they mean
 refusals : asked (codes "mem FIV" ∷ codes "break at FIV" ∷ codes "mem BIG" ∷ codes "mem FIVE 2" ∷ codes "last FIVE" ∷ codes "break chan 1000 5" ∷ codes "until" ∷ codes "regs some" ∷ codes "regs all all" ∷ codes "stop" ∷ codes "help stop" ∷ codes "clear x" ∷ codes "add 12 TIME1" ∷ [])

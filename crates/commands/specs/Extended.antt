@@ -1,16 +1,17 @@
 -- What a line of an extended session asks for: the commands of any session, some more, and refusals in words.
-use Rattle.std.specs.Prelude.{ℕ, ◌+◌, nat_lt, ◌&&◌, ◌||◌, not, Bool, List, [], ◌∷◌, ◌++◌, length, drop, Option, None, Some, is_some, codes, if◌then◌else◌, option_and_then}
+use Rattle.std.specs.Prelude.{ℕ, ◌+◌, nat_lt, nat_le, ◌&&◌, ◌||◌, not, Bool, List, [], ◌∷◌, ◌++◌, length, drop, Option, None, Some, is_some, codes, if◌then◌else◌, option_and_then}
 use Rattle.std.specs.Option.{option_map}
 use Rattle.agc_text.specs.Fields.{Piece, fields, texts}
 use Rattle.agc_text.specs.Tables.{same_name, value_in}
 use Rattle.symbols.specs.Values.{SymbolTable}
 use Rattle.commands.specs.Commands.{count_in, place_in, request_in}
 use Rattle.commands.specs.Lines.{command_length}
+use Rattle.commands.specs.Subjects.{subject_in}
 use Rattle.commands.specs.Usages.{Usage, usages, help_line}
 use Rattle.commands.specs.declared.command.Request.{Request}
 use Rattle.commands.specs.declared.command.Request.TheVariants.{Nothing, TooLong, Unknown, WrongCounter, Known}
 use Rattle.commands.specs.declared.extended.ExtendedRequest.{ExtendedRequest}
-use Rattle.commands.specs.declared.extended.ExtendedRequest.TheVariants.{Plain, Says, Help, Breaks, ClearOne, On, AllRegisters, Until}
+use Rattle.commands.specs.declared.extended.ExtendedRequest.TheVariants.{Plain, Says, Help, Breaks, ClearOne, On, AllRegisters, Until, WhyStep, Why}
 
 -- the most steps that a command can name
 abbrev pub most_count : ℕ
@@ -46,11 +47,29 @@ with_field_or alone read request (field ∷ more) = with_field read request (fie
 abbrev pub help_in : List ℕ → Option (List ℕ)
 help_in name = option_map (λ usage. help_line (name, usage)) (value_in usages name)
 
+-- the most links that `why` can name, and how many it tells where none is named
+abbrev pub most_links : ℕ
+most_links = 999
+
+abbrev pub usual_links : ℕ
+usual_links = 16
+
+abbrev pub links_in : List ℕ → Option ℕ
+links_in field = option_and_then (λ k. if nat_le k most_links then Some k else None) (count_in field)
+
+-- no field; what has a word; or this and a number of links
+abbrev pub why_form : SymbolTable → ExtendedForm
+why_form symbols [] = Some WhyStep
+why_form symbols (field ∷ []) = option_map (λ subject. Why subject usual_links) (subject_in symbols field)
+why_form symbols (field ∷ count ∷ []) = option_and_then (λ subject. option_map (λ k. Why subject k) (links_in count)) (subject_in symbols field)
+why_form symbols (field ∷ count ∷ next ∷ more) = None
+
 -- the commands that an extended session has besides, but for `echo`
-unfoldable pub extended_forms : List (List ℕ × ExtendedForm)
-extended_forms =
+unfoldable pub extended_forms : SymbolTable → List (List ℕ × ExtendedForm)
+extended_forms symbols =
     (codes "on", with_field_or (On most_count) count_in (λ k. On k))
     ∷ (codes "until", with_field count_in (λ cycles. Until cycles))
+    ∷ (codes "why", why_form symbols)
     ∷ (codes "regs", with_word (codes "all") AllRegisters)
     ∷ (codes "breaks", with_none Breaks)
     ∷ (codes "clear", with_field count_in (λ i. ClearOne i))
@@ -60,8 +79,10 @@ extended_forms =
 -- the field that names a place
 abbrev pub place_field : List ℕ → List (List ℕ) → Option (List ℕ)
 place_field name [] = None
-place_field name (field ∷ []) = if same_name name (codes "mem") || same_name name (codes "last") then Some field else None
-place_field name (kind ∷ field ∷ more) = if same_name name (codes "break") && not (same_name kind (codes "chan")) then Some field else None
+place_field name (field ∷ []) = if same_name name (codes "mem") || same_name name (codes "last") || same_name name (codes "why") then Some field else None
+place_field name (kind ∷ field ∷ more) =
+    if same_name name (codes "why") then Some kind
+    else if same_name name (codes "break") && not (same_name kind (codes "chan")) then Some field else None
 
 -- it names none, and is no symbol
 abbrev pub is_no_symbol : SymbolTable → List ℕ → Bool
@@ -113,7 +134,7 @@ abbrev pub extended_in : SymbolTable → List ℕ → List Piece → ExtendedReq
 extended_in symbols line [] = Plain Nothing
 extended_in symbols line (name ∷ more) =
     if same_name name.text (codes "echo") then echoed line (name ∷ more)
-    else or_plain (option_and_then (λ form. form (texts more)) (value_in extended_forms name.text)) (in_words symbols name.text (texts more) (request_in symbols line (name ∷ more)))
+    else or_plain (option_and_then (λ form. form (texts more)) (value_in (extended_forms symbols) name.text)) (in_words symbols name.text (texts more) (request_in symbols line (name ∷ more)))
 
 -- what a line asks for
 unfoldable pub extended_request_of : SymbolTable → List ℕ → ExtendedRequest

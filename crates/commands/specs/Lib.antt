@@ -1,4 +1,5 @@
 pub mod Commands
 pub mod Lines
+pub mod Subjects
 pub mod Usages
 pub mod Extended

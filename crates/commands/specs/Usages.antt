@@ -28,6 +28,7 @@ usages =
     ∷ (codes "mem", usage (codes "a place") (codes "the word there"))
     ∷ (codes "chan", usage (codes "a channel") (codes "the word there"))
     ∷ (codes "last", usage (codes "an erasable place") (codes "the step that changed the word there last"))
+    ∷ (codes "why", usage (codes "nothing, a place, or a place and a count") (codes "the steps that made the word there, last first"))
     ∷ (codes "sym", usage (codes "a name") (codes "the symbol's value"))
     ∷ (codes "changed", usage (codes "a step") (codes "the erasable places that differ since then"))
     ∷ (codes "tail", usage (codes "nothing") (codes "the last channel lines"))

@@ -5,7 +5,7 @@ ghost use Rattle.std.specs.Option.{option_map};
 ghost use Rattle.agc_text.specs.Fields.{runs, texts, fields};
 ghost use Rattle.agc_text.specs.Tables.{value_in};
 ghost use Rattle.commands.specs.Lines.{kept};
-ghost use Rattle.commands.specs.Extended.{extended_forms, help_in, place_field, is_no_symbol, missing_symbol, refusal_line, in_words, echoed, extended_in, extended_request_of};
+ghost use Rattle.commands.specs.Extended.{extended_forms, help_in, links_in, place_field, is_no_symbol, missing_symbol, refusal_line, in_words, echoed, extended_in, extended_request_of};
 
 use crate::command::Request;
 use crate::fields::count_in;
@@ -13,12 +13,19 @@ use crate::line::CommandLine;
 use crate::phrase::Phrase;
 use crate::places::place_in;
 use crate::request::request_in;
+use crate::subject::{Subject, subject_in};
 use crate::usage::{help_of, usage_of};
 use agc_text::{before_comment, next_field, split_field};
 use symbols::Symbols;
 
 /// The most steps that a command can name.
 pub const MOST_COUNT: u64 = 999_999_999_999_999;
+
+/// The most links that `why` can name.
+pub const MOST_LINKS: u64 = 999;
+
+/// How many links `why` tells where none is named.
+const USUAL_LINKS: u64 = 16;
 
 /// What a line of an extended session asks for.
 #[derive(Drop)]
@@ -39,6 +46,10 @@ pub enum ExtendedRequest {
     Until(u64),
     /// All registers, with what waits and what is asked for.
     AllRegisters,
+    /// What the step did that led to the position.
+    WhyStep,
+    /// How the word of something came to be what it is, by at most so many steps.
+    Why(Subject, u64),
 }
 
 /// What a line of an extended session asks for, where the symbols of a program stand.
@@ -62,7 +73,7 @@ fn extended_in(symbols: &Symbols, line: &[u8]) -> ExtendedRequest
     if name == "echo".as_bytes() {
         return echoed(line);
     }
-    match command_in(name, rest) {
+    match command_in(symbols, name, rest) {
         Some(request) => request,
         None => in_words(symbols, name, rest, request_in(symbols, line)),
     }
@@ -86,26 +97,32 @@ fn echoed(line: &[u8]) -> ExtendedRequest
 }
 
 // The request of a name that no plain session has, and of the fields of what follows it.
-fn command_in(name: &[u8], rest: &[u8]) -> Option<ExtendedRequest>
+fn command_in(symbols: &Symbols, name: &[u8], rest: &[u8]) -> Option<ExtendedRequest>
     requires { All (λ field. length field ≤ 80) (texts (runs rest.now)) }
-    ensures { result ≡ option_and_then (λ form. form (texts (runs rest.now))) (value_in extended_forms name.now) }
+    ensures { result ≡ option_and_then (λ form. form (texts (runs rest.now))) (value_in (extended_forms symbols.now) name.now) }
 {
     let Some((field, rest)) = split_field(rest) else {
-        return command_alone(name);
+        return command_alone(symbols, name);
+    };
+    let Some((second, rest)) = split_field(rest) else {
+        return command_of_one(symbols, name, field);
     };
     match split_field(rest) {
         Some(_) => None,
-        None => command_of_one(name, field),
+        None => command_of_two(symbols, name, field, second),
     }
 }
 
 // The request of a name alone.
 #[tactic(auto, unfolding(crate::specs::Extended::extended_forms))]
-fn command_alone(name: &[u8]) -> Option<ExtendedRequest>
-    ensures { result ≡ option_and_then (λ form. form []) (value_in extended_forms name.now) }
+fn command_alone(symbols: &Symbols, name: &[u8]) -> Option<ExtendedRequest>
+    ensures { result ≡ option_and_then (λ form. form []) (value_in (extended_forms symbols.now) name.now) }
 {
+    let _symbols = symbols;
     if name == "on".as_bytes() {
         Some(ExtendedRequest::On(MOST_COUNT))
+    } else if name == "why".as_bytes() {
+        Some(ExtendedRequest::WhyStep)
     } else if name == "breaks".as_bytes() {
         Some(ExtendedRequest::Breaks)
     } else if name == "help".as_bytes() {
@@ -117,14 +134,17 @@ fn command_alone(name: &[u8]) -> Option<ExtendedRequest>
 
 // The request of a name and one field.
 #[tactic(auto, unfolding(crate::specs::Extended::extended_forms))]
-fn command_of_one(name: &[u8], field: &[u8]) -> Option<ExtendedRequest>
+fn command_of_one(symbols: &Symbols, name: &[u8], field: &[u8]) -> Option<ExtendedRequest>
     requires { length field.now ≤ 80 }
-    ensures { result ≡ option_and_then (λ form. form (field.now ∷ [])) (value_in extended_forms name.now) }
+    ensures { result ≡ option_and_then (λ form. form (field.now ∷ [])) (value_in (extended_forms symbols.now) name.now) }
 {
     if name == "on".as_bytes() {
         count_in(field).map(ExtendedRequest::On)
     } else if name == "until".as_bytes() {
         count_in(field).map(ExtendedRequest::Until)
+    } else if name == "why".as_bytes() {
+        let subject = subject_in(symbols, field)?;
+        Some(ExtendedRequest::Why(subject, USUAL_LINKS))
     } else if name == "regs".as_bytes() {
         (field == "all".as_bytes()).then_some(ExtendedRequest::AllRegisters)
     } else if name == "clear".as_bytes() {
@@ -133,6 +153,36 @@ fn command_of_one(name: &[u8], field: &[u8]) -> Option<ExtendedRequest>
         help_of(field).map(ExtendedRequest::Says)
     } else {
         None
+    }
+}
+
+// The request of a name and two fields.
+#[tactic(auto, unfolding(crate::specs::Extended::extended_forms))]
+fn command_of_two(
+    symbols: &Symbols,
+    name: &[u8],
+    field: &[u8],
+    second: &[u8],
+) -> Option<ExtendedRequest>
+    ensures { result ≡ option_and_then (λ form. form (field.now ∷ second.now ∷ [])) (value_in (extended_forms symbols.now) name.now) }
+{
+    if name == "why".as_bytes() {
+        let subject = subject_in(symbols, field)?;
+        let links = links_in(second)?;
+        Some(ExtendedRequest::Why(subject, links))
+    } else {
+        None
+    }
+}
+
+// A number of links.
+fn links_in(field: &[u8]) -> Option<u64>
+    ensures links { result ≡ links_in field.now }
+{
+    match count_in(field) {
+        Some(links) if links <= MOST_LINKS => Some(links),
+        Some(_) => None,
+        None => None,
     }
 }
 
@@ -208,6 +258,7 @@ fn place_field<'a>(name: &[u8], rest: &'a [u8]) -> Option<&'a [u8]>
     let (first, rest) = split_field(rest)?;
     match split_field(rest) {
         None if name == "mem".as_bytes() || name == "last".as_bytes() => Some(first),
+        _ if name == "why".as_bytes() => Some(first),
         Some((second, _)) if name == "break".as_bytes() && first != "chan".as_bytes() => {
             Some(second)
         }

@@ -12,13 +12,15 @@ mod phrase;
 mod places;
 mod reading;
 mod request;
+mod subject;
 mod usage;
 
 pub use breakpoints::{Breakpoints, MOST_BREAKPOINTS};
 pub use command::{Breakpoint, Command, Request};
-pub use extended::{ExtendedRequest, MOST_COUNT, extended_request_of};
+pub use extended::{ExtendedRequest, MOST_COUNT, MOST_LINKS, extended_request_of};
 pub use line::{COMMAND_LENGTH, CommandLine};
 pub use phrase::Phrase;
 pub use reading::{DeviceFault, LineReader, MOST_BYTES};
 pub use request::request_of;
+pub use subject::Subject;
 pub use usage::{HelpText, help_text};

@@ -16,7 +16,7 @@ use words::push_all;
 type Row = (&'static str, &'static str, &'static str);
 
 /// The rows of the help.
-const ROWS: [Row; 21] = [
+const ROWS: [Row; 22] = [
     (
         "step",
         "a number of steps",
@@ -62,6 +62,11 @@ const ROWS: [Row; 21] = [
         "last",
         "an erasable place",
         "the step that changed the word there last",
+    ),
+    (
+        "why",
+        "nothing, a place, or a place and a count",
+        "the steps that made the word there, last first",
     ),
     ("sym", "a name", "the symbol's value"),
     (
@@ -126,8 +131,8 @@ pub(crate) fn help_of(name: &[u8]) -> Option<Phrase>
     Some(phrase)
 }
 
-/// The most bytes of the whole help: 21 lines of at most 128.
-const HELP_TEXT: usize = 2_688;
+/// The most bytes of the whole help: 22 lines of at most 128.
+const HELP_TEXT: usize = 2_816;
 
 /// The lines of the whole help.
 pub type HelpText = ArrayVec<u8, HELP_TEXT>;

@@ -21,7 +21,7 @@ same_sources (f ∷ fs) c from h =
     same_sources fs c (cond (is_in c f.into) f.from from) (not_second c f.into (targets_by fs) h)
     ∙ ap (λ b. cond b f.from from) (not_first c f.into (targets_by fs) h)
 
-own_source : (k : Link) (x : Spot) → writes_at k x ≡ false → sources k x ≡ x ∷ []
+pub own_source : (k : Link) (x : Spot) → writes_at k x ≡ false → sources k x ≡ x ∷ []
 unfolding targets sources
 own_source k (Cell c) h = same_sources (flows k) c (Cell c ∷ []) h
 own_source k (InRope bank offset) h = refl

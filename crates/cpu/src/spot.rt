@@ -1,6 +1,6 @@
 //! Where numbers stand.
 
-ghost use Rattle.std.specs.Prelude.{◌≡◌, ◌<◌};
+ghost use Rattle.std.specs.Prelude.{◌≡◌, ◌<◌, nat_lt, Some, None, if◌then◌else◌};
 ghost use Rattle.cpu.specs.Links.{cell_of_channel, is_in};
 
 use space::{Bank, Chan, Eras, Offset};
@@ -56,6 +56,17 @@ impl Cell {
             Cell {
                 number: 0o4000 + channel.number(),
             }
+        }
+    }
+
+    /// The cell of a number, where it has one.
+    pub fn try_new(number: u16) -> Option<Cell>
+        ensures { result ≡ (if nat_lt number 0o5000 then Some number else None) }
+    {
+        if number < 0o5000 {
+            Some(Cell { number })
+        } else {
+            None
         }
     }
 

@@ -40,7 +40,7 @@ abbrev symbols : SymbolTable
 symbols = (codes "FIVE", Fixed 2 5) ∷ []
 
 abbrev session : List (List ℕ) → List ℕ
-session lines = conversation (extended_request_of symbols) (first_desk five [] []) lines
+session lines = conversation symbols (extended_request_of symbols) (first_desk five [] []) lines
 
 -- breakpoints are told, and taken away one by one; those that stay are numbered anew
 breakpoints : session (codes "breaks" ∷ codes "break at FIVE" ∷ codes "break word 101 75" ∷ codes "break chan 10 12" ∷ codes "breaks" ∷ codes "clear 2" ∷ codes "clear 3" ∷ codes "clear 0" ∷ codes "breaks" ∷ codes "clear" ∷ codes "breaks" ∷ [])
@@ -60,7 +60,7 @@ at_step steps position breakpoints = record (first_desk five [] []) { steps = st
 
 -- what `on` is told there
 abbrev on : History → ℕ → ℕ → ℕ → List Breakpoint → List ℕ
-on h k steps position breakpoints = (extended_reply h (at_step steps position breakpoints) (On k)).text
+on h k steps position breakpoints = (extended_reply symbols h (at_step steps position breakpoints) (On k)).text
 
 -- over steps that stand, to the next at which a breakpoint holds, though one holds at the position too; and by so many at most
 on_what_stands : on (history five) 5 8 0 (Place (linear.Fixed 2 2) ∷ []) ++ on (history five) 5 8 2 (Place (linear.Fixed 2 2) ∷ []) ++ on (history five) 4 8 2 (Place (linear.Fixed 2 2) ∷ [])
@@ -113,7 +113,7 @@ waiting = refl
 
 -- what `until` is told where so many steps were made
 abbrev until : History → ℕ → ℕ → List ℕ
-until h cycles steps = (extended_reply h (at_step steps 1 []) (Until cycles)).text
+until h cycles steps = (extended_reply symbols h (at_step steps 1 []) (Until cycles)).text
 
 -- to the first step with so many cycles, back or on, over steps that stand
 until_what_stands : until (history five) 0 8 ++ until (history five) 1 8 ++ until (history five) 5 8 ++ until (history five) 6 8 ++ until (history five) 13 8

@@ -1,4 +1,7 @@
 pub mod Breaking
+pub mod Chained
+pub mod Counted
+pub mod Told
 pub mod WholeReplies
 pub mod InputsAdded
 pub mod LineByLine

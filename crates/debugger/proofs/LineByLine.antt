@@ -7,19 +7,20 @@ use Rattle.agc_text.proofs.LineLaws.{lines-none, ended_lines-ended, ended_lines-
 use Rattle.words.specs.Readings.{TakesAtMost}
 use Rattle.words.proofs.Texts.{append-then, beginning-after, beginning-longer, beginning-whole}
 use Rattle.commands.specs.Lines.{TakesLine, EndsNoLine, ReadsWithin}
+use Rattle.symbols.specs.Values.{SymbolTable}
 use Rattle.debugger.specs.Replies.{Desk, Reply}
 use Rattle.debugger.specs.Transcript.{first_desk}
 use Rattle.debugger.specs.Sessions.{AllGranted}
-use Rattle.debugger.specs.Conversation.{Reading, Talk, to_asked, is_end, conversation, lines_heard, WritesTalk, BeginsTalk, EndsTalk}
+use Rattle.debugger.specs.Conversation.{Reading, Talk, to_asked, is_end, conversation, effort, efforts, lines_heard, WritesTalk, BeginsTalk, EndsTalk}
 use Rattle.debugger.specs.Executions.{awaiting, Replied, ReplyBroken}
 use Rattle.debugger.proofs.NewSteps.{granted-append}
 
-replies-end : (read : Reading) (d : Desk) (line : List ℕ) (more : List (List ℕ)) → is_end (read line) ≡ true → conversation read d (line ∷ more) ≡ []
-replies-end read d line more h = rw h refl
+replies-end : (symbols : SymbolTable) (read : Reading) (d : Desk) (line : List ℕ) (more : List (List ℕ)) → is_end (read line) ≡ true → conversation symbols read d (line ∷ more) ≡ []
+replies-end symbols read d line more h = rw h refl
 
-replies-more : (read : Reading) (d : Desk) (line : List ℕ) (more : List (List ℕ)) → is_end (read line) ≡ false
-    → conversation read d (line ∷ more) ≡ (to_asked (read line) d).text ++ conversation read (to_asked (read line) d).desk more
-replies-more read d line more h = rw h refl
+replies-more : (symbols : SymbolTable) (read : Reading) (d : Desk) (line : List ℕ) (more : List (List ℕ)) → is_end (read line) ≡ false
+    → conversation symbols read d (line ∷ more) ≡ (to_asked symbols (read line) d).text ++ conversation symbols read (to_asked symbols (read line) d).desk more
+replies-more symbols read d line more h = rw h refl
 
 lines_heard-end : (read : Reading) (line : List ℕ) (more : List (List ℕ)) → is_end (read line) ≡ true → lines_heard read (line ∷ more) ≡ line ∷ []
 unfolding lines_heard
@@ -47,7 +48,7 @@ pub record Answered (s : Talk) (done : List (List ℕ)) (at : Desk) (old new : L
   pub granted : s.may_refuse ≡ false → AllGranted answers
   pub text : List ℕ
   pub goes_on : (rest : List Bool) (later : List (Option ℕ)) (more : List (List ℕ))
-      → conversation s.read (first_desk s.scenario (answers ++ rest) (additions ++ later)) (done ++ more) ≡ text ++ conversation s.read (awaiting at rest later) more
+      → conversation s.symbols s.read (first_desk s.scenario (answers ++ rest) (additions ++ later)) (done ++ more) ≡ text ++ conversation s.symbols s.read (awaiting at rest later) more
   pub written : new ≡ old ++ text
 
 abbrev pub taken-none : (read : Reading) (whole : List ℕ) (most : ℕ) → Taken read whole most whole most
@@ -73,32 +74,32 @@ taken-more {read} {whole} {most} {rest} {now} r line rest' now' less t h = recor
 
 -- and was answered
 pub answered-more : {s : Talk} {done : List (List ℕ)} {at : Desk} {old new : List ℕ} (to : Desk) (new' line : List ℕ)
-    → Answered s done at old new → is_end (s.read line) ≡ false → Replied s.may_refuse (to_asked (s.read line)) at to new new' → Answered s (done ++ line ∷ []) to old new'
+    → Answered s done at old new → is_end (s.read line) ≡ false → Replied s.may_refuse (to_asked s.symbols (s.read line)) at to new new' → Answered s (done ++ line ∷ []) to old new'
 answered-more {s} {done} {at} {old} {new} to new' line t h e = record {
   answers = t.answers ++ e.answers;
   additions = t.additions ++ e.additions;
   granted = λ m. granted-append t.answers e.answers (t.granted m) (e.granted m);
   text = t.text ++ e.text;
   goes_on = λ rest later more.
-      ap (λ (a : List Bool). conversation s.read (first_desk s.scenario a ((t.additions ++ e.additions) ++ later)) ((done ++ line ∷ []) ++ more)) (append_assoc t.answers e.answers rest)
-      ∙ ap (λ (a : List (Option ℕ)). conversation s.read (first_desk s.scenario (t.answers ++ (e.answers ++ rest)) a) ((done ++ line ∷ []) ++ more)) (append_assoc t.additions e.additions later)
-      ∙ ap (conversation s.read (first_desk s.scenario (t.answers ++ (e.answers ++ rest)) (t.additions ++ (e.additions ++ later)))) (append_assoc done (line ∷ []) more)
+      ap (λ (a : List Bool). conversation s.symbols s.read (first_desk s.scenario a ((t.additions ++ e.additions) ++ later)) ((done ++ line ∷ []) ++ more)) (append_assoc t.answers e.answers rest)
+      ∙ ap (λ (a : List (Option ℕ)). conversation s.symbols s.read (first_desk s.scenario (t.answers ++ (e.answers ++ rest)) a) ((done ++ line ∷ []) ++ more)) (append_assoc t.additions e.additions later)
+      ∙ ap (conversation s.symbols s.read (first_desk s.scenario (t.answers ++ (e.answers ++ rest)) (t.additions ++ (e.additions ++ later)))) (append_assoc done (line ∷ []) more)
       ∙ t.goes_on (e.answers ++ rest) (e.additions ++ later) (line ∷ more)
-      ∙ ap (λ (x : List ℕ). t.text ++ x) (replies-more s.read (awaiting at (e.answers ++ rest) (e.additions ++ later)) line more h ∙ ap (λ (r : Reply). r.text ++ conversation s.read r.desk more) (e.brings rest later))
-      ∙ sym (append_assoc t.text e.text (conversation s.read (awaiting to rest later) more));
+      ∙ ap (λ (x : List ℕ). t.text ++ x) (replies-more s.symbols s.read (awaiting at (e.answers ++ rest) (e.additions ++ later)) line more h ∙ ap (λ (r : Reply). r.text ++ conversation s.symbols s.read r.desk more) (e.brings rest later))
+      ∙ sym (append_assoc t.text e.text (conversation s.symbols s.read (awaiting to rest later) more));
   written = append-then old new new' t.text e.text t.written e.written;
 }
 
 module _ (s : Talk) (whole : List ℕ) (most : ℕ) (rest : List ℕ) (now : ℕ) (at : Desk) (old new : List ℕ) (r : Taken s.read whole most rest now) (t : Answered s r.done at old new) where
   -- the replies to lines of which these are done and others are left
-  goes : (all more : List (List ℕ)) → all ≡ r.done ++ more → conversation s.read (first_desk s.scenario t.answers t.additions) all ≡ t.text ++ conversation s.read (awaiting at [] []) more
+  goes : (all more : List (List ℕ)) → all ≡ r.done ++ more → conversation s.symbols s.read (first_desk s.scenario t.answers t.additions) all ≡ t.text ++ conversation s.symbols s.read (awaiting at [] []) more
   goes all more e =
-      ap (λ (a : List Bool). conversation s.read (first_desk s.scenario a t.additions) all) (sym (append-nil t.answers))
-      ∙ ap (λ (a : List (Option ℕ)). conversation s.read (first_desk s.scenario (t.answers ++ []) a) all) (sym (append-nil t.additions))
-      ∙ ap (conversation s.read (first_desk s.scenario (t.answers ++ []) (t.additions ++ []))) e ∙ t.goes_on [] [] more
+      ap (λ (a : List Bool). conversation s.symbols s.read (first_desk s.scenario a t.additions) all) (sym (append-nil t.answers))
+      ∙ ap (λ (a : List (Option ℕ)). conversation s.symbols s.read (first_desk s.scenario (t.answers ++ []) a) all) (sym (append-nil t.additions))
+      ∙ ap (conversation s.symbols s.read (first_desk s.scenario (t.answers ++ []) (t.additions ++ []))) e ∙ t.goes_on [] [] more
 
   -- the replies to lines that end here
-  ended : (all more : List (List ℕ)) → all ≡ r.done ++ more → conversation s.read (awaiting at [] []) more ≡ [] → WritesTalk s all old new
+  ended : (all more : List (List ℕ)) → all ≡ r.done ++ more → conversation s.symbols s.read (awaiting at [] []) more ≡ [] → WritesTalk s all old new
   ended all more e none = record {
     answers = t.answers;
     additions = t.additions;
@@ -113,7 +114,7 @@ module _ (s : Talk) (whole : List ℕ) (most : ℕ) (rest : List ℕ) (now : ℕ
   -- or the end is asked for
   pub writes-quit : (line rest' : List ℕ) (now' : ℕ) → TakesLine rest now line rest' now' → is_end (s.read line) ≡ true → WritesTalk s (lines (take most whole)) old new
   writes-quit line rest' now' l h =
-      ended (lines (take most whole)) (line ∷ lines (take now' rest')) (r.all ∙ ap (λ (x : List (List ℕ)). r.done ++ x) l.lines) (replies-end s.read (awaiting at [] []) line (lines (take now' rest')) h)
+      ended (lines (take most whole)) (line ∷ lines (take now' rest')) (r.all ∙ ap (λ (x : List (List ℕ)). r.done ++ x) l.lines) (replies-end s.symbols s.read (awaiting at [] []) line (lines (take now' rest')) h)
 
   -- a read failed
   pub writes-read : (left : List ℕ) → 0 < now → EndsNoLine rest left → EndsTalk s (record { before = whole; left = left }) old new
@@ -131,19 +132,19 @@ module _ (s : Talk) (whole : List ℕ) (most : ℕ) (rest : List ℕ) (now : ℕ
     answers = t.answers;
     additions = t.additions;
     granted = t.granted;
-    part = rw (goes (lines (take most whole)) (lines (take now rest)) r.all) (beginning-longer old new t.text (conversation s.read (awaiting at [] []) (lines (take now rest))) (beginning-whole old new t.text t.written));
+    part = rw (goes (lines (take most whole)) (lines (take now rest)) r.all) (beginning-longer old new t.text (conversation s.symbols s.read (awaiting at [] []) (lines (take now rest))) (beginning-whole old new t.text t.written));
   }
 
   -- a reply could not be written whole
   pub writes-part : (line rest' new' : List ℕ) (now' : ℕ) → TakesLine rest now line rest' now' → is_end (s.read line) ≡ false
-      → ReplyBroken s.may_refuse (to_asked (s.read line)) at new new' → BeginsTalk s (lines (take most whole)) old new'
+      → ReplyBroken s.may_refuse (to_asked s.symbols (s.read line)) at new new' → BeginsTalk s (lines (take most whole)) old new'
   writes-part line rest' new' now' l h e =
-      let reply = to_asked (s.read line) (awaiting at e.answers e.additions) in
-      let after = conversation s.read reply.desk (lines (take now' rest')) in
-      let whole_is : conversation s.read (first_desk s.scenario (t.answers ++ e.answers) (t.additions ++ e.additions)) (lines (take most whole)) ≡ t.text ++ (reply.text ++ after) =
-      ap (conversation s.read (first_desk s.scenario (t.answers ++ e.answers) (t.additions ++ e.additions))) (r.all ∙ ap (λ (x : List (List ℕ)). r.done ++ x) l.lines)
+      let reply = to_asked s.symbols (s.read line) (awaiting at e.answers e.additions) in
+      let after = conversation s.symbols s.read reply.desk (lines (take now' rest')) in
+      let whole_is : conversation s.symbols s.read (first_desk s.scenario (t.answers ++ e.answers) (t.additions ++ e.additions)) (lines (take most whole)) ≡ t.text ++ (reply.text ++ after) =
+      ap (conversation s.symbols s.read (first_desk s.scenario (t.answers ++ e.answers) (t.additions ++ e.additions))) (r.all ∙ ap (λ (x : List (List ℕ)). r.done ++ x) l.lines)
       ∙ t.goes_on e.answers e.additions (line ∷ lines (take now' rest'))
-      ∙ ap (λ (x : List ℕ). t.text ++ x) (replies-more s.read (awaiting at e.answers e.additions) line (lines (take now' rest')) h) in
+      ∙ ap (λ (x : List ℕ). t.text ++ x) (replies-more s.symbols s.read (awaiting at e.answers e.additions) line (lines (take now' rest')) h) in
       record {
         answers = t.answers ++ e.answers;
         additions = t.additions ++ e.additions;
@@ -151,18 +152,26 @@ module _ (s : Talk) (whole : List ℕ) (most : ℕ) (rest : List ℕ) (now : ℕ
         part = rw whole_is (beginning-after old new new' t.text (reply.text ++ after) t.written (beginning-longer new new' reply.text after e.part));
       }
 
--- how many lines were read
+-- what lines cost
+efforts-append : (read : Reading) (xs ys : List (List ℕ)) → efforts read (xs ++ ys) ≡ efforts read xs + efforts read ys
+efforts-append read [] ys = omega arith
+efforts-append read (x ∷ xs) ys = let rest = efforts-append read xs ys in omega arith
+
+pub efforts-push : (read : Reading) (xs : List (List ℕ)) (line : List ℕ) → efforts read (xs ++ line ∷ []) ≡ efforts read xs + effort (read line)
+efforts-push read xs line = let both = efforts-append read xs (line ∷ []) in omega arith
+
+-- what the lines that were read cost
 pub count-end : {read : Reading} {whole : List ℕ} {most : ℕ} {rest : List ℕ} {now : ℕ} (r : Taken read whole most rest now) → take now rest ≡ []
-    → length (lines_heard read (lines (take most whole))) ≡ length r.done
+    → efforts read (lines_heard read (lines (take most whole))) ≡ efforts read r.done
 count-end {read} {rest = rest} {now = now} r e =
-    ap (λ (x : List (List ℕ)). length (lines_heard read x)) (r.all ∙ ap (λ (x : List (List ℕ)). r.done ++ x) (lines-none (take now rest) (ap length e)))
-    ∙ ap length (r.no_end [] ∙ ap (λ (x : List (List ℕ)). r.done ++ x) (lines_heard-none read) ∙ append-nil r.done)
+    ap (λ (x : List (List ℕ)). efforts read (lines_heard read x)) (r.all ∙ ap (λ (x : List (List ℕ)). r.done ++ x) (lines-none (take now rest) (ap length e)))
+    ∙ ap (efforts read) (r.no_end [] ∙ ap (λ (x : List (List ℕ)). r.done ++ x) (lines_heard-none read) ∙ append-nil r.done)
 
 pub count-quit : {read : Reading} {whole : List ℕ} {most : ℕ} {rest : List ℕ} {now : ℕ} (r : Taken read whole most rest now) (line rest' : List ℕ) (now' : ℕ) → TakesLine rest now line rest' now' → is_end (read line) ≡ true
-    → length (lines_heard read (lines (take most whole))) ≡ length r.done + 1
+    → efforts read (lines_heard read (lines (take most whole))) ≡ efforts read r.done + effort (read line)
 count-quit {read} r line rest' now' t h =
-    ap (λ (x : List (List ℕ)). length (lines_heard read x)) (r.all ∙ ap (λ (x : List (List ℕ)). r.done ++ x) t.lines)
-    ∙ ap length (r.no_end (line ∷ lines (take now' rest')) ∙ ap (λ (x : List (List ℕ)). r.done ++ x) (lines_heard-end read line (lines (take now' rest')) h)) ∙ length-append r.done (line ∷ [])
+    ap (λ (x : List (List ℕ)). efforts read (lines_heard read x)) (r.all ∙ ap (λ (x : List (List ℕ)). r.done ++ x) t.lines)
+    ∙ ap (efforts read) (r.no_end (line ∷ lines (take now' rest')) ∙ ap (λ (x : List (List ℕ)). r.done ++ x) (lines_heard-end read line (lines (take now' rest')) h)) ∙ efforts-push read r.done line
 
 -- what was read, and what was read then
 pub reads-more : (old now new : List ℕ) (before between after : ℕ) → ReadsWithin old now before between → ReadsWithin now new between after → ReadsWithin old new before after
@@ -179,8 +188,8 @@ pub takes-most : (old new : List ℕ) (before after : ℕ) → ReadsWithin old n
 takes-most old new before after p = record { bytes = p.bytes; front = p.split; most = omega (arith, p.within) }
 
 -- the steps that one line more executes
-pub cost-more : (first before after c n m : ℕ) → before ≤ first + (3 * c + 1) * n → n ≤ m → after + n ≤ before + 4 * m → after ≤ first + (3 * (c + 1) + 1) * m
-cost-more first before after c n m h le spends = omega (arith, mul-le-mul_left c le)
+pub cost-more : (first before after c e n m : ℕ) → before ≤ first + (c + 1) * n → n ≤ m → after + n ≤ before + (e + 1) * m → after ≤ first + (c + e + 1) * m
+cost-more first before after c e n m h le spends = omega (arith, mul-le-mul_left c le)
 
-pub cost-same : (first before c n : ℕ) → before ≤ first + (3 * c + 1) * n → before ≤ first + (3 * (c + 1) + 1) * n
-cost-same first before c n h = omega arith
+pub cost-same : (first before c e n : ℕ) → before ≤ first + (c + 1) * n → before ≤ first + (c + e + 1) * n
+cost-same first before c e n h = omega arith

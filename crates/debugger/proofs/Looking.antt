@@ -1,10 +1,11 @@
 -- Replies that are read off earlier steps.
-use Rattle.std.proofs.Common.{◌≡◌, ℕ, ◌≤◌, Bool, true, false, ltb, List, Option, ap, sym, ◌∙◌, ⊎_elim, arith, refl}
+use Rattle.std.proofs.Common.{◌≡◌, ℕ, ◌≤◌, ◌-◌, Bool, true, false, ltb, List, Option, ap, sym, ◌∙◌, ⊎_elim, arith, refl}
 use Rattle.std.proofs.lemmas.Bool.{cases_lt}
 use Rattle.std.proofs.lemmas.Bool.Decides.{nat_tests}
 use Rattle.rope.specs.Places.{Words}
 use Rattle.space.specs.Cells.{Cells, changed_below, changed_places}
-use Rattle.cpu.specs.State.{State}
+use Rattle.cpu.specs.State.{State, Scenario, FitsRun}
+use Rattle.cpu.proofs.TakenLaws.{run-fits}
 use Rattle.cpu.specs.Run.{run}
 use Rattle.commands.specs.declared.command.Breakpoint.{Breakpoint}
 use Rattle.commands.specs.declared.command.Request.{Request}
@@ -12,6 +13,7 @@ use Rattle.replay.specs.View.{SessionView, HasShown}
 use Rattle.debugger.specs.History.{History, history, sight}
 use Rattle.debugger.specs.Replies.{Desk, says, places_changed, changed_text, changes_since}
 use Rattle.commands.specs.declared.extended.ExtendedRequest.{ExtendedRequest}
+use Rattle.symbols.specs.Values.{SymbolTable}
 use Rattle.debugger.specs.Conversation.{to_asked}
 use Rattle.debugger.specs.Executions.{HasLooked, desk, awaiting, answered, Brings, BringsAsked}
 
@@ -22,6 +24,18 @@ looked_at s t q h past = record {
   steps = ap (λ (v : SessionView). v.n) h.same;
   cost = ⊎_elim (λ lt. (let c = h.cheap lt in omega arith)) (λ ge. (let m = ap (λ (v : SessionView). v.meter) (h.unchanged ge) in omega arith)) (cases_lt q s.n);
 }
+
+-- and no more steps were executed than lie between it and the present
+pub looked_near : (s t : SessionView) (q : ℕ) → HasShown s q t → q ≤ s.n → HasLooked s t (s.n - q)
+looked_near s t q h past = record {
+  scenario = ap (λ (v : SessionView). v.scenario) h.same;
+  steps = ap (λ (v : SessionView). v.n) h.same;
+  cost = ⊎_elim (λ lt. (let c = h.cheap lt in omega arith)) (λ ge. (let m = ap (λ (v : SessionView). v.meter) (h.unchanged ge) in omega arith)) (cases_lt q s.n);
+}
+
+-- what a processor runs fits a state that it is shown
+pub fits_at : (runs scenario : Scenario) (t : ℕ) (s : State) → runs ≡ scenario → s ≡ run scenario t → FitsRun runs s
+fits_at runs scenario t s same is = rw (same, is) (run-fits scenario t)
 
 -- a step isn't later than another, or it is
 pub not_later : (t n : ℕ) → t ≤ n → ltb n t ≡ false
@@ -39,10 +53,10 @@ brings_text s t p q bs cs request text same brings answers additions =
 
 -- the same of what an extended session is asked for
 pub asked_text : (s t : SessionView) (p q : ℕ) (bs cs : List Breakpoint) (request : ExtendedRequest) (text : List ℕ) → t ≡ record s { shown = t.shown; meter = t.meter }
-    → ((answers : List Bool) (additions : List (Option ℕ)) → to_asked request (awaiting (desk s p bs) answers additions) ≡ says text (awaiting (desk s q cs) answers additions))
+    → ((symbols : SymbolTable) (answers : List Bool) (additions : List (Option ℕ)) → to_asked symbols request (awaiting (desk s p bs) answers additions) ≡ says text (awaiting (desk s q cs) answers additions))
     → BringsAsked (desk s p bs) request text (desk t q cs)
-asked_text s t p q bs cs request text same brings answers additions =
-    brings answers additions ∙ sym (ap (λ (v : SessionView). says text (awaiting (desk v q cs) answers additions)) same)
+asked_text s t p q bs cs request text same brings symbols answers additions =
+    brings symbols answers additions ∙ sym (ap (λ (v : SessionView). says text (awaiting (desk v q cs) answers additions)) same)
 
 -- the places that read differently in two states
 places_are : (rope : Words) (one other : State) → places_changed (sight rope one) (sight rope other) ≡ changed_places one.cells other.cells

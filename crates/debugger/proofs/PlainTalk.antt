@@ -1,5 +1,5 @@
 -- A session without the further commands, as a conversation.
-use Rattle.std.proofs.Common.{◌≡◌, ℕ, List, [], ◌∷◌, ◌++◌, cond, Bool, Option, Result, Ok, Err, refl, sym, ap, ◌∙◌}
+use Rattle.std.proofs.Common.{◌≡◌, ℕ, ◌*◌, length, arith, List, [], ◌∷◌, ◌++◌, cond, Bool, Option, Result, Ok, Err, refl, sym, ap, ◌∙◌}
 use Rattle.agc_text.specs.Lines.{ended_lines}
 use Rattle.words.specs.Devices.{WritesBeginning}
 use Rattle.cpu.specs.State.{Scenario}
@@ -10,25 +10,34 @@ use Rattle.debugger.specs.ExtendedReplies.{extended_reply}
 use Rattle.debugger.specs.Replies.{Desk}
 use Rattle.debugger.specs.Transcript.{ends, told, replies, first_desk, command_lines, lines_read}
 use Rattle.debugger.specs.Sessions.{Setting, Commands, WritesReplies, BeginsReplies, EndsReading, Debugs}
-use Rattle.debugger.specs.Conversation.{Reading, reading, conversation, lines_heard, Talk, WritesTalk, BeginsTalk, EndsTalk, Talks}
+use Rattle.debugger.specs.Conversation.{Reading, reading, conversation, efforts, lines_heard, Talk, WritesTalk, BeginsTalk, EndsTalk, Talks}
 use Rattle.debugger.specs.declared.fault.DebugFault.{DebugFault}
 use Rattle.debugger.specs.declared.fault.DebugFault.TheVariants.{NoMemory, ReadFailed, WriteFailed}
 
-same-replies : (symbols : SymbolTable) (d : Desk) (lines : List (List ℕ)) → conversation (reading manner.Plain symbols) d lines ≡ replies symbols d lines
+same-replies : (symbols : SymbolTable) (d : Desk) (lines : List (List ℕ)) → conversation symbols (reading manner.Plain symbols) d lines ≡ replies symbols d lines
 unfolding reading extended_reply told
 same-replies symbols d [] = refl
 same-replies symbols d (line ∷ more) =
     let r = told symbols d line in
     ap (λ (t : List ℕ). cond (ends (request_of symbols line)) [] (r.text ++ t)) (same-replies symbols r.desk more)
 
+thrice : (symbols : SymbolTable) (lines : List (List ℕ)) → efforts (reading manner.Plain symbols) lines ≡ 3 * length lines
+unfolding reading
+thrice symbols [] = refl
+thrice symbols (line ∷ more) = let rest = thrice symbols more in omega arith
+
 pub same-lines : (symbols : SymbolTable) (lines : List (List ℕ)) → lines_heard (reading manner.Plain symbols) lines ≡ lines_read symbols lines
 unfolding reading lines_heard lines_read
 same-lines symbols [] = refl
 same-lines symbols (line ∷ more) = ap (λ (ls : List (List ℕ)). line ∷ cond (ends (request_of symbols line)) [] ls) (same-lines symbols more)
 
+-- each of them costs as much
+pub plain-efforts : (symbols : SymbolTable) (lines : List (List ℕ)) → efforts (reading manner.Plain symbols) (lines_heard (reading manner.Plain symbols) lines) ≡ 3 * length (lines_read symbols lines)
+plain-efforts symbols lines = ap (efforts (reading manner.Plain symbols)) (same-lines symbols lines) ∙ thrice symbols (lines_read symbols lines)
+
 -- the setting of a session, as what a conversation is over
 abbrev plain : Setting → Talk
-plain s = record { may_refuse = s.may_refuse; read = reading manner.Plain s.symbols; scenario = s.scenario }
+plain s = record { may_refuse = s.may_refuse; symbols = s.symbols; read = reading manner.Plain s.symbols; scenario = s.scenario }
 
 writes : (s : Setting) (lines : List (List ℕ)) (old new : List ℕ) → WritesTalk (plain s) lines old new → WritesReplies s lines old new
 writes s lines old new w = record {

@@ -4,6 +4,7 @@ use Rattle.words.specs.Devices.{Writes}
 use Rattle.words.specs.declared.device.WriteFailed.{WriteFailed}
 use Rattle.commands.specs.declared.command.Request.{Request}
 use Rattle.commands.specs.declared.extended.ExtendedRequest.{ExtendedRequest}
+use Rattle.symbols.specs.Values.{SymbolTable}
 use Rattle.debugger.specs.Conversation.{to_asked}
 use Rattle.debugger.specs.Replies.{Desk, Reply, says}
 use Rattle.debugger.specs.Executions.{awaiting, answered, to_request, Brings, BringsAdding, BringsAsked, Replies, Executes}
@@ -21,9 +22,9 @@ pub executes-text : (may_refuse : Bool) (from to : Desk) (asked request : Reques
 executes-text may_refuse from to asked request old new text bytes result is brings e w = rw is (replies-text may_refuse (to_request request) from to old new text bytes result brings e w)
 
 -- to what an extended session is asked for
-pub asked-text : (may_refuse : Bool) (from to : Desk) (asked request : ExtendedRequest) (old new text bytes : List ℕ) (result : Result (Unit {0}) WriteFailed)
-    → asked ≡ request → BringsAsked from request text to → bytes ≡ text → Writes old new bytes result → Replies may_refuse (to_asked asked) from to old new result
-asked-text may_refuse from to asked request old new text bytes result is brings e w = rw is (replies-text may_refuse (to_asked request) from to old new text bytes result brings e w)
+pub asked-text : (may_refuse : Bool) (symbols : SymbolTable) (from to : Desk) (asked request : ExtendedRequest) (old new text bytes : List ℕ) (result : Result (Unit {0}) WriteFailed)
+    → asked ≡ request → BringsAsked from request text to → bytes ≡ text → Writes old new bytes result → Replies may_refuse (to_asked symbols asked) from to old new result
+asked-text may_refuse symbols from to asked request old new text bytes result is brings e w = rw is (replies-text may_refuse (to_asked symbols request) from to old new text bytes result (brings symbols) e w)
 
 -- the reply to a request that may add an input
 pub executes-adding : (may_refuse : Bool) (from to : Desk) (asked request : Request) (old new text bytes : List ℕ) (result : Result (Unit {0}) WriteFailed)

@@ -1,5 +1,5 @@
 -- A session of commands, by what its lines ask for: the session without more commands is one, the extended one another.
-use Rattle.std.specs.Prelude.{◌≡◌, ℕ, Bool, true, false, List, [], ◌∷◌, ◌++◌, Option, Result, Ok, Err, if◌then◌else◌}
+use Rattle.std.specs.Prelude.{◌≡◌, ℕ, ◌+◌, ◌*◌, Bool, true, false, List, [], ◌∷◌, ◌++◌, Option, Result, Ok, Err, if◌then◌else◌}
 use Rattle.agc_text.specs.Lines.{ended_lines}
 use Rattle.words.specs.Devices.{WritesBeginning}
 use Rattle.cpu.specs.State.{Scenario}
@@ -7,7 +7,7 @@ use Rattle.symbols.specs.Values.{SymbolTable}
 use Rattle.commands.specs.Commands.{request_of}
 use Rattle.commands.specs.Extended.{extended_request_of}
 use Rattle.commands.specs.declared.extended.ExtendedRequest.{ExtendedRequest}
-use Rattle.commands.specs.declared.extended.ExtendedRequest.TheVariants.{Plain, Says, Help, Breaks, ClearOne, On, AllRegisters, Until}
+use Rattle.commands.specs.declared.extended.ExtendedRequest.TheVariants.{Plain, Says, Help, Breaks, ClearOne, On, AllRegisters, Until, WhyStep, Why}
 use Rattle.debugger.specs.declared.manner.Manner.{Manner}
 use Rattle.debugger.specs.declared.manner.Manner.TheVariants as manner
 use Rattle.debugger.specs.History.{history}
@@ -37,32 +37,45 @@ is_end (ClearOne i) = false
 is_end (On k) = false
 is_end (Until cycles) = false
 is_end AllRegisters = false
+is_end WhyStep = false
+is_end (Why subject k) = false
 
--- what a request brings, over the reference run of what runs now
-abbrev pub to_asked : ExtendedRequest → Desk → Reply
-to_asked request d = extended_reply (history d.scenario) d request
+-- what a request brings, over the symbols and the reference run of what runs now
+abbrev pub to_asked : SymbolTable → ExtendedRequest → Desk → Reply
+to_asked symbols request d = extended_reply symbols (history d.scenario) d request
 
 -- the replies to lines, up to the end
-abbrev pub conversation : Reading → Desk → List (List ℕ) → List ℕ
-conversation read d [] = []
-conversation read d (line ∷ more) =
+abbrev pub conversation : SymbolTable → Reading → Desk → List (List ℕ) → List ℕ
+conversation symbols read d [] = []
+conversation symbols read d (line ∷ more) =
     if is_end (read line) then []
-    else (let r = to_asked (read line) d in r.text ++ conversation read r.desk more)
+    else (let r = to_asked symbols (read line) d in r.text ++ conversation symbols read r.desk more)
 
 -- the lines that are read: those up to the end
 unfoldable pub lines_heard : Reading → List (List ℕ) → List (List ℕ)
 lines_heard read [] = []
 lines_heard read (line ∷ more) = line ∷ (if is_end (read line) then [] else lines_heard read more)
 
--- what a session is over: whether its keeper may refuse, what lines ask for, and what runs at first
+-- how many times the steps that were made a request executes, at most, besides new ones: of `why` each link four times, and
+-- its last search once
+abbrev pub effort : ExtendedRequest → ℕ
+effort (Why subject k) = 4 * k + 1
+effort request = 3
+
+abbrev pub efforts : Reading → List (List ℕ) → ℕ
+efforts read [] = 0
+efforts read (line ∷ more) = effort (read line) + efforts read more
+
+-- what a session is over: whether its keeper may refuse, the symbols, what lines ask for, and what runs at first
 pub record Talk : Type 0 where
   pub may_refuse : Bool
+  pub symbols : SymbolTable
   pub read : Reading
   pub scenario : Scenario
 
 -- the replies to lines, where the calls that make steps and those that add inputs are answered so
 abbrev pub talk_in : Talk → List Bool → List (Option ℕ) → List (List ℕ) → List ℕ
-talk_in s answers additions lines = conversation s.read (first_desk s.scenario answers additions) lines
+talk_in s answers additions lines = conversation s.symbols s.read (first_desk s.scenario answers additions) lines
 
 -- the replies to lines were written, under some answers; where the keeper may not refuse, no call that makes a step was
 -- refused for memory

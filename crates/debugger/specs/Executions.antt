@@ -6,6 +6,7 @@ use Rattle.words.specs.declared.device.WriteFailed.{WriteFailed}
 use Rattle.commands.specs.declared.command.Breakpoint.{Breakpoint}
 use Rattle.commands.specs.declared.command.Request.{Request}
 use Rattle.replay.specs.View.{SessionView}
+use Rattle.symbols.specs.Values.{SymbolTable}
 use Rattle.debugger.specs.History.{History, history}
 use Rattle.debugger.specs.Growth.{grow}
 use Rattle.debugger.specs.Replies.{Desk, Reply, says, answer}
@@ -48,7 +49,7 @@ answered d request answers additions = answer (history d.scenario) (awaiting d a
 
 -- something that is asked for has this text as its reply, and leads from one place to the other
 abbrev pub BringsAsked : Desk → ExtendedRequest → List ℕ → Desk → Type 0
-BringsAsked from request text to = (answers : List Bool) (additions : List (Option ℕ)) → to_asked request (awaiting from answers additions) ≡ says text (awaiting to answers additions)
+BringsAsked from request text to = (symbols : SymbolTable) (answers : List Bool) (additions : List (Option ℕ)) → to_asked symbols request (awaiting from answers additions) ≡ says text (awaiting to answers additions)
 
 -- a request has this text as its reply, and leads from one place to the other
 abbrev pub Brings : Desk → Request → List ℕ → Desk → Type 0
@@ -106,3 +107,8 @@ pub record HasLooked (old new : SessionView) (most : ℕ) : Type 0 where
 pub record HasGoneOn (old new : SessionView) : Type 0 where
   pub forward : old.n ≤ new.n
   pub cost : new.meter + old.n ≤ old.meter + 4 * new.n
+
+-- the same, of a command that executes so many times the steps that there are
+pub record HasDone (effort : ℕ) (old new : SessionView) : Type 0 where
+  pub forward : old.n ≤ new.n
+  pub cost : new.meter + old.n ≤ old.meter + (effort + 1) * new.n

@@ -2,27 +2,23 @@
 use Rattle.std.specs.Prelude.{ℕ, ◌+◌, ◌-◌, nat_lt, nat_le, ◌&&◌, min, Option, None, Some, is_some, List, [], ◌∷◌, ◌++◌, length, codes, decimal, if◌then◌else◌}
 use Rattle.std.specs.List.{remove}
 use Rattle.words.specs.Numerals.{octal_text}
-use Rattle.space.specs.declared.place.Linear.{Linear}
-use Rattle.space.specs.declared.place.Linear.TheVariants.{Erasable, Fixed}
+use Rattle.symbols.specs.Values.{SymbolTable}
 use Rattle.commands.specs.Usages.{usages, help_lines}
 use Rattle.commands.specs.declared.command.Breakpoint.{Breakpoint}
 use Rattle.commands.specs.declared.command.Breakpoint.TheVariants.{Place, Word, Channel, Cycles}
 use Rattle.commands.specs.declared.extended.ExtendedRequest.{ExtendedRequest}
-use Rattle.commands.specs.declared.extended.ExtendedRequest.TheVariants.{Plain, Says, Help, Breaks, ClearOne, On, AllRegisters, Until}
+use Rattle.commands.specs.declared.extended.ExtendedRequest.TheVariants.{Plain, Says, Help, Breaks, ClearOne, On, AllRegisters, Until, WhyStep, Why}
 use Rattle.cpu.specs.Run.{run}
 use Rattle.debugger.specs.History.{History}
 use Rattle.debugger.specs.AllRegisters.{all_registers}
+use Rattle.debugger.specs.PlaceTexts.{place_text}
+use Rattle.debugger.specs.Whys.{subject_spots, why_text, last_text}
 use Rattle.replay.specs.LastHit.{first_hit}
 use Rattle.debugger.specs.Growth.{grow, lowest_hit}
 use Rattle.debugger.specs.declared.ending.Ending.{Ending}
 use Rattle.debugger.specs.declared.ending.Ending.TheVariants.{Reached, Hit, NoMemory, Limit}
 use Rattle.commands.specs.Extended.{most_count}
 use Rattle.debugger.specs.Replies.{Desk, Reply, says, line, refuses, answer, sought, moves, stands, ending_line, after_text, after_growth, after_steps}
-
--- a place as a command names it
-abbrev pub place_text : Linear → List ℕ
-place_text (Erasable p) = octal_text 4 p
-place_text (Fixed bank offset) = octal_text 2 bank ++ codes "," ++ octal_text 4 offset
 
 -- a breakpoint as the command that sets it
 abbrev pub breakpoint_text : Breakpoint → List ℕ
@@ -76,13 +72,15 @@ abbrev pub goes_until : History → Desk → ℕ → Option ℕ → Reply
 goes_until h d cycles None = grows_until h d cycles
 goes_until h d cycles (Some t) = moves h d t
 
--- what a line brings, over a run
-unfoldable pub extended_reply : History → Desk → ExtendedRequest → Reply
-extended_reply h d (Plain request) = answer h d request
-extended_reply h d (Says text) = says text d
-extended_reply h d Help = says (help_lines usages) d
-extended_reply h d Breaks = says (breaks_from 0 d.breakpoints) d
-extended_reply h d (ClearOne i) = clears_one d i
-extended_reply h d (On k) = stops_on h d k (next_stop h d k)
-extended_reply h d (Until cycles) = goes_until h d cycles (first_at h d.steps cycles)
-extended_reply h d AllRegisters = says (all_registers (run d.scenario d.position)) d
+-- what a line brings, over the symbols and a run
+unfoldable pub extended_reply : SymbolTable → History → Desk → ExtendedRequest → Reply
+extended_reply symbols h d (Plain request) = answer h d request
+extended_reply symbols h d (Says text) = says text d
+extended_reply symbols h d Help = says (help_lines usages) d
+extended_reply symbols h d Breaks = says (breaks_from 0 d.breakpoints) d
+extended_reply symbols h d (ClearOne i) = clears_one d i
+extended_reply symbols h d (On k) = stops_on h d k (next_stop h d k)
+extended_reply symbols h d (Until cycles) = goes_until h d cycles (first_at h d.steps cycles)
+extended_reply symbols h d AllRegisters = says (all_registers (run d.scenario d.position)) d
+extended_reply symbols h d WhyStep = says (last_text symbols d.scenario d.position) d
+extended_reply symbols h d (Why subject k) = says (why_text symbols d.scenario k d.position (subject_spots subject)) d

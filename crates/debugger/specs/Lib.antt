@@ -2,6 +2,9 @@ pub mod Additions
 pub mod History
 pub mod Growth
 pub mod Replies
+pub mod PlaceTexts
+pub mod Whys
+pub mod ToldLinks
 pub mod ExtendedReplies
 pub mod AllRegisters
 pub mod Transcript

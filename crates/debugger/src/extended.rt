@@ -5,13 +5,15 @@ ghost use Rattle.arrayvec.specs.ArrayVec.{array_vec_len};
 ghost use Rattle.words.specs.Devices.{failures_after};
 ghost use Rattle.cpu.specs.Run.{outs};
 ghost use Rattle.replay.specs.View.{SessionView};
+ghost use Rattle.symbols.specs.Values.{SymbolTable};
 ghost use Rattle.commands.specs.declared.extended.ExtendedRequest.TheVariants as asked;
 ghost use Rattle.debugger.specs.Replies.{last_of, tail_length, line, hit_text, at_line_of};
-ghost use Rattle.debugger.specs.ExtendedReplies.{place_text, breakpoint_text, breaks_from, next_stop};
+ghost use Rattle.debugger.specs.PlaceTexts.{place_text};
+ghost use Rattle.debugger.specs.ExtendedReplies.{breakpoint_text, breaks_from, next_stop};
 ghost use Rattle.debugger.specs.History.{history};
 ghost use Rattle.debugger.specs.Growth.{lowest_hit};
-ghost use Rattle.debugger.specs.Conversation.{to_asked};
-ghost use Rattle.debugger.specs.Executions.{desk, BringsAsked, Replies, grows_on, HasLooked, HasGoneOn};
+ghost use Rattle.debugger.specs.Conversation.{effort, to_asked};
+ghost use Rattle.debugger.specs.Executions.{desk, BringsAsked, Replies, grows_on, HasLooked, HasGoneOn, HasDone};
 
 use crate::breakpoints::lowest_hit;
 use crate::desk::Desk;
@@ -21,6 +23,7 @@ use arrayvec::ArrayVec;
 use commands::{Breakpoint, Breakpoints, ExtendedRequest, help_text};
 use replay::{Keeper, Session};
 use space::place::Linear;
+use symbols::Symbols;
 use words::{Write, WriteFailed, push_all, push_decimal, push_octal, write_all};
 
 impl Desk {
@@ -29,15 +32,16 @@ impl Desk {
     pub(crate) fn answer_asked<K: Keeper, W: Write>(
         &mut self,
         session: &mut Session<K>,
+        symbols: &Symbols,
         request: &ExtendedRequest,
         out: &mut W,
     ) -> Result<(), WriteFailed>
         requires within { self.old.position ≤ session.old.n }
         requires tail { self.old.tail ≡ last_of tail_length (outs session.old.scenario session.old.n) }
-        ensures executes { W.told ≡ true → Replies K.may_refuse (to_asked request.now) (desk session.old self.old.position self.old.breakpoints) (desk session.new self.new.position self.new.breakpoints) (W.written out.old) (W.written out.new) result }
+        ensures executes { W.told ≡ true → Replies K.may_refuse (to_asked symbols.now request.now) (desk session.old self.old.position self.old.breakpoints) (desk session.new self.new.position self.new.breakpoints) (W.written out.old) (W.written out.new) result }
         ensures within { self.new.position ≤ session.new.n }
         ensures tail { self.new.tail ≡ last_of tail_length (outs session.new.scenario session.new.n) }
-        ensures session { HasGoneOn session.old session.new }
+        ensures session { HasDone (effort request.now) session.old session.new }
         ensures failures { W.failures out.new ≡ failures_after (W.failures out.old) result }
     {
         match request {
@@ -52,6 +56,10 @@ impl Desk {
             ExtendedRequest::Until(cycles) => self.until(session, *cycles, out),
             ExtendedRequest::AllRegisters => {
                 write_all(out, self.all_registers(session).as_slice())
+            }
+            ExtendedRequest::WhyStep => self.why_step(session, symbols, out),
+            ExtendedRequest::Why(subject, links) => {
+                self.why(session, symbols, *subject, *links, out)
             }
         }
     }
@@ -79,7 +87,7 @@ impl Desk {
     ) -> Result<(), WriteFailed>
         requires within { self.old.position ≤ session.old.n }
         requires tail { self.old.tail ≡ last_of tail_length (outs session.old.scenario session.old.n) }
-        ensures executes { W.told ≡ true → Replies K.may_refuse (to_asked (asked.On steps)) (desk session.old self.old.position self.old.breakpoints) (desk session.new self.new.position self.new.breakpoints) (W.written out.old) (W.written out.new) result }
+        ensures executes { W.told ≡ true → (symbols : SymbolTable) → Replies K.may_refuse (to_asked symbols (asked.On steps)) (desk session.old self.old.position self.old.breakpoints) (desk session.new self.new.position self.new.breakpoints) (W.written out.old) (W.written out.new) result }
         ensures within { self.new.position ≤ session.new.n }
         ensures tail { self.new.tail ≡ last_of tail_length (outs session.new.scenario session.new.n) }
         ensures session { HasGoneOn session.old session.new }

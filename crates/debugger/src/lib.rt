@@ -13,6 +13,8 @@ mod executing;
 mod extended;
 mod fault;
 mod growing;
+mod link_texts;
+mod links;
 mod manner;
 mod session;
 mod short;
@@ -20,6 +22,7 @@ mod steps;
 mod tail;
 mod texts;
 mod until;
+mod why;
 
 pub use ending::Ending;
 pub use fault::DebugFault;

@@ -6,7 +6,7 @@ ghost use Rattle.words.specs.Readings.{TakesAtMost};
 ghost use Rattle.debugger.specs.Transcript.{command_lines, lines_read, most_command_bytes};
 ghost use Rattle.commands.specs.Lines.{kept};
 ghost use Rattle.commands.specs.Extended.{extended_request_of};
-ghost use Rattle.debugger.specs.Conversation.{Talks, reading, is_end, lines_heard};
+ghost use Rattle.debugger.specs.Conversation.{Talks, efforts, reading, is_end, lines_heard};
 ghost use Rattle.debugger.specs.Sessions.{Debugs, has_read_failed, has_write_failed};
 
 use crate::desk::Desk;
@@ -65,11 +65,12 @@ pub fn extended_session<K: Keeper, R: Read, W: Write>(
 ) -> Result<(), DebugFault>
     requires { session.old.n ≡ 0 }
     ensures answer { R.told ≡ true → W.told ≡ true →
-        Talks (record { may_refuse = K.may_refuse; read = extended_request_of symbols.now; scenario = session.old.scenario }) (record { before = R.left commands.old; left = R.left commands.new }) (W.written out.old) (W.written out.new) result }
+        Talks (record { may_refuse = K.may_refuse; symbols = symbols.now; read = extended_request_of symbols.now; scenario = session.old.scenario }) (record { before = R.left commands.old; left = R.left commands.new }) (W.written out.old) (W.written out.new) result }
 
-    // For each line that is read at most three times as many steps are executed as there are, besides those that are made.
+    // For each line that is read at most so many times the steps that there are are executed, besides those that are made: three
+    // times, and for `why` four times a link.
     ensures cost { R.told ≡ true → OnOk result
-        (session.new.meter ≤ session.old.meter + (3 * length (lines_heard (extended_request_of symbols.now) (command_lines (R.left commands.old))) + 1) * session.new.n) }
+        (session.new.meter ≤ session.old.meter + (efforts (extended_request_of symbols.now) (lines_heard (extended_request_of symbols.now) (command_lines (R.left commands.old))) + 1) * session.new.n) }
 
     // E6 only where the reader has failed, E7 only where the writer has.
     ensures reader { R.failures commands.new ≡ (if has_read_failed result then one_more (R.failures commands.old) else R.failures commands.old) }
@@ -92,9 +93,9 @@ fn converse<K: Keeper, R: Read, W: Write>(
 ) -> Result<(), DebugFault>
     requires { session.old.n ≡ 0 }
     ensures answer { R.told ≡ true → W.told ≡ true →
-        Talks (record { may_refuse = K.may_refuse; read = reading manner symbols.now; scenario = session.old.scenario }) (record { before = R.left commands.old; left = R.left commands.new }) (W.written out.old) (W.written out.new) result }
+        Talks (record { may_refuse = K.may_refuse; symbols = symbols.now; read = reading manner symbols.now; scenario = session.old.scenario }) (record { before = R.left commands.old; left = R.left commands.new }) (W.written out.old) (W.written out.new) result }
     ensures cost { R.told ≡ true → OnOk result
-        (session.new.meter ≤ session.old.meter + (3 * length (lines_heard (reading manner symbols.now) (command_lines (R.left commands.old))) + 1) * session.new.n) }
+        (session.new.meter ≤ session.old.meter + (efforts (reading manner symbols.now) (lines_heard (reading manner symbols.now) (command_lines (R.left commands.old))) + 1) * session.new.n) }
     ensures reader { R.failures commands.new ≡ (if has_read_failed result then one_more (R.failures commands.old) else R.failures commands.old) }
     ensures writer { W.failures out.new ≡ (if has_write_failed result then one_more (W.failures out.old) else W.failures out.old) }
     ensures read { R.told ≡ true → TakesAtMost most_command_bytes (R.left commands.old) (R.left commands.new) }
@@ -118,7 +119,7 @@ fn converse<K: Keeper, R: Read, W: Write>(
         if is_end(&request) {
             return Ok(());
         }
-        match desk.answer_asked(session, &request, out) {
+        match desk.answer_asked(session, symbols, &request, out) {
             Ok(()) => {}
             Err(_) => return Err(DebugFault::WriteFailed),
         }

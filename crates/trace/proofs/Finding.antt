@@ -111,3 +111,21 @@ unfolding symbol_at
 named symbols positions place i e are within here there =
     let found : option_map {T = Bor (List ℕ) × Value} (λ s. (s.0.now, s.1)) e ≡ find (λ s. stands_for place s.1) symbols = there ∙ ap (slice_get symbols) (sym here) ∙ are.first place within in
     names_of e ∙ ap (option_map {T = List ℕ × Value} (λ s. s.0)) found
+
+-- the symbols gone over, one after another
+pub next_sought : (symbols : SymbolTable) (place : Linear) (i : ℕ) (x : List ℕ × Value) → Some x ≡ slice_get symbols i → stands_for place x.1 ≡ false
+    → find (λ e. stands_for place e.1) symbols ≡ find (λ e. stands_for place e.1) (drop i symbols) → find (λ e. stands_for place e.1) symbols ≡ find (λ e. stands_for place e.1) (drop (i + 1) symbols)
+next_sought symbols place i x at other so_far =
+    let next : suc i ≡ i + 1 = omega arith in
+    so_far ∙ find_from (λ e. stands_for place e.1) symbols i x at ∙ ap (λ b. cond b (Some x) (find (λ e. stands_for place e.1) (drop (suc i) symbols))) other
+    ∙ ap (λ n. find (λ e. stands_for place e.1) (drop n symbols)) next
+
+pub found_there : (symbols : SymbolTable) (place : Linear) (i : ℕ) (x : List ℕ × Value) → Some x ≡ slice_get symbols i → stands_for place x.1 ≡ true
+    → find (λ e. stands_for place e.1) symbols ≡ find (λ e. stands_for place e.1) (drop i symbols) → Some x.0 ≡ symbol_at symbols place
+unfolding symbol_at
+found_there symbols place i x at same so_far =
+    sym (ap (option_map (λ (e : List ℕ × Value). e.0)) (so_far ∙ find_from (λ e. stands_for place e.1) symbols i x at ∙ ap (λ b. cond b (Some x) (find (λ e. stands_for place e.1) (drop (suc i) symbols))) same))
+
+pub none_left : (symbols : SymbolTable) (place : Linear) (i : ℕ) → length symbols ≤ i → find (λ e. stands_for place e.1) symbols ≡ find (λ e. stands_for place e.1) (drop i symbols) → None ≡ symbol_at symbols place
+unfolding symbol_at
+none_left symbols place i past so_far = sym (ap (option_map (λ (e : List ℕ × Value). e.0)) (so_far ∙ past_end (λ e. stands_for place e.1) symbols i past))

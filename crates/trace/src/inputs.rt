@@ -13,7 +13,7 @@ use words::{push_all, push_decimal, push_octal};
 
 /// An input, as a line of a feed has it after its cycle.
 #[tactic(auto, using(words::proofs::Digits::short_decimal))]
-pub(crate) fn input_text(input: &Input) -> Text
+pub fn input_text(input: &Input) -> Text
     ensures items { result.items ≡ input_text input.now }
     ensures short { array_vec_len result ≤ 32 }
 {

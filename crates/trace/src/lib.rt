@@ -8,8 +8,9 @@ mod names;
 mod steps;
 mod written;
 
-pub use fields::{StepFields, decimal_text, place_text};
-pub use inputs::interrupt_name;
+pub use fields::{StepFields, Text, decimal_text, place_text};
+pub use inputs::{input_text, interrupt_name};
 pub use line::trace_step;
-pub use names::PlaceNames;
-pub use steps::{entry_place, what_text};
+pub use names::{Names, PlaceNames, place_name};
+pub use steps::{entry_place, fetched_text, what_text};
+pub use written::{cell_name, cell_reading};

@@ -2,8 +2,9 @@
 
 ghost use Rattle.std.specs.Prelude.{◌≡◌, ◌<◌, ◌≤◌, IfOk, IfSome, length};
 ghost use Rattle.std.specs.Option.{option_map};
+ghost use Rattle.symbols.specs.Values.{SymbolTable};
 ghost use Rattle.trace.specs.PlaceNumbers.{AreFirst, IsPlace, place_count, place_number, place_shown};
-ghost use Rattle.trace.specs.TraceLines.{place_name, register_name, symbol_at};
+ghost use Rattle.trace.specs.TraceLines.{place_name, register_name, stands_for, symbol_at};
 
 use space::Linear;
 use space::numbers::Eras;
@@ -39,6 +40,17 @@ impl Model for PlaceNames {
     ghost invariant = { λ n. AreFirst n.symbols 0 n.positions.items };
 }
 
+/// What names places.
+pub trait Names {
+    /// The symbols that name them.
+    ghost table: { Self → SymbolTable };
+
+    /// The first symbol that stands for a place.
+    fn symbol_at(&self, place: &Linear) -> Option<&[u8]>
+        ensures name { option_map (λ name. name.now) result ≡ symbol_at (table self.now) place.now }
+        ensures short { IfSome result (λ name. length name.now ≤ 8) };
+}
+
 impl PlaceNames {
     /// The names that some symbols give. An `Err` is that memory ran out.
     pub fn new(alloc: Global, symbols: Symbols) -> Result<PlaceNames, AllocError>
@@ -47,16 +59,33 @@ impl PlaceNames {
         let positions = first_positions(alloc, &symbols)?;
         Ok(PlaceNames { symbols, positions })
     }
+}
 
-    /// The first symbol that stands for a place.
-    fn symbol_at(&self, place: &Linear) -> Option<&[u8]>
-        ensures name { option_map (λ name. name.now) result ≡ symbol_at self.now place.now }
-        ensures short { IfSome result (λ name. length name.now ≤ 8) }
-    {
+/// By one look.
+impl Names for PlaceNames {
+    ghost table = { λ names. names };
+
+    fn symbol_at(&self, place: &Linear) -> Option<&[u8]> {
         match self.symbols.entry(self.positions[place_number(place)]) {
             Some(symbol) => Some(symbol.0),
             None => None,
         }
+    }
+}
+
+/// By going over the symbols.
+impl Names for Symbols {
+    ghost table = { λ symbols. symbols };
+
+    fn symbol_at(&self, place: &Linear) -> Option<&[u8]> {
+        for index in 0..self.len() {
+            if let Some(symbol) = self.entry(index) {
+                if stands_for(place, symbol.1) {
+                    return Some(symbol.0);
+                }
+            }
+        }
+        None
     }
 }
 
@@ -104,9 +133,26 @@ fn place_shown(value: Value) -> Option<Linear>
     }
 }
 
+/// Whether a place is what a symbol stands for.
+fn stands_for(place: &Linear, value: Value) -> bool
+    ensures { result ≡ stands_for place.now value }
+{
+    match value {
+        Value::Num(_) => false,
+        Value::Erasable(number) => match place {
+            Linear::Erasable(same) => *same == number,
+            Linear::Fixed(..) => false,
+        },
+        Value::Fixed(bank, offset) => match place {
+            Linear::Erasable(_) => false,
+            Linear::Fixed(same, at) => *same == bank.bank() && *at == offset,
+        },
+    }
+}
+
 /// The name of a place: a register's letters, or the first symbol that stands for it.
-pub(crate) fn place_name(names: &PlaceNames, place: Linear) -> Option<&[u8]>
-    ensures name { option_map (λ name. name.now) result ≡ place_name names.now place }
+pub fn place_name<N: Names>(names: &N, place: Linear) -> Option<&[u8]>
+    ensures name { option_map (λ name. name.now) result ≡ place_name (N.table names.now) place }
     ensures short { IfSome result (λ name. length name.now ≤ 8) }
 {
     match place {

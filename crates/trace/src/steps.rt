@@ -11,7 +11,7 @@ ghost use Rattle.trace.specs.TraceLines.{added_text, entry_place, fetched_text, 
 
 use crate::fields::{StepFields, Text, place_text, step_fields};
 use crate::inputs::{input_text, interrupt_name, push_asked};
-use crate::names::{PlaceNames, place_name};
+use crate::names::{Names, PlaceNames, place_name};
 use arrayvec::ArrayVec;
 use cpu::{Fetched, Machine, NextStep, Processor, disassemble, instruction_name, named_address};
 use feed::input::Input;
@@ -103,13 +103,13 @@ fn octal_word(word: Word) -> Text
 }
 
 /// An instruction: the word that stands at its place, as text, and what INDEX adds to it.
-fn fetched_text(
-    names: &PlaceNames,
+pub fn fetched_text<N: Names>(
+    names: &N,
     processor: &Processor,
     machine: &Machine,
     fetched: &Fetched,
 ) -> Text
-    ensures items { result.items ≡ fetched_text names.now processor.now.scenario.rope machine.now fetched.now }
+    ensures items { result.items ≡ fetched_text (N.table names.now) processor.now.scenario.rope machine.now fetched.now }
     ensures short { array_vec_len result ≤ 32 }
 {
     if fetched.waited {
@@ -122,8 +122,8 @@ fn fetched_text(
 }
 
 /// The instruction that a word is, under extracode or not, with the name of the place that it names.
-fn instruction_text(names: &PlaceNames, machine: &Machine, word: Word, extra: bool) -> Text
-    ensures items { result.items ≡ word_text names.now machine.now extra word }
+fn instruction_text<N: Names>(names: &N, machine: &Machine, word: Word, extra: bool) -> Text
+    ensures items { result.items ≡ word_text (N.table names.now) machine.now extra word }
     ensures short { array_vec_len result ≤ 24 }
 {
     let mut text = ArrayVec::new();
@@ -140,9 +140,9 @@ fn instruction_text(names: &PlaceNames, machine: &Machine, word: Word, extra: bo
 
 /// Appends the place to which an address leads, by its name, or the address.
 #[tactic(auto, unfolding(cpu::specs::Effects::place_in))]
-fn push_operand(text: &mut Text, names: &PlaceNames, machine: &Machine, address: Addr12)
+fn push_operand<N: Names>(text: &mut Text, names: &N, machine: &Machine, address: Addr12)
     requires { array_vec_len text.old ≤ 11 }
-    ensures items { text.new.items ≡ text.old.items ++ unwrap_or (place_name names.now (place_in machine.now address)) (octal_text 4 address) }
+    ensures items { text.new.items ≡ text.old.items ++ unwrap_or (place_name (N.table names.now) (place_in machine.now address)) (octal_text 4 address) }
     ensures short { array_vec_len text.new ≤ array_vec_len text.old + 8 }
 {
     match place_name(names, resolve(address, machine.store().banks())) {

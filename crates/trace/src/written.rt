@@ -7,7 +7,8 @@ ghost use Rattle.words.specs.Numerals.{octal_text};
 ghost use Rattle.space.specs.declared.place.Linear.TheVariants.{Erasable};
 ghost use Rattle.trace.specs.TraceLines.{cell_name, cell_reading, or_none, place_name, written};
 
-use crate::names::{PlaceNames, place_name};
+use crate::fields::Text;
+use crate::names::{Names, PlaceNames, place_name};
 use arrayvec::ArrayVec;
 use cpu::{Cell, Machine};
 use space::Linear;
@@ -61,55 +62,58 @@ fn push_written(line: &mut Line, names: &PlaceNames, machine: &Machine, cell: Ce
 {
     if cell != Cell::Z {
         push_all(line, b" ");
-        push_name(line, names, cell);
+        push_all(line, cell_name(names, cell).as_slice());
         push_all(line, b"=");
-        push_reading(line, machine, cell);
+        push_all(line, cell_reading(machine, cell).as_slice());
     }
 }
 
-/// Appends a cell: a place by its name or its number, or a channel.
-fn push_name(line: &mut Line, names: &PlaceNames, cell: Cell)
-    requires { array_vec_len line.old ≤ 341 }
-    ensures items { line.new.items ≡ line.old.items ++ cell_name names.now cell }
-    ensures short { array_vec_len line.new ≤ array_vec_len line.old + 8 }
+/// A cell: a place by its name or its number, or a channel.
+pub fn cell_name<N: Names>(names: &N, cell: Cell) -> Text
+    ensures items { result.items ≡ cell_name (N.table names.now) cell }
+    ensures short { array_vec_len result ≤ 8 }
 {
     let number = cell.number();
     match Eras::try_new(number) {
-        Some(place) => push_place(line, names, place),
+        Some(place) => erasable_name(names, place),
         None => {
-            push_all(line, b"CH");
-            push_octal(line, 3, number - FIRST_CHANNEL);
+            let mut text = ArrayVec::new();
+            push_all(&mut text, b"CH");
+            push_octal(&mut text, 3, number - FIRST_CHANNEL);
+            text
         }
     }
 }
 
-/// Appends an erasable place by its name, or by its number.
-fn push_place(line: &mut Line, names: &PlaceNames, place: Eras)
-    requires { array_vec_len line.old ≤ 341 }
-    ensures items { line.new.items ≡ line.old.items ++ unwrap_or (place_name names.now (Erasable place)) (octal_text 4 place) }
-    ensures short { array_vec_len line.new ≤ array_vec_len line.old + 8 }
+/// An erasable place by its name, or by its number.
+fn erasable_name<N: Names>(names: &N, place: Eras) -> Text
+    ensures items { result.items ≡ unwrap_or (place_name (N.table names.now) (Erasable place)) (octal_text 4 place) }
+    ensures short { array_vec_len result ≤ 8 }
 {
+    let mut text = ArrayVec::new();
     match place_name(names, Linear::Erasable(place)) {
-        Some(name) => push_all(line, name),
-        None => push_octal(line, 4, place.number()),
+        Some(name) => push_all(&mut text, name),
+        None => push_octal(&mut text, 4, place.number()),
     }
+    text
 }
 
-/// Appends what is read at a cell: 16 bits at A and Q, elsewhere a word.
-fn push_reading(line: &mut Line, machine: &Machine, cell: Cell)
-    requires { array_vec_len line.old ≤ 350 }
-    ensures items { line.new.items ≡ line.old.items ++ cell_reading machine.now.cells cell }
-    ensures short { array_vec_len line.new ≤ array_vec_len line.old + 6 }
+/// What is read at a cell: 16 bits at A and Q, elsewhere a word.
+pub fn cell_reading(machine: &Machine, cell: Cell) -> Text
+    ensures items { result.items ≡ cell_reading machine.now.cells cell }
+    ensures short { array_vec_len result ≤ 6 }
 {
     let number = cell.number();
+    let mut text = ArrayVec::new();
     match Eras::try_new(number) {
         Some(place) if place == Eras::A || place == Eras::Q => {
-            push_octal(line, 6, machine.reg(place).to_u16());
+            push_octal(&mut text, 6, machine.reg(place).to_u16());
         }
-        Some(place) => push_octal(line, 5, machine.word(place).to_u16()),
+        Some(place) => push_octal(&mut text, 5, machine.word(place).to_u16()),
         None => {
             let channel = Chan::of_low_bits(number - FIRST_CHANNEL);
-            push_octal(line, 5, machine.channel(channel).correct().to_u16());
+            push_octal(&mut text, 5, machine.channel(channel).correct().to_u16());
         }
     }
+    text
 }

@@ -1,10 +1,10 @@
-use Rattle.std.proofs.Common.{◌≡◌, ◌∙◌, ◌+◌, ◌++◌, ◌∷◌, [], ℕ, length, true, false, Ok, refl, sym, ap, arith, rules, length-append}
+use Rattle.std.proofs.Common.{◌≡◌, ℕ, ◌∙◌, ◌+◌, ◌++◌, ◌∷◌, [], true, false, Ok, refl, sym, ap, arith, rules}
 use Rattle.cpu.specs.Run.{outs}
 use Rattle.cpu.proofs.RunLaws.{outs-zero}
 use Rattle.debugger.specs.Replies.{last_of, tail_length}
 use Rattle.debugger.specs.Transcript.{command_lines}
-use Rattle.debugger.specs.Conversation.{reading, is_end}
-use Rattle.debugger.proofs.LineByLine.{taken-none, answered-none, taken-more, answered-more, writes-end, writes-quit, writes-read, writes-flush, writes-part, count-end, count-quit, cost-more, cost-same, reads-more, reads-none, takes-most}
+use Rattle.debugger.specs.Conversation.{reading, is_end, effort, efforts}
+use Rattle.debugger.proofs.LineByLine.{taken-none, answered-none, taken-more, answered-more, writes-end, writes-quit, writes-read, writes-flush, writes-part, count-end, count-quit, efforts-push, cost-more, cost-same, reads-more, reads-none, takes-most}
 use Rattle.debugger.proofs.session.converse.Goals as goal
 
 pub commands-init : goal.commands-init
@@ -70,7 +70,7 @@ returns-then-is_end-clause-cost g c = λ rt.
     let l = c.in-Ok-next_line.ensures.line rt (ap Ok s) in
     let asked = c.asked-request.ensures l.bytes l.kept_of in
     let quit : is_end (reading c.args.manner c.args.symbols.now l.bytes) ≡ true = ap is_end (sym asked) ∙ sym c.if-is_end.ensures in
-    rw (count-quit t.0 l.bytes _ _ l.taken quit) (cost-same _ _ _ _ t.1)
+    rw (count-quit t.0 l.bytes _ _ l.taken quit) (cost-same _ _ _ _ _ t.1)
 
 pub returns-then-is_end-clause-read : goal.returns-then-is_end-clause-read
 returns-then-is_end-clause-read g c = λ rt. takes-most _ _ _ _ (reads-more _ _ _ _ _ _ (c.commands.invariant.reads rt) (c.in-Ok-next_line.ensures.reads rt))
@@ -102,9 +102,10 @@ commands-preserved g c = record {
       let asked = c.asked-request.ensures l.bytes l.kept_of in
       let on : is_end (reading c.args.manner c.args.symbols.now l.bytes) ≡ false = ap is_end (sym asked) ∙ sym c.if-is_end.ensures in
       let session = c.in-Ok-answer_asked.ensures.session in
-      let count : length (t.0.done ++ l.bytes ∷ []) ≡ length t.0.done + 1 = length-append t.0.done (l.bytes ∷ []) in (
+      let read = reading c.args.manner c.args.symbols.now in
+      let count : efforts read (t.0.done ++ l.bytes ∷ []) ≡ efforts read t.0.done + effort (read l.bytes) = efforts-push read t.0.done l.bytes in (
         taken-more t.0 l.bytes _ _ (c.in-Ok-next_line.ensures.less (ap Ok s)) l.taken on,
-        rw count (cost-more _ _ _ _ _ _ t.1 session.forward session.cost),
+        rw count (cost-more _ _ _ _ _ _ _ t.1 session.forward (rw asked at session.cost)),
         λ wt. answered-more _ _ l.bytes (t.2 wt) on (rw (asked, c.in-Ok-next_line.ensures.written wt) at (c.in-Ok-answer_asked.ensures.executes wt)),
       );
 }

@@ -1,10 +1,10 @@
-use Rattle.std.proofs.Common.{◌≡◌, ◌+◌, ◌*◌, ◌≤◌, true, length}
+use Rattle.std.proofs.Common.{◌≡◌, ◌+◌, ◌*◌, ◌≤◌, true}
 use Rattle.cpu.specs.Run.{outs}
 use Rattle.commands.specs.Lines.{text_ahead, most_ahead, ReadsWithin}
 use Rattle.debugger.specs.Replies.{last_of, tail_length}
 use Rattle.debugger.specs.Transcript.{most_command_bytes}
 use Rattle.debugger.specs.Executions.{desk}
-use Rattle.debugger.specs.Conversation.{reading}
+use Rattle.debugger.specs.Conversation.{efforts, reading}
 use Rattle.debugger.proofs.LineByLine.{Taken, Answered}
 use Rattle.debugger.proofs.session.converse.Given as goal
 
@@ -16,8 +16,8 @@ invariant-commands g l = record {
   writer : g.W.Write.failures l.out ≡ g.W.Write.failures l.fn.out;
   reads : g.R.Read.told ≡ true → ReadsWithin (g.R.Read.left l.fn.commands) (g.R.Read.left l.commands) most_command_bytes l.reader.more;
   lines : g.R.Read.told ≡ true → (r : Taken (reading l.manner l.symbols) (g.R.Read.left l.fn.commands) most_command_bytes (text_ahead l.reader (g.R.Read.left l.commands)) (most_ahead l.reader))
-      × (l.session.meter ≤ l.fn.session.meter + (3 * length r.done + 1) * l.session.n)
-      × (g.W.Write.told ≡ true → Answered (record { may_refuse = g.K.Keeper.may_refuse; read = reading l.manner l.symbols; scenario = l.fn.session.scenario }) r.done (desk l.session l.desk.position l.desk.breakpoints) (g.W.Write.written l.fn.out) (g.W.Write.written l.out));
+      × (l.session.meter ≤ l.fn.session.meter + (efforts (reading l.manner l.symbols) r.done + 1) * l.session.n)
+      × (g.W.Write.told ≡ true → Answered (record { may_refuse = g.K.Keeper.may_refuse; symbols = l.symbols; read = reading l.manner l.symbols; scenario = l.fn.session.scenario }) r.done (desk l.session l.desk.position l.desk.breakpoints) (g.W.Write.written l.fn.out) (g.W.Write.written l.out));
 }
 
 abbrev pub decreases-commands : goal.decreases-commands

@@ -9,4 +9,4 @@ unfolding extended_reply
 returns-clause-brings g c =
     asked_text c.args.session.now c.show.follows.lender-at-none c.args.self.now.position c.args.self.now.position c.args.self.now.breakpoints c.args.self.now.breakpoints AllRegisters c.all_registers_text.result.items
     c.show.follows.holds-at-none.same
-    (λ answers additions. rw (c.all_registers_text.ensures, c.in-Ok.ensures.shown) refl)
+    (λ symbols answers additions. rw (c.all_registers_text.ensures, c.in-Ok.ensures.shown) refl)

@@ -2,7 +2,7 @@ use Rattle.std.proofs.Common.{◌∙◌, get_or, sym, ap, arith, None, Some}
 use Rattle.std.proofs.lemmas.List.{get_or_read}
 use Rattle.trace.specs.TraceLines.{symbol_at}
 use Rattle.trace.proofs.Finding.{named}
-use Rattle.trace.proofs.names.PlaceNames.symbol_at.Goals as goal
+use Rattle.trace.proofs.names.PlaceNamesNames.symbol_at.Goals as goal
 
 pub returns-in-Some-clause-name : goal.returns-in-Some-clause-name
 returns-in-Some-clause-name c =

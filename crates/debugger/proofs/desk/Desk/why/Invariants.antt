@@ -1,0 +1,18 @@
+use Rattle.std.proofs.Common.{◌≡◌, ◌≤◌, ◌+◌, ◌*◌, true}
+use Rattle.debugger.specs.Whys.{why_text, subject_spots}
+use Rattle.debugger.specs.ToldLinks.{ToldLinks}
+use Rattle.debugger.proofs.desk.Desk.why.Given as goal
+
+abbrev pub invariant-loop-left : goal.invariant-loop-left
+invariant-loop-left g l = record {
+  before : l.before ≤ l.session.n;
+  left : l.left ≤ l.fn.links;
+  scenario : l.session.scenario ≡ l.fn.session.scenario;
+  steps : l.session.n ≡ l.fn.session.n;
+  cost : l.session.meter + 4 * l.left * l.fn.session.n ≤ l.fn.session.meter + 4 * l.fn.links * l.fn.session.n;
+  failures : g.W.Write.failures l.out ≡ g.W.Write.failures l.fn.out;
+  told : g.W.Write.told ≡ true → ToldLinks l.symbols l.fn.session.scenario (why_text l.symbols l.fn.session.scenario l.fn.links l.self.position (subject_spots l.fn.subject)) (g.W.Write.written l.fn.out) (g.W.Write.written l.out) l.left l.before l.pending;
+}
+
+abbrev pub decreases-loop-left : goal.decreases-loop-left
+decreases-loop-left g l = l.left

@@ -1,0 +1,15 @@
+use Rattle.std.proofs.Common.{◌∙◌, refl, ap}
+use Rattle.cpu.specs.Chains.{link_at}
+use Rattle.debugger.specs.Whys.{CellSet, cells_before, step_line}
+use Rattle.debugger.proofs.Chained.{follows_on}
+use Rattle.debugger.proofs.why.link_line.Goals as goal
+
+pub returns-clause-line : goal.returns-clause-line
+unfolding step_line
+returns-clause-line g c = λ xs is.
+    rw (c.by_line.ensures, c.begun_at-begun.ensures.kind, c.begun_at-begun.ensures.reads, c.cells_after-cells.ensures.items, c.begun_at-begun.ensures.looked.scenario, c.begun_at-begun.ensures.cells, is) refl
+
+pub returns-clause-pending : goal.returns-clause-pending
+returns-clause-pending g c = λ xs is.
+    let k = link_at c.args.session.now.scenario c.args.step in
+    c.begun_at-begun.ensures.pending ∙ ap (λ (cells : CellSet). cells_before k cells) is ∙ follows_on k xs

@@ -1,0 +1,161 @@
+-- How a word came to be what it is, as text: the steps of a chain, the last first, each with what it wrote and what it read.
+use Rattle.std.specs.Prelude.{ℕ, suc, zero, ◌+◌, ◌==◌, ◌&&◌, ◌||◌, Bool, true, false, List, [], ◌∷◌, ◌++◌, map, filter, length, unwrap_or, codes, decimal, if◌then◌else◌}
+use Rattle.std.specs.List.{flat_map, range_with_len}
+use Rattle.std.specs.Ordering.{nat_cmp}
+use Rattle.std.specs.FinSet as set
+use Rattle.words.specs.Numerals.{octal_text}
+use Rattle.space.specs.Cells.{Cells}
+use Rattle.space.specs.declared.place.Linear.TheVariants.{Fixed}
+use Rattle.rope.specs.Places.{Words, word_at}
+use Rattle.symbols.specs.Values.{SymbolTable}
+use Rattle.cpu.specs.State.{State, Scenario, start}
+use Rattle.cpu.specs.Run.{run}
+use Rattle.cpu.specs.Links.{Link, link, targets, sources, place_spots, channel_spots}
+use Rattle.cpu.specs.Chains.{cells_among, link_at, before_step, chain_origins}
+use Rattle.cpu.specs.NextStep.{next_step}
+use Rattle.cpu.specs.declared.spot.Spot.{Spot}
+use Rattle.cpu.specs.declared.spot.Spot.TheVariants.{Cell, InRope}
+use Rattle.cpu.specs.declared.next_step.NextStep.{NextStep}
+use Rattle.cpu.specs.declared.next_step.NextStep.TheVariants.{Takes, Enters, Executes}
+use Rattle.replay.specs.Whys.{why_steps}
+use Rattle.trace.specs.TraceLines.{cell_name, cell_reading, fetched_text, input_text, place_name}
+use Rattle.commands.specs.declared.subject.Subject.{Subject}
+use Rattle.commands.specs.declared.subject.Subject.TheVariants.{Place, Channel}
+use Rattle.debugger.specs.Replies.{line}
+use Rattle.debugger.specs.PlaceTexts.{place_text}
+
+-- cells
+abbrev pub CellSet : Type 0
+CellSet = set.FinSet nat_cmp
+
+-- how many cells there are
+abbrev pub cell_count : ℕ
+cell_count = 0o5000
+
+-- the spots of what `why` is about
+abbrev pub subject_spots : Subject → List Spot
+subject_spots (Place p) = place_spots p
+subject_spots (Channel c) = channel_spots c
+
+-- the cells of a list that are in a set, each once, and the set without them
+abbrev pub those_in : List ℕ → CellSet → List ℕ
+those_in [] cells = []
+those_in (c ∷ cs) cells = if set.contains cells c then c ∷ those_in cs (set.remove cells c) else those_in cs cells
+
+abbrev pub left_in : List ℕ → CellSet → CellSet
+left_in [] cells = cells
+left_in (c ∷ cs) cells = left_in cs (if set.contains cells c then set.remove cells c else cells)
+
+-- some spots and then more, each once
+abbrev pub same_spot : Spot → Spot → Bool
+same_spot (Cell c) (Cell d) = c == d
+same_spot (Cell c) (InRope bank offset) = false
+same_spot (InRope bank offset) (Cell d) = false
+same_spot (InRope bank offset) (InRope b o) = bank == b && offset == o
+
+abbrev pub has_spot : List Spot → Spot → Bool
+has_spot [] x = false
+has_spot (y ∷ ys) x = same_spot y x || has_spot ys x
+
+abbrev pub with_spots : List Spot → List Spot → List Spot
+with_spots told [] = told
+with_spots told (x ∷ xs) = with_spots (if has_spot told x then told else told ++ x ∷ []) xs
+
+-- what a step reads for cells that it writes
+abbrev pub reads : Link → List ℕ → List Spot
+reads k cs = with_spots [] (flat_map (λ c. sources k (Cell c)) cs)
+
+-- cells, and those among some spots
+abbrev pub with_cells : CellSet → List Spot → CellSet
+with_cells cells [] = cells
+with_cells cells (Cell c ∷ xs) = with_cells (set.insert cells c) xs
+with_cells cells (InRope bank offset ∷ xs) = with_cells cells xs
+
+-- the cells that are followed before a step, of those after it
+abbrev pub cells_before : Link → CellSet → CellSet
+cells_before k cells = with_cells (left_in (targets k) cells) (reads k (those_in (targets k) cells))
+
+-- the cells of a set, in their order
+unfoldable pub cells_of : CellSet → List ℕ
+cells_of cells = filter (set.contains cells) (range_with_len 0 cell_count)
+
+-- a cell with what is read there, and a spot
+abbrev pub cell_text : SymbolTable → Cells → ℕ → List ℕ
+cell_text symbols cells c = codes " " ++ cell_name symbols c ++ codes " " ++ cell_reading cells c
+
+abbrev pub fixed_text : SymbolTable → Words → ℕ → ℕ → List ℕ
+fixed_text symbols rope bank offset =
+    codes " " ++ unwrap_or (place_name symbols (Fixed bank offset)) (place_text (Fixed bank offset)) ++ codes " " ++ octal_text 5 (word_at rope bank offset)
+
+abbrev pub spot_text : SymbolTable → Words → Cells → Spot → List ℕ
+spot_text symbols rope cells (Cell c) = cell_text symbols cells c
+spot_text symbols rope cells (InRope bank offset) = fixed_text symbols rope bank offset
+
+-- a text, or that there is nothing
+abbrev pub or_nothing : List ℕ → List ℕ
+or_nothing [] = codes " NOTHING"
+or_nothing text = text
+
+-- what a step is: an input as a feed has it, the entry of an interrupt, or an instruction
+abbrev pub kind_text : SymbolTable → Words → State → NextStep → List ℕ
+kind_text symbols rope s (Takes input) = input_text input
+kind_text symbols rope s (Enters k) = codes "INTERRUPT " ++ decimal k
+kind_text symbols rope s (Executes f) = fetched_text symbols rope s f
+
+-- of a step from one state to another: what it is; the cells that are followed, with what they hold after it; what it read for
+-- them, with what stood there before
+abbrev pub kind_part : SymbolTable → Scenario → State → List ℕ
+kind_part symbols scenario before = kind_text symbols scenario.rope before (next_step scenario before)
+
+abbrev pub cells_part : SymbolTable → State → List ℕ → List ℕ
+cells_part symbols after cs = or_nothing (flat_map (cell_text symbols after.cells) cs)
+
+abbrev pub reads_part : SymbolTable → Words → State → List Spot → List ℕ
+reads_part symbols rope before xs = or_nothing (flat_map (spot_text symbols rope before.cells) xs)
+
+-- the line of a step, by its number and these parts
+abbrev pub by_line : ℕ → List ℕ → List ℕ → List ℕ → List ℕ
+by_line number kind cells read =
+    line (codes "BY " ++ decimal number ++ codes " " ++ kind ++ codes " :" ++ cells ++ codes " FROM" ++ read)
+
+-- the line of the step after t steps, and of the cells that it writes
+unfoldable pub step_line : SymbolTable → Scenario → ℕ → List ℕ → List ℕ
+step_line symbols scenario t cs =
+    by_line (t + 1) (kind_part symbols scenario (run scenario t)) (cells_part symbols (run scenario (t + 1)) cs)
+    (reads_part symbols scenario.rope (run scenario t) (reads (link_at scenario t) cs))
+
+-- the same, of those among some spots
+abbrev pub link_line : SymbolTable → Scenario → ℕ → List Spot → List ℕ
+link_line symbols scenario t xs = step_line symbols scenario t (those_in (targets (link_at scenario t)) (cells_among xs))
+
+-- the lines of a chain from some spots
+abbrev pub chain_text : SymbolTable → Scenario → List Spot → List ℕ → List ℕ
+chain_text symbols scenario xs [] = []
+chain_text symbols scenario xs (t ∷ ts) = link_line symbols scenario t xs ++ chain_text symbols scenario (before_step scenario t xs) ts
+
+-- how it ends, by whether it was cut short and which cells are left: all of them were told; more may be; or what is left was
+-- never written since the start, and is told with what it held there
+abbrev pub end_text : SymbolTable → Bool → List ℕ → List ℕ
+end_text symbols cut [] = line (codes "ALL")
+end_text symbols true (c ∷ cs) = line (codes "MORE " ++ decimal (length (c ∷ cs)))
+end_text symbols false (c ∷ cs) = line (codes "START" ++ flat_map (cell_text symbols start.cells) (c ∷ cs))
+
+-- how it ends from some spots
+abbrev pub end_from : SymbolTable → Bool → List Spot → List ℕ
+end_from symbols cut xs = end_text symbols cut (cells_of (cells_among xs))
+
+-- how what stands at some spots after p steps came to be, by at most k steps, which are a chain (`why_is_chain`)
+abbrev pub chained_text : SymbolTable → Scenario → ℕ → List Spot → List ℕ → List ℕ
+chained_text symbols scenario k xs ts = chain_text symbols scenario xs ts ++ end_from symbols (length ts == k) (chain_origins scenario xs ts)
+
+unfoldable pub why_text : SymbolTable → Scenario → ℕ → ℕ → List Spot → List ℕ
+why_text symbols scenario k p xs = chained_text symbols scenario k xs (why_steps scenario k p xs)
+
+-- the spots that a step writes
+abbrev pub target_spots : Scenario → ℕ → List Spot
+target_spots scenario t = map (λ c. Cell c) (targets (link_at scenario t))
+
+-- what the step did that led to p steps
+unfoldable pub last_text : SymbolTable → Scenario → ℕ → List ℕ
+last_text symbols scenario zero = line (codes "START")
+last_text symbols scenario (suc t) = chained_text symbols scenario 1 (target_spots scenario t) (t ∷ [])

@@ -1,0 +1,183 @@
+//! `why`: how a word came to be what it is.
+
+ghost use Rattle.std.specs.Prelude.{◌≡◌, List, ◌+◌, ◌-◌, ◌*◌, ◌<◌, ◌≤◌, ◌++◌, ◌^◌, true};
+ghost use Rattle.words.specs.Devices.{Writes, failures_after};
+ghost use Rattle.cpu.specs.Run.{run};
+ghost use Rattle.cpu.specs.Chains.{cells_among, link_at, before_step};
+ghost use Rattle.std.specs.FinSet.{empty};
+ghost use Rattle.cpu.specs.Links.{targets, place_spots};
+ghost use Rattle.cpu.specs.declared.spot.Spot.{Spot};
+ghost use Rattle.debugger.specs.Whys.{why_text, last_text, link_line, subject_spots, target_spots, kind_part, cells_part, reads_part, reads, those_in, cells_before};
+ghost use Rattle.debugger.specs.Executions.{HasLooked};
+
+use crate::desk::Desk;
+use crate::link_texts::{LinkLine, Part, Piece, by_line, cells_part, end_text, kind_part, reads_part};
+use crate::links::{Link, Targets, all_among, link_of};
+use commands::Subject;
+use cpu::{Cell, CellSet};
+use replay::{Keeper, Session};
+use space::{Chan, Eras};
+use symbols::Symbols;
+use words::{Write, WriteFailed, write_all};
+
+impl Desk {
+    /// `why` of something: how the word there came to be what it is at the position, by at most so many steps.
+    pub(crate) fn why<K: Keeper, W: Write>(
+        &self,
+        session: &mut Session<K>,
+        symbols: &Symbols,
+        subject: Subject,
+        links: u64,
+        out: &mut W,
+    ) -> Result<(), WriteFailed>
+        requires { self.now.position ≤ session.old.n }
+        ensures writes { W.told ≡ true → Writes (W.written out.old) (W.written out.new) (why_text symbols.now session.old.scenario links self.now.position (subject_spots subject)) result }
+        ensures looked { HasLooked session.old session.new ((4 * links + 1) * session.old.n) }
+        ensures failures { W.failures out.new ≡ failures_after (W.failures out.old) result }
+    {
+        let mut pending = subject_cells(subject);
+        let mut before = self.position;
+        let mut left = links;
+        while left > 0 {
+            let Some(step) = session.seek_writer(before, &pending) else {
+                return write_all(out, end_text(symbols, false, &pending).as_slice());
+            };
+            write_all(out, link_line(session, symbols, step, &mut pending).as_slice())?;
+            before = step;
+            left -= 1;
+        }
+        write_all(out, end_text(symbols, true, &pending).as_slice())
+    }
+
+    /// `why` alone: what the step did that led to the position.
+    #[tactic(auto, unfolding(crate::specs::Whys::last_text))]
+    pub(crate) fn why_step<K: Keeper, W: Write>(
+        &self,
+        session: &mut Session<K>,
+        symbols: &Symbols,
+        out: &mut W,
+    ) -> Result<(), WriteFailed>
+        requires { self.now.position ≤ session.old.n }
+        ensures writes { W.told ≡ true → Writes (W.written out.old) (W.written out.new) (last_text symbols.now session.old.scenario self.now.position) result }
+        ensures looked { HasLooked session.old session.new (3 * session.old.n) }
+        ensures failures { W.failures out.new ≡ failures_after (W.failures out.old) result }
+    {
+        if self.position == 0 {
+            return write_all(out, b"START\n");
+        }
+        let step = self.position - 1;
+        let mut pending = cells_written(session, step);
+        write_all(out, link_line(session, symbols, step, &mut pending).as_slice())?;
+        write_all(out, end_text(symbols, true, &pending).as_slice())
+    }
+}
+
+/// The cells of what `why` is about: BB is FB and EB, and the place that reads as 0 has none.
+fn subject_cells(subject: Subject) -> CellSet
+    ensures { result ≡ cells_among (subject_spots subject) }
+{
+    let mut cells = CellSet::new();
+    match subject {
+        Subject::Place(place) => insert_place(&mut cells, place),
+        Subject::Channel(channel) => cells.insert(Cell::of_channel(channel)),
+    }
+    cells
+}
+
+/// Puts the cells of an erasable place into the set of none.
+fn insert_place(cells: &mut CellSet, place: Eras)
+    requires { cells.old ≡ empty }
+    ensures { cells.new ≡ cells_among (place_spots place) }
+{
+    if place == Eras::BB {
+        cells.insert(Cell::of_place(Eras::EB));
+        cells.insert(Cell::of_place(Eras::FB));
+    } else if place != Eras::ZERO {
+        cells.insert(Cell::of_place(place));
+    }
+}
+
+/// The cells that the step after so many writes.
+#[tactic(auto, using(crate::proofs::Looking::looked_near, crate::proofs::Looking::fits_at))]
+fn cells_written<K: Keeper>(session: &mut Session<K>, step: u64) -> CellSet
+    requires { step < session.old.n }
+    ensures cells { result ≡ cells_among (target_spots session.old.scenario step) }
+    ensures looked { HasLooked session.old session.new (session.old.n - step) }
+{
+    match session.with_present(step) {
+        Ok((machine, _, processor)) => all_among(processor.targets(machine).as_slice()),
+        Err(_) => unreachable!(),
+    }
+}
+
+/// What is told of a step before it is made.
+#[derive(Drop)]
+struct Begun {
+    kind: Piece,
+    cells: Targets,
+    reads: Part,
+}
+
+/// The line of the step after so many, of some cells that are followed. Those from which these come are followed on.
+fn link_line<K: Keeper>(
+    session: &mut Session<K>,
+    symbols: &Symbols,
+    step: u64,
+    pending: &mut CellSet,
+) -> LinkLine
+    requires within { step < session.old.n }
+    requires fits { step + 1 < 2 ^ 64 }
+    ensures line { (xs : List Spot) → pending.old ≡ cells_among xs → result.items ≡ link_line symbols.now session.old.scenario step xs }
+    ensures pending { (xs : List Spot) → pending.old ≡ cells_among xs → pending.new ≡ cells_among (before_step session.old.scenario step xs) }
+    ensures looked { HasLooked session.old session.new (2 * (session.old.n - step)) }
+{
+    let begun = begun_at(session, symbols, step, pending);
+    let cells = cells_after(session, symbols, step + 1, &begun.cells);
+    by_line(step + 1, &begun.kind, &cells, &begun.reads)
+}
+
+/// What is told of the step after so many before it is made.
+#[tactic(auto, using(crate::proofs::Looking::looked_near, crate::proofs::Looking::fits_at))]
+fn begun_at<K: Keeper>(
+    session: &mut Session<K>,
+    symbols: &Symbols,
+    step: u64,
+    pending: &mut CellSet,
+) -> Begun
+    requires { step < session.old.n }
+    ensures kind { result.kind.items ≡ kind_part symbols.now session.old.scenario (run session.old.scenario step) }
+    ensures cells { result.cells.items ≡ those_in (targets (link_at session.old.scenario step)) pending.old }
+    ensures reads { result.reads.items ≡ reads_part symbols.now session.old.scenario.rope (run session.old.scenario step) (reads (link_at session.old.scenario step) result.cells.items) }
+    ensures pending { pending.new ≡ cells_before (link_at session.old.scenario step) pending.old }
+    ensures looked { HasLooked session.old session.new (session.old.n - step) }
+{
+    match session.with_present(step) {
+        Ok((machine, _, processor)) => {
+            let Link { cells, spots } = link_of(processor, machine, pending);
+            Begun {
+                kind: kind_part(symbols, processor, machine),
+                reads: reads_part(symbols, processor, machine, spots.as_slice()),
+                cells,
+            }
+        }
+        Err(_) => unreachable!(),
+    }
+}
+
+/// Cells with what they hold after so many steps.
+#[tactic(auto, using(crate::proofs::Looking::looked_near, crate::proofs::Looking::fits_at))]
+fn cells_after<K: Keeper>(
+    session: &mut Session<K>,
+    symbols: &Symbols,
+    step: u64,
+    cells: &Targets,
+) -> Part
+    requires { step ≤ session.old.n }
+    ensures items { result.items ≡ cells_part symbols.now (run session.old.scenario step) cells.now.items }
+    ensures looked { HasLooked session.old session.new (session.old.n - step) }
+{
+    match session.show(step) {
+        Ok(machine) => cells_part(symbols, machine, cells.as_slice()),
+        Err(_) => unreachable!(),
+    }
+}
