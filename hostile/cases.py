@@ -35,6 +35,12 @@ CALLS = {
         ["debug", "--image", "case", EMPTY],
         ["debug", "--image", "--rope=1", "case", CLOCK],
         ["upgrade", "case", "made"],
+    ],
+}
+
+# Calls by which cases are tried besides, in processes of their own alone.
+FURTHER_CALLS = {
+    "image": [
         ["parity", "case"],
         ["parity", "--form=hardware", "case"],
         ["words", "--source", "--parity=ignore", "case"],
@@ -103,8 +109,14 @@ def is_any_missing(script, *programs):
 
 
 def call_of(kind, number):
-    """The call by which a case is tried."""
+    """The call by which a case is tried in one process with others."""
     return CALLS[kind][number % len(CALLS[kind])]
+
+
+def any_call_of(kind, number):
+    """The call by which a case is tried in a process of its own."""
+    calls = CALLS[kind] + FURTHER_CALLS.get(kind, [])
+    return calls[number % len(calls)]
 
 
 def with_ending(ending):

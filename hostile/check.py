@@ -515,9 +515,9 @@ class Worker:
         signal.alarm(0)
         return os.waitstatus_to_exitcode(status), read(self.out), read(self.err), time.monotonic() - started, used.ru_maxrss * 1024
 
-    def call(self, kind, number):
-        """What a case is answered, as `run` tells it, and of how many bytes it is."""
-        content, words = self.maker.case(kind, number), cases.call_of(kind, number)
+    def call(self, words, kind, number):
+        """What a case is answered to a call, as `run` tells it, and of how many bytes it is."""
+        content = self.maker.case(kind, number)
         write(self.case, content)
         if "twin" in words:
             write(self.twin, self.maker.twin(kind, number, content))
@@ -528,8 +528,9 @@ class Worker:
 
     def try_case(self, kind, number):
         """Why a case is wrong, or nothing, with its time and memory."""
-        (status, out, err, seconds, most), length = self.call(kind, number)
-        why = self.why(kind, cases.call_of(kind, number), status, out, err)
+        words = cases.any_call_of(kind, number)
+        (status, out, err, seconds, most), length = self.call(words, kind, number)
+        why = self.why(kind, words, status, out, err)
         return why or ("too much memory" if most > MOST_MEMORY + MEMORY_PER_BYTE * length else ""), seconds, most
 
     def why(self, kind, words, status, out, err):
@@ -547,7 +548,7 @@ class Worker:
 
     def answer(self, kind, number):
         """What `hostile/long_run` would tell of a case."""
-        (status, out, err, _, _), _ = self.call(kind, number)
+        (status, out, err, _, _), _ = self.call(cases.call_of(kind, number), kind, number)
         made = os.path.getsize(self.made) if os.path.exists(self.made) else -1
         return f"told {number} {status} {err.decode().splitlines()[0] if err else '-'} {len(out)} {zlib.crc32(out)} {made}"
 
