@@ -443,6 +443,10 @@ With --extended there are these besides, and after E50 COMMAND stands why:
   until CYCLES         to the first step with so many cycles, back or on
   regs all             all registers and flags, a line each; ASKED, the
                        interrupts asked for; SUM and WORD, what waits; CYCLES
+  why PLACE, .. K      the steps that made the word there, the last first, at
+                       most K or 16: BY T, the step, what it wrote, FROM, what
+                       it read; then ALL, MORE how many cells, or START
+  why                  the same of the step that led to P, whatever it wrote
   breaks               the breakpoints, one a line, as BREAK I at PLACE; COUNT
   clear I              breakpoint I is taken away: CLEAR I, or NONE
   echo TEXT            TEXT, as it stands, so that a reply's end can be told

@@ -1,5 +1,5 @@
 -- The cells that are followed before a step, and the text of a chain link by link.
-use Rattle.std.proofs.Common.{◌≡◌, ℕ, zero, suc, ◌+◌, ◌==◌, Bool, true, false, not, ◌&&◌, ◌||◌, cond, List, [], ◌∷◌, ◌++◌, length, drop, get_or, ◌<◌, Some, None, Option, refl, sym, ap, ◌∙◌, arith, append_assoc, ◌⊎◌, inl, inr}
+use Rattle.std.proofs.Common.{◌≡◌, ℕ, suc, ◌+◌, ◌==◌, Bool, true, false, not, ◌&&◌, ◌||◌, cond, List, [], ◌∷◌, ◌++◌, length, drop, get_or, ◌<◌, Some, None, Option, refl, sym, ap, ◌∙◌, arith, append_assoc, ◌⊎◌, inl, inr}
 use Rattle.std.proofs.lemmas.Bool.Decides.{nat_tests}
 use Rattle.std.proofs.lemmas.Bool.{cases_Bool}
 use Rattle.std.proofs.Math.Seq.{drop-cons}
@@ -10,12 +10,12 @@ use Rattle.std.specs.FinSet as set
 use Rattle.symbols.specs.Values.{SymbolTable}
 use Rattle.cpu.specs.State.{Scenario}
 use Rattle.cpu.specs.Links.{Link, targets, sources, is_in}
-use Rattle.cpu.specs.Chains.{cells_among, writes_at, before_step}
+use Rattle.cpu.specs.Chains.{cells_among, before_step}
 use Rattle.cpu.specs.declared.spot.Spot.{Spot}
 use Rattle.cpu.specs.declared.spot.Spot.TheVariants.{Cell, InRope}
 use Rattle.cpu.proofs.Chaining.{own_source}
 use Rattle.replay.specs.Whys.{and_then, last_writer, why_steps}
-use Rattle.debugger.specs.Whys.{CellSet, those_in, left_in, same_spot, has_spot, with_spots, reads, with_cells, cells_before, link_line, chain_text, end_from, chained_text, why_text}
+use Rattle.debugger.specs.Whys.{CellSet, those_in, left_in, has_spot, with_spots, reads, with_cells, cells_before, link_line, chain_text, end_from, chained_text, why_text}
 
 -- whether a cell is among some spots
 has_cell : List Spot → ℕ → Bool
@@ -139,7 +139,7 @@ told_by told x xs q false here more =
 
 told_has : (told xs : List Spot) (q : ℕ) → has_cell (with_spots told xs) q ≡ (has_cell told q || has_cell xs q)
 unfolding has_cell
-told_has told [] q = same_truth _ _ (λ h. left_of _ _ h) (λ h. elim (either (has_cell told q) false h) [ | inl old ↦ old | inr none ↦ absurd cc ])
+told_has told [] q = same_truth _ _ (λ h. left_of _ _ h) (λ h. elim (either (has_cell told q) false h) [ inl old ↦ old | inr none ↦ absurd cc ])
 told_has told (x ∷ xs) q =
     told_by told x xs q (has_spot told x) refl (λ others. told_has others xs q)
     ∙ ap (λ b. has_cell told q || b) (sym (has_append (x ∷ []) xs q))
@@ -206,7 +206,7 @@ negated false h = refl
 
 own_has : (q c : ℕ) → has_cell (Cell c ∷ []) q ≡ true → q ≡ c
 unfolding has_cell
-own_has q c h = elim (either (q == c) false h) [ | inl same ↦ grind (arith, nat_tests) | inr none ↦ absurd cc ]
+own_has q c h = elim (either (q == c) false h) [ inl same ↦ grind (arith, nat_tests) | inr none ↦ absurd cc ]
 
 own_is : (c : ℕ) → has_cell (Cell c ∷ []) c ≡ true
 unfolding has_cell
@@ -241,9 +241,9 @@ module _ (k : Link) (xs : List Spot) (q : ℕ) where
         | inl written ↦ right_of (not (is_in q (targets k)) && has_cell xs q) _ (through_target k (those_in (targets k) (cells_among xs)) f.0 q
             (taken_has (targets k) (cells_among xs) f.0 ∙ both _ _ written (among_has xs f.0 ∙ f.1)) f.2)
         | inr kept ↦
-          let own = own_source k (Cell f.0) kept in
-          let is : q ≡ f.0 = own_has q f.0 (sym (ap (λ (ys : List Spot). has_cell ys q) own) ∙ f.2) in
-          left_of _ _ (both (not (is_in q (targets k))) (has_cell xs q) (rw (is, kept) refl) (rw is f.1))
+            let own = own_source k (Cell f.0) kept in
+            let is : q ≡ f.0 = own_has q f.0 (sym (ap (λ (ys : List Spot). has_cell ys q) own) ∙ f.2) in
+            left_of _ _ (both (not (is_in q (targets k))) (has_cell xs q) (rw (is, kept) refl) (rw is f.1))
       ]
 
 pub follows_on : (k : Link) (xs : List Spot) → cells_before k (cells_among xs) ≡ cells_among (flat_map (sources k) xs)

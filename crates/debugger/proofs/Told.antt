@@ -1,5 +1,5 @@
 -- The lines of `why`, one after another.
-use Rattle.std.proofs.Common.{◌≡◌, true, false, ℕ, zero, suc, ◌+◌, ◌-◌, ◌*◌, ◌<◌, ◌≤◌, List, [], ◌++◌, Option, Some, None, Result, Ok, Err, refl, sym, ap, ◌∙◌, append_assoc, append-nil, arith}
+use Rattle.std.proofs.Common.{◌≡◌, true, false, ℕ, zero, suc, ◌+◌, ◌-◌, ◌*◌, ◌<◌, ◌≤◌, List, [], ◌++◌, Some, None, Result, Ok, Err, refl, sym, ap, ◌∙◌, append_assoc, append-nil, arith}
 use Rattle.words.specs.Devices.{Writes, WritesBeginning}
 use Rattle.words.specs.declared.device.WriteFailed.{WriteFailed}
 use Rattle.words.proofs.Texts.{append-then, beginning-after, beginning-longer}

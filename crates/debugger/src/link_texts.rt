@@ -138,7 +138,10 @@ fn push_spots(
     ensures short { array_vec_len text.new ≤ array_vec_len text.old + 16 * length spots.now }
 {
     for spot in spots {
-        push_all(text, spot_text(symbols, processor, machine, *spot).as_slice());
+        push_all(
+            text,
+            spot_text(symbols, processor, machine, *spot).as_slice(),
+        );
     }
 }
 
@@ -169,11 +172,7 @@ fn fixed_text(symbols: &Symbols, processor: &Processor, bank: Bank, offset: Offs
         }
     }
     push_all(&mut text, b" ");
-    push_octal(
-        &mut text,
-        5,
-        processor.rope().word(bank, offset).to_u16(),
-    );
+    push_octal(&mut text, 5, processor.rope().word(bank, offset).to_u16());
     text
 }
 

@@ -11,7 +11,9 @@ ghost use Rattle.debugger.specs.Whys.{why_text, last_text, link_line, subject_sp
 ghost use Rattle.debugger.specs.Executions.{HasLooked};
 
 use crate::desk::Desk;
-use crate::link_texts::{LinkLine, Part, Piece, by_line, cells_part, end_text, kind_part, reads_part};
+use crate::link_texts::{
+    LinkLine, Part, Piece, by_line, cells_part, end_text, kind_part, reads_part,
+};
 use crate::links::{Link, Targets, all_among, link_of};
 use commands::Subject;
 use cpu::{Cell, CellSet};
@@ -42,7 +44,10 @@ impl Desk {
             let Some(step) = session.seek_writer(before, &pending) else {
                 return write_all(out, end_text(symbols, false, &pending).as_slice());
             };
-            write_all(out, link_line(session, symbols, step, &mut pending).as_slice())?;
+            write_all(
+                out,
+                link_line(session, symbols, step, &mut pending).as_slice(),
+            )?;
             before = step;
             left -= 1;
         }
@@ -67,7 +72,10 @@ impl Desk {
         }
         let step = self.position - 1;
         let mut pending = cells_written(session, step);
-        write_all(out, link_line(session, symbols, step, &mut pending).as_slice())?;
+        write_all(
+            out,
+            link_line(session, symbols, step, &mut pending).as_slice(),
+        )?;
         write_all(out, end_text(symbols, true, &pending).as_slice())
     }
 }

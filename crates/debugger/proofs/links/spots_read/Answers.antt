@@ -1,4 +1,4 @@
-use Rattle.std.proofs.Common.{◌≤◌, arith, ◌∙◌, ap}
+use Rattle.std.proofs.Common.{arith, ◌∙◌, ap}
 use Rattle.cpu.specs.Links.{link}
 use Rattle.cpu.specs.declared.spot.Spot.{Spot}
 use Rattle.debugger.specs.Whys.{with_spots}

@@ -11,7 +11,7 @@ pub loop-index-preserved : goal.loop-index-preserved
 loop-index-preserved c =
     elim c.match-entry.branch [
       | in-Some+else-stands_for w ↦
-        next_sought c.args.self.now c.args.place.now c.loop-index.index _ w.in-Some.ensures.value (sym w.if-stands_for.ensures) c.loop-index.invariant
+          next_sought c.args.self.now c.args.place.now c.loop-index.index _ w.in-Some.ensures.value (sym w.if-stands_for.ensures) c.loop-index.invariant
       | in_default w ↦ absurd (within_stands c.args.self.now c.loop-index.index (omega (arith, c.len-index-end.ensures)) w.in_default.ensures.value)
     ]
 
