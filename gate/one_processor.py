@@ -5,7 +5,9 @@ import re
 MAKERS = r"Processor::new|Rope::(?:empty|read)|Feed::(?:new|empty)|\bassemble\("
 # A maker under another name: a name that an import or a type gives what a crate below has, all names of a crate, or such a crate itself.
 OTHERS = r"(?s)\b(?:use|extern crate)\s+(?:cpu|rope|feed|yayul)\b(?:[^;]*(?:\bas\b|\*)[^;]*)?;|\btype\s+\w+[^;]*\b(?:Processor|Rope|Feed|Machine)\b[^;]*;"
-CALLS = {"commands": MAKERS, "debugger": rf"{MAKERS}|Machine::start", "replay": MAKERS}
+# A machine at its start that is lent to be looked at, as an argument, is stepped by nobody.
+OWNED_MACHINE = r"(?<!&)Machine::start|Machine::start\(\)(?![,)])"
+CALLS = {"commands": MAKERS, "debugger": rf"{MAKERS}|{OWNED_MACHINE}", "replay": MAKERS}
 
 
 def second_makers(crates):

@@ -356,6 +356,7 @@ def check_console(client):
     for text, context, wanted in [
         ("mem SUMM", "repl", "E50 COMMAND no symbol SUMM"),
         ("breaks", "repl", "BREAK 1 at 02,0014\nCOUNT 1"),
+        ("why TICKS", "repl", "START TICKS 00000"),
         ("p ONE", "repl", "00001 = 1 = +0.00006 = 000 000 000 000 001"),
         ("ONE +7", "watch", "10 = 8"),
         ("NONE", "hover", "no place NONE"),
