@@ -123,6 +123,29 @@ def check_examples(room):
     check_names()
 
 
+def check_flight(room):
+    """Programs in the language of flight programs: what they put out, from their sources and from their images; that this language alone takes them; and what --flight goes with."""
+    rope, empty = f"{room}/flight.rope", f"{EXAMPLES}/empty.feed"
+    for name in sorted(it.removesuffix(".agc") for it in os.listdir(f"{EXAMPLES}/flight") if it.endswith(".agc")):
+        source, wanted = f"{EXAMPLES}/flight/{name}.agc", read(f"{EXAMPLES}/flight/{name}.out")
+        told(f"the manual names flight/{name}", f"](../examples/flight/{name}.agc)" in text_of("docs/MANUAL.md"))
+        compare(f"the listing of flight/{name}", agcws("asm", "--flight", source, rope), 0, read(f"{EXAMPLES}/flight/{name}.lst"))
+        compare(f"flight/{name}", agcws("run", "--flight", source, empty, "40"), 0, wanted)
+        compare(f"the image of flight/{name}", agcws("run", "--image", rope, empty, "40"), 0, wanted)
+        compare(f"flight/{name} beside its image", agcws("compare", "--only", "--flight", source, rope), 0, b"COUNT 0\n")
+        status, report, _ = agcws("check", "--flight", source)
+        told(f"a check of flight/{name}", status == 0 and re.search(rb"^0 errors, \d+ warnings?\n\Z", report, re.M), f"{status} {report!r}")
+        traced = agcws("trace", "--flight", source, empty, "40")[1]
+        told(f"a trace of flight/{name}", re.findall(rb"  (\d+ CH \d+ \d+)$", traced, re.M) == wanted.split(b"\n")[:-1], f"{traced!r}")
+        told(f"a profile of flight/{name}", agcws("cover", "--flight", source, empty, "40")[1].endswith(b"        40         %d TOTAL\n" % int(traced.split(b"\n")[39].split()[1])))
+        session = Session(source, empty, "--flight")
+        session.ask(f"a session of flight/{name}", b"run 40\n", wanted + b"AT 40 73 2013\n")
+        session.end(f"a session of flight/{name} ends")
+        told(f"flight/{name} without --flight", agcws("asm", source, rope)[0] == 1)
+    status, out, _ = agcws("run", "--flight", "--image", rope, empty, "1")
+    told("--flight of an image", (status, out) == (2, b""))
+
+
 def check_trace_of_inputs(room):
     """What INDEX adds, here minus one, and what inputs ask for: the keyboards' channels, DINC of a zero, and RUPT."""
     source = write(f"{room}/traced.agc", b" SETLOC 100\nX ERASE\n SETLOC 4000\n CA MINUS\n TS X\n INDEX X\n CA TABLE +1\nDONE TCF DONE\nMINUS OCT 77776\nTABLE OCT 7\n OCT 10\n")
@@ -907,6 +930,7 @@ def main():
         return 1
     with tempfile.TemporaryDirectory(prefix="agcws-") as room:
         check_examples(room)
+        check_flight(room)
         check_rows(PROGRAM, told, room)
         check_traces(room)
         check_covers(room)

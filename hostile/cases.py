@@ -40,6 +40,7 @@ CALLS = {
 
 # Calls by which cases are tried besides, in processes of their own alone.
 FURTHER_CALLS = {
+    "source": [["asm", "--flight", "case", "made"], ["run", "--flight", "case", EMPTY, "200"]],
     "image": [
         ["parity", "case"],
         ["parity", "--form=hardware", "case"],

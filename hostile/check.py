@@ -10,7 +10,7 @@ memory   each single request for memory is refused, by itself and with all after
 devices  full devices, closed pipes, folders, files that aren't there or may not be read, devices without an end, closed standard streams, no file or memory to be had
 sizes    one byte, line or input too many, or a byte too few
 bytes    N sources, feeds, command files and images (cases.py; if not said 600 of each, and 20,000 where CI is true), each in a process of its own: it ends in time and in little memory, with a refusal
-         that exists; and `check` tells a fault of each source exactly where `asm` does, and that one among its own. What hostile/long_run tries in one process gives the same answers; and in one process N more of each are tried with a failure besides
+         that exists; and `check` tells a fault of each source exactly where `asm` does, and that one among its own, with `--flight` and without; what is taken without is taken with it, to the same listing. What hostile/long_run tries in one process gives the same answers; and in one process N more of each are tried with a failure besides
 
 The last line is 'N passed, M failed'. The built programs are crates/agcws/out/agcws, or what AGCWS names, and crates/vector_session/out/vector_session, or what VECTOR_SESSION names; `./check` leaves both, and `rt run`
 in a crate's folder makes its own."""
@@ -46,6 +46,9 @@ MOST_SECONDS = 10
 MOST_MEMORY, MEMORY_PER_BYTE = 64 << 20, 64
 # The program that goes through a session whose images stand in a vector.
 VECTOR_SESSION = os.environ.get("VECTOR_SESSION", f"{ROOT}/crates/vector_session/out/vector_session")
+# A source in the language of flight programs, and the options of each language.
+DOWNLIST = f"{ROOT}/examples/flight/downlist.agc"
+LANGUAGES = ((), ("--flight",))
 # So many cases of each kind are answered alike in one process and each in its own.
 ALIKE = 600
 
@@ -125,6 +128,8 @@ def memory(room):
         "compare of equal images": ("compare", "--old", "1", old, new),
         "sums": ("sums", new),
         "parity": ("parity", old),
+        "asm --flight": ("asm", "--flight", DOWNLIST, made),
+        "run --flight": ("run", "--flight", DOWNLIST, feed, "300"),
         "check": ("check", source),
         "check of a source with faults": ("check", feed),
         "check of labels": ("check", "--unused", source),
@@ -304,6 +309,7 @@ def devices(room):
     agcws("asm", "--rope", "1", FIVE, other)
     # Calls that write some output, the last two a session's.
     writing = [("run", FIVE, EMPTY, "100"), ("trace", FIVE, EMPTY, "100"), ("cover", FIVE, EMPTY, "100"), ("run", "--end", FIVE, EMPTY, "100"), ("run", "--progress", FIVE, EMPTY, "100"), ("run", "--notes", FIVE, EMPTY, "100"), ("run", "--image", "--rope=1", other, EMPTY, "100"), ("asm", FIVE, made), ("words", "--rope=1", image)]
+    writing += [("asm", "--flight", DOWNLIST, made), ("run", "--flight", DOWNLIST, EMPTY, "100")]
     writing += [("check", FIVE), ("check", "--unused", FIVE), ("explain",), ("explain", "17")]
     writing += [("compare", "--old=1", "--new=1", image, other), ("sums", "--rope=1", image), ("parity", image), ("--help",), ("words", "--help"), ("--version",)]
     writing += [("debug", FIVE, EMPTY), ("debug", "--image", "--rope=1", other, EMPTY)]
@@ -589,23 +595,29 @@ ONE_FAULT = re.compile(rb"agcws: E(\d+) LINE (\d+)\n")
 
 
 def some_checks(made, seed, first, last):
-    """Sources of which `check` does not tell that they have a fault exactly where `asm` does, and that one among those that it tells, each once; and how many are refused."""
-    worker, wrong, refused = Worker(made, seed), [], 0
+    """Sources of which `check` does not tell that they have a fault exactly where `asm` does, and that one among those that it tells, each once, in either language; or that the standard
+    language takes and that of flight programs does not take to the same words; how many are refused, and how many of these the language of flight programs takes."""
+    worker, wrong, refused, taken = Worker(made, seed), [], 0, 0
     try:
         for number in range(first, last):
             write(worker.case, worker.maker.case("source", number))
-            one = ONE_FAULT.fullmatch(worker.run(["asm", worker.case, "/dev/null"], worker.case)[2])
-            status, out, err, _, _ = worker.run(["check", worker.case], worker.case)
-            found = [(int(line), int(kind)) for line, kind in TOLD_FAULT.findall(out)]
-            refused += bool(one)
-            warned = len(re.findall(rb"^.*:\d+:\d+: warning W\d+: .+$", out, re.M))
-            count = f"{len(found)} error{'' if len(found) == 1 else 's'}, {warned} warning{'' if warned == 1 else 's'}\n".encode()
-            is_right = (int(one[2]), int(one[1])) in found if one else not found
-            if not is_right or status != int(bool(one)) or err or not out.endswith(count) or len(set(found)) != len(found):
-                wrong.append((number, status, one and one[0], found[:5], err))
+            answers = [worker.run(["asm", *options, worker.case, "/dev/null"], worker.case)[:3] for options in LANGUAGES]
+            if answers[0][0] == 0 and answers[0] != answers[1]:
+                wrong.append((number, "--flight", answers[1][0], answers[1][2]))
+            refused += answers[0][0] != 0
+            taken += answers[0][0] != 0 and answers[1][0] == 0
+            for options, answer in zip(LANGUAGES, answers):
+                one = ONE_FAULT.fullmatch(answer[2])
+                status, out, err, _, _ = worker.run(["check", *options, worker.case], worker.case)
+                found = [(int(line), int(kind)) for line, kind in TOLD_FAULT.findall(out)]
+                warned = len(re.findall(rb"^.*:\d+:\d+: warning W\d+: .+$", out, re.M))
+                count = f"{len(found)} error{'' if len(found) == 1 else 's'}, {warned} warning{'' if warned == 1 else 's'}\n".encode()
+                is_right = (int(one[2]), int(one[1])) in found if one else not found
+                if not is_right or status != int(bool(one)) or err or not out.endswith(count) or len(set(found)) != len(found):
+                    wrong.append((number, *options, status, one and one[0], found[:5], err))
     finally:
         shutil.rmtree(worker.room)
-    return wrong, refused
+    return wrong, refused, taken
 
 
 def checks(made, count, seed):
@@ -613,8 +625,8 @@ def checks(made, count, seed):
     with ProcessPoolExecutor() as pool:
         parts = [pool.submit(some_checks, made, seed, first, min(first + step, count)) for first in range(0, count, step)]
         results = [part.result() for part in parts]
-    wrong, refused = [it for part, _ in results for it in part], sum(it for _, it in results)
-    told(f"bytes: check, {len(wrong)} of {count}", not wrong and 0 < refused < count, f"seed {seed}, {refused} refused, the first: {wrong[:5]}")
+    wrong, refused, taken = [it for part, _, _ in results for it in part], sum(it for _, it, _ in results), sum(it for _, _, it in results)
+    told(f"bytes: check, {len(wrong)} of {count}", not wrong and 0 < taken < refused < count, f"seed {seed}, {refused} refused, {taken} of them taken with --flight, the first: {wrong[:5]}")
 
 
 READ_STEPS = 300

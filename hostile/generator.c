@@ -34,6 +34,10 @@ static const char *const SOUND_COMMANDS[] = {
     "step 1", "step 7", "step 90", "run 3", "run 50", "run 400", "back 1", "back 30", "goto 0", "goto 5", "goto 60", "seek", "break at 4001", "break at FIVE",
     "break word 5 4002", "break chan 10 12", "clear", "clear 1", "breaks", "echo # 1", "help", "help mem", "regs", "regs all", "why", "why 25", "why SUM 40", "why A 3", "why CH010", "mem 0", "mem FIVE", "mem 25", "chan 10", "last 0", "last 25", "sym START", "sym FIVE", "changed 0",
     "changed 3", "tail", "add 50 TIME1 PINC", "add 900 CHAN 15 21", "add 3000 RUPT 4", ""};
+/* Lines that a source of flight programs may have alone; X begins a label of its own. */
+static const char *const FLIGHT_LINES[] = {
+    "+3\tOCT\t5", " -1 DEC -5", "+12D", "\tCOUNT*\t$$/EXEC", " COUNT 05 05 05", "\tBNKSUM\t05", " SUBRO", "\tMEMORY\t120000 - 167777", "X\tEQUALS", "X =\t# here",
+    "\tBANK", " BLOCK", "\tOCTAL\t37777", "\tGENADR\t5777", " REMADR 4003 -3", "\t1DNADR\t0", "\t6DNADR\t3700 +77", "\tDNCHAN\t777"};
 static const char ALPHABET[] = "\n\n\n\t    ##++--,.$=00112233445566778899ABCDEIKLNORSTUXacdeghkmnr";
 static const char *const INSERTED[] = {"\n", "\r\n", "\t", "#", "\377", "0", "7",
     "xxxxxxxxxxxxxxxxxxxxxxxxxxxxxxxxxxxxxxxxxxxxxxxxxxxxxxxxxxxxxxxxxxxxxxxxxxxxxxxxxxxxxxxxxxxxxxxxxxxxxxxxxxxxxxxxxxxxxxxxxxxxxxxxxxxx"};
@@ -161,6 +165,17 @@ static void sound_line(struct numbers *numbers, struct made *made, enum kind kin
     }
 }
 
+/* A line of a source of flight programs, with a label that no earlier line has. */
+static void flight_line(struct numbers *numbers, struct made *made)
+{
+    const char *line = PICK(numbers, FLIGHT_LINES);
+    if (*line == 'X') {
+        put_number(made, "X%llo", made->length);
+        line++;
+    }
+    put(made, line);
+}
+
 /* Words of version 1 or 2 of the image, the same in each quarter of a bank. */
 static void put_image(struct numbers *numbers, struct made *made)
 {
@@ -175,7 +190,7 @@ static void put_image(struct numbers *numbers, struct made *made)
     for (size_t at = 0; at < IMAGE_BYTES; at += sizeof some) put_bytes(made, some, sizeof some);
 }
 
-/* A made text: of any lines, or of lines that are taken. Lines end as other systems have them, now and then, and the last may be open. */
+/* A made text: of any lines, or of lines that are taken; in half of such sources some by --flight alone. Lines end as other systems have them, now and then, and the last may be open. */
 static void put_made(struct numbers *numbers, struct made *made, enum kind kind, int is_sound)
 {
     if (kind == IMAGE) {
@@ -185,13 +200,15 @@ static void put_made(struct numbers *numbers, struct made *made, enum kind kind,
     const char *end = percent(numbers, 2) ? "\r\n" : "\n";
     size_t lines = below(numbers, kind == SOURCE ? 30 : 25);
     long cycle = 0;
+    int is_flight = kind == SOURCE && is_sound && percent(numbers, 50);
     if (kind == SOURCE && (is_sound || percent(numbers, 70))) {
         put(made, " SETLOC 4000");
         put(made, end);
     }
     for (size_t line = 0; line < lines; line++) {
         if (line > 0) put(made, end);
-        if (is_sound) sound_line(numbers, made, kind, &cycle);
+        if (is_flight && percent(numbers, 30)) flight_line(numbers, made);
+        else if (is_sound) sound_line(numbers, made, kind, &cycle);
         else if (kind == SOURCE) source_line(numbers, made);
         else if (kind == FEED) feed_line(numbers, made, &cycle);
         else command_line(numbers, made);

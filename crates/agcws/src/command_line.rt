@@ -99,6 +99,9 @@ static VERSIONS: [&str; 2] = [VERSION_ONE, VERSION_TWO];
 /// The option by which the first argument names an image in place of a source.
 pub const IMAGE: &str = "IMAGE";
 
+/// The option by which a source is of the language of flight programs.
+pub const FLIGHT: &str = "FLIGHT";
+
 /// The option by which a session has more commands, and refusals in words.
 pub const EXTENDED: &str = "EXTENDED";
 
@@ -149,6 +152,7 @@ const ASM_HELP: &str = "Files:
   SRC   a source in the assembler's language, at most 65536 lines of at most
         120 bytes. A label begins at the first byte of its line; operator,
         operand and offset follow, and # begins a comment.
+        With --flight it may have forms of flight programs: see the manual.
   ROPE  the rope image, 73728 bytes: banks 2, 3, 0, 1, 4 to 43 (octal), each
         of 1024 words, each word as two bytes, high byte first, of twice the
         word. In version 2 the lowest bit is a parity bit, by which every two
@@ -288,6 +292,7 @@ const RUN_HELP: &str = "Files:
   SRC   a source in the assembler's language, at most 65536 lines of at most
         120 bytes. A label begins at the first byte of its line; operator,
         operand and offset follow, and # begins a comment.
+        With --flight it may have forms of flight programs: see the manual.
         With --image it is a rope image, as agcws asm writes it; and with
         --parity and --form it is taken as agcws words takes it.
   FEED  the timed inputs of the run, at most 65536, one a line, whose cycles
@@ -517,11 +522,12 @@ pub fn command<'a>(alloc: Global) -> Result<Command<'a>, AllocError> {
         .subcommand(parity_command(alloc)?)
 }
 
-/// `agcws asm [--sums] [--rope VERSION] SRC ROPE`.
+/// `agcws asm [--flight] [--sums] [--rope VERSION] SRC ROPE`.
 fn asm_command<'a>(alloc: Global) -> Result<Command<'a>, AllocError> {
     Command::new(alloc, ASM)
         .about("Assembles a source to a rope image and a listing")
         .after_help(ASM_HELP)
+        .arg(flight_option(alloc))?
         .arg(source_argument(alloc))?
         .arg(
             Arg::new(alloc, ROPE)
@@ -543,11 +549,12 @@ fn asm_command<'a>(alloc: Global) -> Result<Command<'a>, AllocError> {
         )
 }
 
-/// `agcws check [--unused] SRC`.
+/// `agcws check [--flight] [--unused] SRC`.
 fn check_command<'a>(alloc: Global) -> Result<Command<'a>, AllocError> {
     Command::new(alloc, CHECK)
         .about("Tells all faults of a source, and likely mistakes, in words")
         .after_help(CHECK_HELP)
+        .arg(flight_option(alloc))?
         .arg(
             Arg::new(alloc, UNUSED)
                 .long("unused")
@@ -611,7 +618,7 @@ fn words_command<'a>(alloc: Global) -> Result<Command<'a>, AllocError> {
         .arg(form_option(alloc, FORM, "form"))
 }
 
-/// `agcws compare [--only] [--old VERSION] [--new VERSION] [--parity ignore] [--old-form FORM] [--new-form FORM] OLD NEW`.
+/// `agcws compare [--only] [--flight] [--old VERSION] [--new VERSION] [--parity ignore] [--old-form FORM] [--new-form FORM] OLD NEW`.
 fn compare_command<'a>(alloc: Global) -> Result<Command<'a>, AllocError> {
     Command::new(alloc, COMPARE)
         .about("Shows where the words of two rope images differ")
@@ -626,6 +633,7 @@ fn compare_command<'a>(alloc: Global) -> Result<Command<'a>, AllocError> {
                 .conflicts_with(OLD_FORM)?
                 .help("OLD is a source: its places alone"),
         )?
+        .arg(flight_option(alloc).requires_arg(ONLY)?)?
         .arg(version_option(alloc, OLD_VERSION, "old"))?
         .arg(version_option(alloc, NEW_VERSION, "new"))?
         .arg(parity_option(alloc))?
@@ -696,9 +704,18 @@ fn image_option<'a>(alloc: Global) -> Arg<'a> {
         .help("The first file is a rope image")
 }
 
+/// The option by which a source is of the language of flight programs.
+fn flight_option<'a>(alloc: Global) -> Arg<'a> {
+    Arg::new(alloc, FLIGHT)
+        .long("flight")
+        .action(ArgAction::SetTrue)
+        .help("The source has forms of flight programs")
+}
+
 /// The arguments of what runs a program: a source or an image, with how this is taken, and a feed.
 fn program_arguments<'a>(alloc: Global, command: Command<'a>) -> Result<Command<'a>, AllocError> {
     command
+        .arg(flight_option(alloc).conflicts_with(IMAGE)?)?
         .arg(image_option(alloc))?
         .arg(version_option(alloc, VERSION, "rope").requires_arg(IMAGE)?)?
         .arg(parity_option(alloc).requires_arg(IMAGE)?)?
@@ -727,7 +744,7 @@ fn steps_argument<'a>(alloc: Global) -> Arg<'a> {
         .help("How many steps, 0 to 1099511627774")
 }
 
-/// `agcws run [--end] [--progress] [--notes] [--image] [--rope VERSION] [--parity ignore] [--form FORM] SRC FEED N`.
+/// `agcws run [--end] [--progress] [--notes] [--flight] [--image] [--rope VERSION] [--parity ignore] [--form FORM] SRC FEED N`.
 fn run_command<'a>(alloc: Global) -> Result<Command<'a>, AllocError> {
     let command = Command::new(alloc, RUN)
         .about("Writes what a program puts out on channels in some steps")
@@ -749,7 +766,7 @@ fn run_command<'a>(alloc: Global) -> Result<Command<'a>, AllocError> {
         )
 }
 
-/// `agcws trace [--progress] [--image] [--rope VERSION] [--parity ignore] [--form FORM] SRC FEED N [--from T] [--to T]`.
+/// `agcws trace [--progress] [--flight] [--image] [--rope VERSION] [--parity ignore] [--form FORM] SRC FEED N [--from T] [--to T]`.
 fn trace_command<'a>(alloc: Global) -> Result<Command<'a>, AllocError> {
     let command = Command::new(alloc, TRACE)
         .about("Writes a line for each step of a run")
@@ -773,7 +790,7 @@ fn progress_option<'a>(alloc: Global) -> Arg<'a> {
         .help("Tells the steps made so far, on standard error")
 }
 
-/// `agcws cover [--progress] [--image] [--rope VERSION] [--parity ignore] [--form FORM] SRC FEED N`.
+/// `agcws cover [--progress] [--flight] [--image] [--rope VERSION] [--parity ignore] [--form FORM] SRC FEED N`.
 fn cover_command<'a>(alloc: Global) -> Result<Command<'a>, AllocError> {
     let command = Command::new(alloc, COVER)
         .about("Shows how often each word is executed, and for how many cycles")
@@ -791,7 +808,7 @@ fn step_option<'a>(alloc: Global, name: &'a str, long: &'a str) -> Arg<'a> {
         .value_parser(value_parser!(u64).range(0..=MOST_STEPS as i64))
 }
 
-/// `agcws debug [--extended] [--image] [--rope VERSION] [--parity ignore] [--form FORM] SRC FEED`.
+/// `agcws debug [--extended] [--flight] [--image] [--rope VERSION] [--parity ignore] [--form FORM] SRC FEED`.
 fn debug_command<'a>(alloc: Global) -> Result<Command<'a>, AllocError> {
     let command = Command::new(alloc, DEBUG)
         .about("Replies to commands about a run, forwards and backwards")

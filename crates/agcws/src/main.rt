@@ -12,8 +12,8 @@ use clap::ArgMatches;
 use clap::error::ErrorKind;
 use command_line::{
     AS_SOURCE, ASM, BANK, BANK_COUNT, BANKS, CHECK, COMPARE, COVER, DEBUG, END, EXPLAIN, EXTENDED,
-    FEED, FORM, FROM, IGNORED_PARITY, IMAGE, NEW, NEW_FORM, NEW_VERSION, NOTES, NUMBER, OLD,
-    OLD_FORM, OLD_VERSION, ONLY, PARITY, PROGRESS, ROPE, RUN, SOURCE, STEPS, SUMS, TO, TRACE,
+    FEED, FLIGHT, FORM, FROM, IGNORED_PARITY, IMAGE, NEW, NEW_FORM, NEW_VERSION, NOTES, NUMBER,
+    OLD, OLD_FORM, OLD_VERSION, ONLY, PARITY, PROGRESS, ROPE, RUN, SOURCE, STEPS, SUMS, TO, TRACE,
     UNUSED, UPGRADE, VERSION, VERSION_ONE, VERSION_TWO, WITH_SUMS, WORDS, command,
 };
 use gathered::Gathered;
@@ -25,12 +25,12 @@ use std::{env, fs, io};
 use target::wrong_target;
 use words::{Read, ReadAhead, Std, Write, write_all};
 use workshop::{
-    Bank, Form, InForm, Origin, Refusal, Summary, Unheard, Version, WorkshopFault, all_headings,
-    asm_engine, asm_with_check_words, check_engine, compare_engine, compare_only_engine,
-    cover_and_tell, cover_program, debug_extended, debug_program, explanation, may_run,
-    parity_engine, refusal_of, report, report_no_room, run_and_tell, run_program, run_with_notes,
-    source_engine, sums_engine, trace_and_tell, trace_program, upgrade_engine, words_engine,
-    write_end,
+    Bank, Form, InForm, Language, Origin, Refusal, Summary, Unheard, Version, WorkshopFault,
+    all_headings, asm_engine, asm_with_check_words, check_engine, compare_engine,
+    compare_only_engine, cover_and_tell, cover_program, debug_extended, debug_program, explanation,
+    may_run, parity_engine, refusal_of, report, report_no_room, run_and_tell, run_program,
+    run_with_notes, source_engine, sums_engine, trace_and_tell, trace_program, upgrade_engine,
+    words_engine, write_end,
 };
 
 /// The exit status where all is done.
@@ -171,7 +171,7 @@ fn refuse_arguments(rt: &HostRuntime, text: &[u8]) -> Result<u8, WorkshopFault> 
     }
 }
 
-/// `agcws asm [--sums] [--rope VERSION] SRC ROPE`. The file ROPE is made at the first write, so that a refused source leaves none. A
+/// `agcws asm [--flight] [--sums] [--rope VERSION] SRC ROPE`. The file ROPE is made at the first write, so that a refused source leaves none. A
 /// path of the source, or of one, is refused for ROPE before anything is opened.
 fn asm<'a>(rt: &'a HostRuntime, matches: &'a ArgMatches<'_>) -> Result<u8, WorkshopFault> {
     let (Some(source), Some(rope)) = (matches.get_str(SOURCE), matches.get_str(ROPE)) else {
@@ -183,28 +183,37 @@ fn asm<'a>(rt: &'a HostRuntime, matches: &'a ArgMatches<'_>) -> Result<u8, Works
     if let Some(wrong) = wrong_target(rt, source, rope) {
         return refuse_arguments(rt, wrong.of_an_assembly());
     }
+    let language = language(matches);
     let mut source = Std::new(fs::open(rt, source).map_err(not_opened)?);
     let refused = Cell::new(false);
     let mut image = Std::new(ImageFile::new(rt, rope, &refused));
     if matches.get_flag(WITH_SUMS) {
-        return asm_with_sums(rt, &mut source, &mut image, version, &refused);
+        return asm_with_sums(rt, language, &mut source, &mut image, version, &refused);
     }
     with_stdout(rt, |listing| {
-        let outcome = asm_engine(rt.alloc(), &mut source, &mut image, listing, version);
+        let outcome = asm_engine(
+            rt.alloc(),
+            language,
+            &mut source,
+            &mut image,
+            listing,
+            version,
+        );
         ended(outcome, &refused)
     })
 }
 
-/// `agcws asm --sums [--rope VERSION] SRC ROPE`, once the files are known. A bank without room is told in words.
+/// `agcws asm --sums [--flight] [--rope VERSION] SRC ROPE`, once the files are known. A bank without room is told in words.
 fn asm_with_sums<S: Read, I: Write>(
     rt: &HostRuntime,
+    language: Language,
     source: &mut S,
     image: &mut I,
     version: Version,
     refused: &Cell<bool>,
 ) -> Result<u8, WorkshopFault> {
     let full = with_stdout(rt, |listing| {
-        let outcome = asm_with_check_words(rt.alloc(), source, image, listing, version);
+        let outcome = asm_with_check_words(rt.alloc(), language, source, image, listing, version);
         match outcome {
             Err(_) if refused.get() => Err(WorkshopFault::NoMemory),
             outcome => outcome,
@@ -264,7 +273,16 @@ fn origin(matches: &ArgMatches<'_>) -> Option<Origin> {
     if matches.get_flag(IMAGE) {
         version(matches, VERSION).map(Origin::Image)
     } else {
-        Some(Origin::Source)
+        Some(Origin::Source(language(matches)))
+    }
+}
+
+/// The language of a source.
+fn language(matches: &ArgMatches<'_>) -> Language {
+    if matches.get_flag(FLIGHT) {
+        Language::Flight
+    } else {
+        Language::Standard
     }
 }
 
@@ -278,7 +296,7 @@ fn steps(matches: &ArgMatches<'_>) -> Option<u64>
     }
 }
 
-/// `agcws run [--end] [--progress] [--notes] [--image] [--rope VERSION] [--parity ignore] [--form FORM] SRC FEED N`. Both files are opened before anything is read.
+/// `agcws run [--end] [--progress] [--notes] [--flight] [--image] [--rope VERSION] [--parity ignore] [--form FORM] SRC FEED N`. Both files are opened before anything is read.
 fn run(rt: &HostRuntime, matches: &ArgMatches<'_>) -> Result<u8, WorkshopFault> {
     let (Some(origin), Some(source), Some(feed), Some(steps)) = (
         origin(matches),
@@ -360,7 +378,7 @@ fn end(rt: &HostRuntime, matches: &ArgMatches<'_>, summary: &Summary) -> Result<
     Ok(DONE)
 }
 
-/// `agcws trace [--progress] [--image] [--rope VERSION] [--parity ignore] [--form FORM] SRC FEED N [--from T] [--to T]`. Both files are opened before anything is read.
+/// `agcws trace [--progress] [--flight] [--image] [--rope VERSION] [--parity ignore] [--form FORM] SRC FEED N [--from T] [--to T]`. Both files are opened before anything is read.
 fn trace(rt: &HostRuntime, matches: &ArgMatches<'_>) -> Result<u8, WorkshopFault> {
     let (Some(origin), Some(source), Some(feed), Some(steps)) = (
         origin(matches),
@@ -406,7 +424,7 @@ fn trace(rt: &HostRuntime, matches: &ArgMatches<'_>) -> Result<u8, WorkshopFault
     Ok(DONE)
 }
 
-/// `agcws cover [--progress] [--image] [--rope VERSION] [--parity ignore] [--form FORM] SRC FEED N`. Both files are opened before anything is read.
+/// `agcws cover [--progress] [--flight] [--image] [--rope VERSION] [--parity ignore] [--form FORM] SRC FEED N`. Both files are opened before anything is read.
 fn cover(rt: &HostRuntime, matches: &ArgMatches<'_>) -> Result<u8, WorkshopFault> {
     let (Some(origin), Some(source), Some(feed), Some(steps)) = (
         origin(matches),
@@ -438,7 +456,7 @@ fn cover(rt: &HostRuntime, matches: &ArgMatches<'_>) -> Result<u8, WorkshopFault
     Ok(DONE)
 }
 
-/// `agcws debug [--extended] [--image] [--rope VERSION] [--parity ignore] [--form FORM] SRC FEED`. Both files are opened before anything is read; commands come from standard input.
+/// `agcws debug [--extended] [--flight] [--image] [--rope VERSION] [--parity ignore] [--form FORM] SRC FEED`. Both files are opened before anything is read; commands come from standard input.
 fn debug(rt: &HostRuntime, matches: &ArgMatches<'_>) -> Result<u8, WorkshopFault> {
     let (Some(origin), Some(source), Some(feed)) = (
         origin(matches),
@@ -473,15 +491,23 @@ fn debug(rt: &HostRuntime, matches: &ArgMatches<'_>) -> Result<u8, WorkshopFault
     Ok(DONE)
 }
 
-/// `agcws check [--unused] SRC`.
+/// `agcws check [--flight] [--unused] SRC`.
 fn check(rt: &HostRuntime, matches: &ArgMatches<'_>) -> Result<u8, WorkshopFault> {
     let Some(name) = matches.get_str(SOURCE) else {
         return Ok(WRONG_ARGUMENTS);
     };
+    let language = language(matches);
     let mut source = opened(rt, name)?;
     let unused = matches.get_flag(UNUSED);
     let count = with_stdout(rt, |out| {
-        check_engine(rt.alloc(), name.as_bytes(), unused, &mut source, out)
+        check_engine(
+            rt.alloc(),
+            language,
+            name.as_bytes(),
+            unused,
+            &mut source,
+            out,
+        )
     })?;
     Ok(if count == 0 { DONE } else { REFUSED })
 }
@@ -562,7 +588,7 @@ fn bank_named(name: &str) -> Option<Bank> {
     None
 }
 
-/// `agcws compare [--only] [--old VERSION] [--new VERSION] [--parity ignore] [--old-form FORM] [--new-form FORM] OLD NEW`. Both files are opened before anything is read.
+/// `agcws compare [--only] [--flight] [--old VERSION] [--new VERSION] [--parity ignore] [--old-form FORM] [--new-form FORM] OLD NEW`. Both files are opened before anything is read.
 fn compare(rt: &HostRuntime, matches: &ArgMatches<'_>) -> Result<u8, WorkshopFault> {
     let (Some(old), Some(new)) = (matches.get_str(OLD), matches.get_str(NEW)) else {
         return Ok(WRONG_ARGUMENTS);
@@ -591,7 +617,7 @@ fn compare(rt: &HostRuntime, matches: &ArgMatches<'_>) -> Result<u8, WorkshopFau
     Ok(if count == 0 { DONE } else { DIFFERENT })
 }
 
-/// `agcws compare --only [--new VERSION] [--parity ignore] [--new-form FORM] SRC ROPE`. Both files are opened before anything is read.
+/// `agcws compare --only [--flight] [--new VERSION] [--parity ignore] [--new-form FORM] SRC ROPE`. Both files are opened before anything is read.
 fn compare_only(
     rt: &HostRuntime,
     matches: &ArgMatches<'_>,
@@ -599,10 +625,11 @@ fn compare_only(
     rope: &str,
     version: Version,
 ) -> Result<u8, WorkshopFault> {
+    let language = language(matches);
     let mut source = Std::new(fs::open(rt, source).map_err(not_opened)?);
     let mut image = InForm::new(opened(rt, rope)?, form(matches, NEW_FORM));
     let count = with_stdout(rt, |out| {
-        compare_only_engine(rt.alloc(), &mut source, &mut image, version, out)
+        compare_only_engine(rt.alloc(), language, &mut source, &mut image, version, out)
     })?;
     Ok(if count == 0 { DONE } else { DIFFERENT })
 }

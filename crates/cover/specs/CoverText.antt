@@ -8,6 +8,7 @@ use Rattle.space.specs.declared.place.Linear.{Linear}
 use Rattle.space.specs.declared.place.Linear.TheVariants.{Erasable, Fixed}
 use Rattle.rope.specs.Places.{Words, banks, bank_words, stands}
 use Rattle.yayul.specs.Layout.{start}
+use Rattle.yayul.specs.Program.{Source}
 use Rattle.yayul.specs.Listing.{Margin, blanks, place_text, rows}
 use Rattle.audit.specs.WordLines.{word_line}
 use Rattle.cpu.specs.declared.account.Account.TheVariants.{Input, Entry, Waiting, Place}
@@ -65,8 +66,8 @@ unfoldable pub rest_rows : Profile → Words → Figures → List ℕ
 rest_rows profile words total = erasable_rows profile ++ (empty_rows profile words ++ end_rows profile total)
 
 -- the rows of a source's lines
-abbrev pub source_rows : Profile → Words → List ℕ → List ℕ
-source_rows profile words source = rows (margin_of profile) 1 start words (lines source)
+abbrev pub source_rows : Profile → Words → Source → List ℕ
+source_rows profile words source = rows (margin_of profile) 1 (start source.language) words (lines source.text)
 
 -- the words of an image
 abbrev pub image_row : Profile → Words → ℕ → ℕ → List ℕ
@@ -79,12 +80,12 @@ abbrev pub image_rows : Profile → Words → List ℕ
 image_rows profile words = flat_map (image_rows_of profile words) (range_with_len 0 banks)
 
 -- the rows of a source's lines, or the words of an image, which has no text
-abbrev pub word_rows : Profile → Words → Option (List ℕ) → List ℕ
+abbrev pub word_rows : Profile → Words → Option Source → List ℕ
 word_rows profile words (Some source) = source_rows profile words source
 word_rows profile words None = image_rows profile words
 
 -- a profile as text, with all steps and cycles
-abbrev pub profile_text : Profile → Figures → Words → Option (List ℕ) → List ℕ
+abbrev pub profile_text : Profile → Figures → Words → Option Source → List ℕ
 profile_text profile total words source = word_rows profile words source ++ rest_rows profile words total
 
 -- all steps of a run
@@ -92,5 +93,5 @@ abbrev pub total_of : Scenario → ℕ → Figures
 total_of scenario n = record { count = n; cycles = (run scenario n).cycles }
 
 -- the first n steps of a run as text
-unfoldable pub cover_text : Option (List ℕ) → Scenario → ℕ → List ℕ
+unfoldable pub cover_text : Option Source → Scenario → ℕ → List ℕ
 cover_text source scenario n = profile_text (profile_of scenario n) (total_of scenario n) scenario.rope source

@@ -8,7 +8,7 @@ use std::process::Abort;
 use test_devices::{FaultyReader, FaultyWriter, Trouble};
 use words::{Buffer, Read, Write};
 use workshop::{
-    Version, WorkshopFault, asm_engine, compare_engine, debug_engine, debug_image_engine,
+    Language, Version, WorkshopFault, asm_engine, compare_engine, debug_engine, debug_image_engine,
     run_engine, run_image_engine, sums_engine, upgrade_engine, words_engine,
 };
 
@@ -54,7 +54,14 @@ impl<R: Read, W: Write> Devices<R, W> {
         let (first, second, third) = (&mut self.first, &mut self.second, &mut self.third);
         let (out, two) = (&mut self.out, Version::Two);
         match engine {
-            Engine::Assembly => asm_engine(alloc, first, out, &mut self.listing, two),
+            Engine::Assembly => asm_engine(
+                alloc,
+                Language::Standard,
+                first,
+                out,
+                &mut self.listing,
+                two,
+            ),
             Engine::Run => match run_engine(alloc, first, second, 10, out) {
                 Ok(_) => Ok(()),
                 Err(fault) => Err(fault),

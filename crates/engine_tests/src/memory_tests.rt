@@ -13,7 +13,7 @@ use words::Buffer;
 use workshop::{
     Version, asm_engine, debug_engine, follow_source, open_session, run_engine, upgrade_engine,
 };
-use yayul::assemble;
+use yayul::{Language, assemble};
 
 /// A pulse that is far off.
 const PULSE: Input = Input::Count(Counter::Time1, Sequence::Pinc);
@@ -54,7 +54,7 @@ impl Observer for Refusals {
 
 /// Asserts that a session over such a keeper is opened, goes on, and takes an input, and that its commands are answered.
 fn assert_goes<K: Keeper>(rt: &impl Abort, alloc: Global) -> Result<(), Fail> {
-    let (rope, symbols) = assemble(alloc, FIVE_PLUS_FIVE)?.split();
+    let (rope, symbols) = assemble(alloc, Language::Standard, FIVE_PLUS_FIVE)?.split();
     let mut feed = b"9 RUPT 1\n".as_slice();
     let inputs = read(alloc, &mut feed)?;
     let mut session = Session::<K>::open(alloc, Processor::new(rope, inputs))?;
@@ -85,7 +85,17 @@ fn always_out_of_memory(rt: HostRuntime) -> Result<(), Fail> {
     let (mut source, mut feed) = (FIVE_PLUS_FIVE, b"".as_slice());
     assert!(rt; run_engine(alloc, &mut source, &mut feed, 4, &mut out).is_ok());
     let (mut source, mut image) = (FIVE_PLUS_FIVE, Buffer::new(alloc));
-    assert!(rt; asm_engine(alloc, &mut source, &mut image, &mut out, Version::One).is_ok());
+    assert!(rt;
+        asm_engine(
+            alloc,
+            Language::Standard,
+            &mut source,
+            &mut image,
+            &mut out,
+            Version::One
+        )
+        .is_ok()
+    );
     let mut old = image.as_slice();
     assert!(rt; upgrade_engine(alloc, &mut old, &mut out).is_ok());
     Ok(())

@@ -8,12 +8,12 @@ use replay::{Session, VecKeeper};
 use std::test::Fail;
 use test_keepers::RefusingKeeper;
 use words::Buffer;
-use yayul::assemble;
+use yayul::{Language, assemble};
 
 #[test]
 fn refused_steps_are_told_and_made_again(rt: HostRuntime) -> Result<(), Fail> {
     let alloc = rt.alloc();
-    let (rope, symbols) = assemble(alloc, FIVE_PLUS_FIVE)?.split();
+    let (rope, symbols) = assemble(alloc, Language::Standard, FIVE_PLUS_FIVE)?.split();
     let processor = Processor::new(rope, Feed::empty(alloc));
     let mut session = Session::<RefusingKeeper<VecKeeper>>::open(alloc, processor)?;
     let mut commands = b"step 2\nstep 2\nrun 1\ngoto 0\nstep 3\nstep 3\nrun 3\ntail\n".as_slice();

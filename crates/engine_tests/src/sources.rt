@@ -2,7 +2,7 @@
 
 use std::alloc::Global;
 use words::Buffer;
-use workshop::{Version, asm_engine};
+use workshop::{Language, Version, asm_engine};
 
 /// Five plus five, written on channel 10 again and again.
 pub const FIVE_PLUS_FIVE: &[u8] = b" SETLOC 4000
@@ -39,6 +39,13 @@ pub fn image_of(alloc: Global, source: &[u8], version: Version) -> Buffer {
     let mut source = source;
     let mut image = Buffer::new(alloc);
     let mut listing = Buffer::new(alloc);
-    let _outcome = asm_engine(alloc, &mut source, &mut image, &mut listing, version);
+    let _outcome = asm_engine(
+        alloc,
+        Language::Standard,
+        &mut source,
+        &mut image,
+        &mut listing,
+        version,
+    );
     image
 }

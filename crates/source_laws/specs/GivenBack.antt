@@ -3,6 +3,7 @@ use Rattle.std.specs.Prelude.{◌≡◌, ◌<◌, ◌^◌, ◌==◌, ℕ, Bool, 
 use Rattle.rope.specs.declared.spelling.Version.{Version}
 use Rattle.rope.specs.Image.{image}
 use Rattle.rope.specs.Places.{banks, bank_words, Words, slot_at, word_at}
+use Rattle.yayul.specs.declared.language.Language.TheVariants.{Standard}
 use Rattle.yayul.specs.Program.{Program, program}
 use Rattle.audit.specs.SourceLines.{source_text}
 
@@ -20,14 +21,14 @@ abbrev pub is_written : Option ℕ → ℕ → Bool
 is_written None bank = true
 is_written (Some one) bank = bank == one
 
--- a source assembles; then at the places of the banks that are written the words stand which stood there, 0 where none did, and no other word stands
+-- a source assembles in the standard language; then at the places of the banks that are written the words stand which stood there, 0 where none did, and no other word stands
 pub record GivesBack (words : Words) (bank : Option ℕ) (source : List ℕ) : Type 0 where
   pub given : Program
-  pub assembles : program source ≡ Ok given
+  pub assembles : program Standard source ≡ Ok given
   pub same : (b offset : ℕ) → b < banks → offset < bank_words → slot_at given.rope b offset ≡ (if is_written bank b then Some (word_at words b offset) else None)
 
 -- the source of all banks assembles, and the image is the one of the words
 pub record GivesImage (version : Version) (words : Words) : Type 0 where
   pub given : Program
-  pub assembles : program (source_text words None) ≡ Ok given
+  pub assembles : program Standard (source_text words None) ≡ Ok given
   pub same : image version given.rope ≡ image version words

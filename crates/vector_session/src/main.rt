@@ -16,7 +16,7 @@ use std::alloc::Global;
 use std::io;
 use std::process::ExitCode;
 use words::{Std, Write, read_text, write_all};
-use yayul::{Symbols, assemble};
+use yayul::{Language, Symbols, assemble};
 
 /// How many steps are gone.
 const STEPS: u64 = 600;
@@ -85,7 +85,9 @@ fn tell<W: Write>(out: &mut W, line: &[u8]) -> Result<(), u8> {
 
 /// The processor of a source and a feed, and the symbols.
 fn load(alloc: Global, source: &[u8], feed: &[u8]) -> Result<(Processor, Symbols), u8> {
-    let (rope, symbols) = assemble(alloc, source).map_err(|_| FAILED)?.split();
+    let (rope, symbols) = assemble(alloc, Language::Standard, source)
+        .map_err(|_| FAILED)?
+        .split();
     let mut inputs = feed;
     let feed = read(alloc, &mut inputs).map_err(|_| FAILED)?;
     Ok((Processor::new(rope, feed), symbols))

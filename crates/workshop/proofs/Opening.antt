@@ -5,6 +5,7 @@ use Rattle.feed.specs.Feed.{inputs}
 use Rattle.feed.specs.declared.entry.Entry.{Entry}
 use Rattle.workshop.specs.Debugging.{Opens, OpensThen, opened}
 use Rattle.workshop.specs.Failures.{Reader}
+use Rattle.yayul.specs.declared.language.Language.TheVariants.{Standard}
 use Rattle.workshop.specs.Inputs.{Code, assembled, code_of, loaded, of_feed, prepared}
 use Rattle.workshop.specs.Loading.{Files, Loads, LoadsThen, Reads, ReadsInputs, Tells}
 use Rattle.workshop.specs.declared.debugging.Opened.{Opened}
@@ -34,18 +35,18 @@ tells_feed x y code (Ok is) e h = rw (e, h) refl
 tells_feed x y code (Err fault) e h = tells_on y (loaded x y) fault h (λ r. rw (e, r) refl)
 
 tells_then : (source feed : List ℕ) (code : Result Code WorkshopFault) (before after : Reader) (result : Result Loaded WorkshopFault)
-    → Tells (code_of (assembled source)) code → before.left ≡ feed → before.told ≡ true → LoadsThen code before after result → Tells (prepared source feed) result
+    → Tells (code_of (assembled Standard source)) code → before.left ≡ feed → before.told ≡ true → LoadsThen code before after result → Tells (prepared source feed) result
 unfolding prepared
 tells_then source feed (Ok code) before after result h e told n =
-    subst (λ (r : Result Loaded WorkshopFault). Tells (loaded (code_of (assembled source)) (of_feed (inputs feed))) r) (sym n.gives)
-    (tells_feed (code_of (assembled source)) (of_feed (inputs feed)) code n.inputs h
+    subst (λ (r : Result Loaded WorkshopFault). Tells (loaded (code_of (assembled Standard source)) (of_feed (inputs feed))) r) (sym n.gives)
+    (tells_feed (code_of (assembled Standard source)) (of_feed (inputs feed)) code n.inputs h
     (subst (λ (text : List ℕ). Tells (of_feed (inputs text)) n.inputs) e (n.reads.bytes told).tells))
 tells_then source feed (Err fault) before after result h e told n =
-    subst (λ (r : Result Loaded WorkshopFault). Tells (loaded (code_of (assembled source)) (of_feed (inputs feed))) r) (sym n.0)
-    (tells_on (code_of (assembled source)) (loaded (code_of (assembled source)) (of_feed (inputs feed))) fault h (λ r. rw r refl))
+    subst (λ (r : Result Loaded WorkshopFault). Tells (loaded (code_of (assembled Standard source)) (of_feed (inputs feed))) r) (sym n.0)
+    (tells_on (code_of (assembled Standard source)) (loaded (code_of (assembled Standard source)) (of_feed (inputs feed))) fault h (λ r. rw r refl))
 
 -- what was read of a source and a feed
-tells_prepared : (before after : Files) (result : Result Loaded WorkshopFault) → Loads origin.Source before after result
+tells_prepared : (before after : Files) (result : Result Loaded WorkshopFault) → Loads (origin.Source Standard) before after result
     → before.program.told ≡ true → before.feed.told ≡ true → Tells (prepared before.program.left before.feed.left) result
 tells_prepared before after result h pt ft = tells_then before.program.left before.feed.left h.code before.feed after.feed result (h.reads.bytes pt).tells refl ft h.next
 
@@ -54,7 +55,7 @@ refused_after : (x : Result Loaded WorkshopFault) (l : Result Loaded WorkshopFau
 refused_after x (Ok l) fault t n = subst (λ (e : WorkshopFault). Tells x (Err e)) (sym n) tt
 refused_after x (Err e) fault t n = let same : e ≡ fault = (let h = n in cc) in subst (λ (f : WorkshopFault). Tells x (Err f)) same t
 
-pub refused : (before after : Files) (fault : WorkshopFault) → Opens origin.Source before after (Err fault)
+pub refused : (before after : Files) (fault : WorkshopFault) → Opens (origin.Source Standard) before after (Err fault)
     → before.program.told ≡ true → before.feed.told ≡ true → Tells (prepared before.program.left before.feed.left) (Err fault)
 refused before after fault h pt ft =
     refused_after (prepared before.program.left before.feed.left) h.loaded fault (tells_prepared before after h.loaded h.loads pt ft) h.next
@@ -65,7 +66,7 @@ over_opened : (x : Result Loaded WorkshopFault) (l : Result Loaded WorkshopFault
 over_opened x (Ok l) o P t n f = subst (λ (r : Result Loaded WorkshopFault). IsOkAnd r P) (sym t) (f l n.0)
 over_opened x (Err e) o P t n f = absurd (let h = n in cc)
 
-pub of_opened : (before after : Files) (o : Opened) (P : Loaded → Type 0) → Opens origin.Source before after (Ok o)
+pub of_opened : (before after : Files) (o : Opened) (P : Loaded → Type 0) → Opens (origin.Source Standard) before after (Ok o)
     → before.program.told ≡ true → before.feed.told ≡ true → ((l : Loaded) → o.session ≡ opened l → P l)
     → IsOkAnd (prepared before.program.left before.feed.left) P
 of_opened before after o P h pt ft f =

@@ -3,12 +3,13 @@ use Rattle.std.proofs.Common.{◌≡◌, ℕ, ◌∙◌, List, Option, ap}
 use Rattle.rope.specs.Places.{Words}
 use Rattle.cpu.specs.State.{Scenario}
 use Rattle.cpu.specs.Profiles.{count_at, cycles_at}
+use Rattle.yayul.specs.Program.{Source}
 use Rattle.cover.specs.CoverText.{cover_text, profile_text, total_of}
 use Rattle.cover.specs.Tallies.{Counts, figures_at}
 use Rattle.cover.specs.declared.tally.Figures.{Figures}
 use Rattle.cover.proofs.Counting.{profile_is}
 
-pub text_is : (scenario : Scenario) (n : ℕ) (figures : List Figures) (total : Figures) (words : Words) (source : Option (List ℕ))
+pub text_is : (scenario : Scenario) (n : ℕ) (figures : List Figures) (total : Figures) (words : Words) (source : Option Source)
     → Counts scenario n figures → total ≡ total_of scenario n → words ≡ scenario.rope → profile_text (figures_at figures) total words source ≡ cover_text source scenario n
 unfolding cover_text
 text_is scenario n figures total words source counts e same =

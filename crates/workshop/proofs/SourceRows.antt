@@ -15,6 +15,7 @@ use Rattle.yayul.specs.Layout.{line_effect}
 use Rattle.yayul.specs.Words.{request_words, request_faults}
 use Rattle.yayul.specs.Program.{Program, program}
 use Rattle.yayul.specs.Language.{Fixed}
+use Rattle.yayul.specs.declared.language.Language.TheVariants.{Standard}
 use Rattle.yayul.specs.declared.faults.Fault.{Fault}
 use Rattle.cpu.proofs.Held.{rope}
 use Rattle.cpu.proofs.FiveRun.{five_words}
@@ -32,11 +33,11 @@ AssemblesTo words symbols (Ok p) = (p.rope ≡ words) × (p.symbols ≡ symbols)
 AssemblesTo words symbols (Err fault) = ⊥
 
 five_source : AssemblesTo (rope five_words) ((codes "FIVE", Fixed 2 5) ∷ [])
-    (program (ended (codes " SETLOC 4000" ∷ codes " CA FIVE" ∷ codes " AD FIVE" ∷ codes " EXTEND" ∷ codes " WRITE 10" ∷ codes " TCF 4000" ∷ codes "FIVE OCT 5" ∷ [])))
+    (program Standard (ended (codes " SETLOC 4000" ∷ codes " CA FIVE" ∷ codes " AD FIVE" ∷ codes " EXTEND" ∷ codes " WRITE 10" ∷ codes " TCF 4000" ∷ codes "FIVE OCT 5" ∷ [])))
 unfolding program runs operators statement_of line_effect request_words request_faults lines window fb_of rope
 five_source = (refl, refl)
 
-loop_source : AssemblesTo (rope loop_words) [] (program (ended (codes " SETLOC 4000" ∷ codes " TCF 4000" ∷ [])))
+loop_source : AssemblesTo (rope loop_words) [] (program Standard (ended (codes " SETLOC 4000" ∷ codes " TCF 4000" ∷ [])))
 unfolding program runs operators statement_of line_effect request_words request_faults lines window fb_of rope
 loop_source = (refl, refl)
 

@@ -6,6 +6,7 @@ use Rattle.rope.specs.Places.{banks, Words}
 use Rattle.rope.specs.declared.spelling.Version.{Version}
 use Rattle.audit.specs.CheckWords.{with_checks, HaveRoom, IsFull}
 use Rattle.yayul.specs.Program.{Program}
+use Rattle.yayul.specs.declared.language.Language.{Language}
 use Rattle.yayul.specs.Listing.{listing}
 use Rattle.workshop.specs.declared.fault.WorkshopFault.{WorkshopFault}
 use Rattle.workshop.specs.declared.fault.WorkshopFault.TheVariants.{NoMemory}
@@ -36,10 +37,10 @@ abbrev pub AssemblesThen : Version → Result Program WorkshopFault → Assembli
 AssemblesThen version (Ok p) before after result = WritesProgram version p.rope p before after result
 AssemblesThen version (Err fault) before after result = (result ≡ Err fault) × (after.image ≡ before.image) × (after.listing ≡ before.listing)
 
--- a source is read, and what was read decides what is written
-pub record Assembles (version : Version) (before after : Assembling) (result : Result (Unit {0}) WorkshopFault) : Type 0 where
+-- a source of a language is read, and what was read decides what is written
+pub record Assembles (language : Language) (version : Version) (before after : Assembling) (result : Result (Unit {0}) WorkshopFault) : Type 0 where
   pub program : Result Program WorkshopFault
-  pub reads : Reads (λ old new. ReadsText (assembled old) old new) before.source after.source program
+  pub reads : Reads (λ old new. ReadsText (assembled language old) old new) before.source after.source program
   pub next : AssemblesThen version program before after result
 
 -- nothing is written
@@ -75,9 +76,9 @@ ChecksThen version (Ok p) before after result = HasNoMemory before after result 
 ChecksThen version (Err fault) before after result = (result ≡ Err fault) × WritesNothing before after
 
 -- a source is read, and what was read decides what is written
-pub record AssemblesChecked (version : Version) (before after : Assembling) (result : Result (Option ℕ) WorkshopFault) : Type 0 where
+pub record AssemblesChecked (language : Language) (version : Version) (before after : Assembling) (result : Result (Option ℕ) WorkshopFault) : Type 0 where
   pub program : Result Program WorkshopFault
-  pub reads : Reads (λ old new. ReadsText (assembled old) old new) before.source after.source program
+  pub reads : Reads (λ old new. ReadsText (assembled language old) old new) before.source after.source program
   pub next : ChecksThen version program before after result
 
 -- the line of text that tells a bank without room

@@ -5,7 +5,7 @@ use Rattle.rope.specs.Reading.{ReadsImage}
 use Rattle.rope.specs.declared.fault.RopeFault.{RopeFault}
 use Rattle.rope.specs.declared.spelling.Version.{Version}
 use Rattle.feed.specs.declared.entry.Entry.{Entry}
-use Rattle.yayul.specs.Program.{Program}
+use Rattle.yayul.specs.Program.{Program, Source}
 use Rattle.cover.specs.CoverText.{cover_text}
 use Rattle.cover.specs.Tallies.{AllAddUp, RowsAddUp}
 use Rattle.cpu.specs.State.{Scenario}
@@ -20,9 +20,9 @@ use Rattle.workshop.specs.Loading.{Reads, ReadsInputs, ReadsText}
 use Rattle.workshop.specs.Ropes.{WritesText}
 use Rattle.workshop.specs.Runs.{Running}
 
--- what is covered: the words of a program, and of a source its text
+-- what is covered: the words of a program, and of a source the source
 abbrev pub Subject : Type 0
-Subject = Words × Option (List ℕ)
+Subject = Words × Option Source
 
 -- what a source gives, and what an image does
 abbrev pub subject_of : Result Program WorkshopFault → Result Subject WorkshopFault
@@ -41,12 +41,12 @@ pub record ReadsImaged (version : Version) (old new : List ℕ) (result : Result
 
 -- what is covered is read, from where its words come
 abbrev pub ReadsSubject : Origin → List ℕ → List ℕ → Result Subject WorkshopFault → Type 0
-ReadsSubject origin.Source old new result = ReadsText (subject_of (assembled old)) old new result
+ReadsSubject (origin.Source language) old new result = ReadsText (subject_of (assembled language old)) old new result
 ReadsSubject (origin.Image version) old new result = ReadsImaged version old new result
 
 -- memory for the figures is refused before the first step, and nothing is written; or all steps are made and counted, each once,
 -- and their profile is written, whose rows add up
-abbrev pub CoversRun : Option (List ℕ) → Scenario → ℕ → Writer → Writer → Result (Unit {0}) WorkshopFault → Type 0
+abbrev pub CoversRun : Option Source → Scenario → ℕ → Writer → Writer → Result (Unit {0}) WorkshopFault → Type 0
 CoversRun source scenario steps before after result =
     ((result ≡ Err NoMemory) × (after ≡ before))
     ⊎ (WritesText (cover_text source scenario steps) before after result × AllAddUp scenario steps × RowsAddUp scenario steps)

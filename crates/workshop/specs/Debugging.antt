@@ -17,6 +17,7 @@ use Rattle.workshop.specs.Faults.{of_debug_fault}
 use Rattle.workshop.specs.declared.inputs.Loaded.{Loaded}
 use Rattle.workshop.specs.declared.origin.Origin.{Origin}
 use Rattle.workshop.specs.declared.origin.Origin.TheVariants.{Source}
+use Rattle.yayul.specs.declared.language.Language.TheVariants.{Standard}
 use Rattle.workshop.specs.Failures.{Reader, Writer, has_read_failed, has_write_failed, failures_if}
 use Rattle.workshop.specs.Inputs.{scenario_of}
 use Rattle.workshop.specs.Loading.{Files, Loads}
@@ -115,7 +116,7 @@ pub record Travels {O : Type 0} (l : Loaded) (sees : O → Told → O → Type 0
   pub travel : TimeTravel false returns (opened l) calls events session
   pub steps : n ≡ session.n
 
--- a session is opened over the program of a source; where none is, the observer is as it was, and why is answered
+-- a session is opened over the program of a source of the standard language; where none is, the observer is as it was, and why is answered
 abbrev pub FollowsThen : {O : Type 0} → Result Opened WorkshopFault → O → O → Result ℕ WorkshopFault → Type 0
 FollowsThen (Ok o) old new (Ok n) = Unit {0}
 FollowsThen (Ok o) old new (Err fault) = ⊥
@@ -123,5 +124,5 @@ FollowsThen (Err fault) old new result = (result ≡ Err fault) × (new ≡ old)
 
 pub record Follows {O : Type 0} (before after : Files) (old new : O) (result : Result ℕ WorkshopFault) : Type 0 where
   pub opened : Result Opened WorkshopFault
-  pub opens : Opens Source before after opened
+  pub opens : Opens (Source Standard) before after opened
   pub next : FollowsThen opened old new result

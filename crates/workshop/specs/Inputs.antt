@@ -2,6 +2,8 @@
 use Rattle.std.specs.Prelude.{ℕ, nat_lt, if◌then◌else◌, List, [], length, Result, Ok, Err}
 use Rattle.symbols.specs.Values.{SymbolTable}
 use Rattle.yayul.specs.Program.{Program, program}
+use Rattle.yayul.specs.declared.language.Language.{Language}
+use Rattle.yayul.specs.declared.language.Language.TheVariants.{Standard}
 use Rattle.yayul.specs.declared.faults.Fault.{Fault}
 use Rattle.feed.specs.Feed.{inputs, most_bytes}
 use Rattle.feed.specs.declared.fault.FeedFault.{FeedFault}
@@ -20,8 +22,8 @@ of_source (Ok p) = Ok p
 of_source (Err fault) = Err (Source fault)
 
 -- the program of a source, which may have as many bytes as a feed, or its fault
-abbrev pub assembled : List ℕ → Result Program WorkshopFault
-assembled source = if nat_lt most_bytes (length source) then Err TooLong else of_source (program source)
+abbrev pub assembled : Language → List ℕ → Result Program WorkshopFault
+assembled language source = if nat_lt most_bytes (length source) then Err TooLong else of_source (program language source)
 
 -- inputs, or a fault of the feed
 abbrev pub of_feed : Result (List Entry) FeedFault → Result (List Entry) WorkshopFault
@@ -48,9 +50,9 @@ loaded (Err fault) inputs = Err fault
 loaded (Ok code) (Err fault) = Err fault
 loaded (Ok code) (Ok is) = Ok (record { rope = code.0; symbols = code.1; feed = is })
 
--- the program of a source and the inputs of a feed, or the first fault
+-- the program of a source of the standard language and the inputs of a feed, or the first fault
 unfoldable pub prepared : List ℕ → List ℕ → Result Loaded WorkshopFault
-prepared source feed = loaded (code_of (assembled source)) (of_feed (inputs feed))
+prepared source feed = loaded (code_of (assembled Standard source)) (of_feed (inputs feed))
 
 -- what runs
 abbrev pub scenario_of : Loaded → Scenario

@@ -36,7 +36,7 @@ pub record ReadsCode (version : Version) (old new : List ℕ) (result : Result C
 
 -- a program is read, from where its words come
 abbrev pub ReadsProgram : Origin → List ℕ → List ℕ → Result Code WorkshopFault → Type 0
-ReadsProgram origin.Source old new result = ReadsText (code_of (assembled old)) old new result
+ReadsProgram (origin.Source language) old new result = ReadsText (code_of (assembled language old)) old new result
 ReadsProgram (origin.Image version) old new result = ReadsCode version old new result
 
 -- the inputs of a feed are read

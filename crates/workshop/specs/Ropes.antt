@@ -16,6 +16,7 @@ use Rattle.workshop.specs.Failures.{Reader, Writer}
 use Rattle.workshop.specs.Faults.{of_rope_fault}
 use Rattle.workshop.specs.Inputs.{assembled}
 use Rattle.workshop.specs.Loading.{Reads, ReadsText}
+use Rattle.yayul.specs.declared.language.Language.{Language}
 use Rattle.yayul.specs.Program.{Program}
 
 -- an image is read, where its bytes are told; and the reader has failed exactly where that is answered
@@ -80,10 +81,10 @@ abbrev pub ComparesOnlyThen : Version → Result Program WorkshopFault → Compa
 ComparesOnlyThen version (Ok p) before after result = ComparesNext Filled version p.rope before after result
 ComparesOnlyThen version (Err fault) before after result = (result ≡ Err fault) × (after.new ≡ before.new) × (after.out ≡ before.out)
 
--- a source is assembled, and then an image is read: they are compared at the places that the source fills
-pub record ComparesOnly (version : Version) (before after : Comparing) (result : Result ℕ WorkshopFault) : Type 0 where
+-- a source of a language is assembled, and then an image is read: they are compared at the places that the source fills
+pub record ComparesOnly (language : Language) (version : Version) (before after : Comparing) (result : Result ℕ WorkshopFault) : Type 0 where
   pub program : Result Program WorkshopFault
-  pub reads : Reads (λ old new. ReadsText (assembled old) old new) before.old after.old program
+  pub reads : Reads (λ old new. ReadsText (assembled language old) old new) before.old after.old program
   pub next : ComparesOnlyThen version program before after result
 
 -- the bytes of an image are read, where they are told; and the reader has failed exactly where that is answered

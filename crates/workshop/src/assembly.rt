@@ -14,24 +14,25 @@ use rope::{Rope, Version};
 use space::Bank;
 use std::alloc::Global;
 use words::{Read, Write, push_all, push_octal, write_all};
-use yayul::Program;
+use yayul::{Language, Program};
 
-/// Assembles the source, and writes the rope image of 73,728 bytes, of a version, to one writer, and then the listing to the other.
+/// Assembles the source, which is of a language, and writes the rope image of 73,728 bytes, of a version, to one writer, and then the listing to the other.
 ///
 /// The source has at most 8,388,608 bytes. Its first fault is answered, and then nothing is written. Nothing of the listing
 /// is written before the whole image.
 pub fn asm_engine<S: Read, I: Write, L: Write>(
     alloc: Global,
+    language: Language,
     source: &mut S,
     image: &mut I,
     listing: &mut L,
     version: Version,
 ) -> Result<(), WorkshopFault>
-    ensures { Assembles version
+    ensures { Assembles language version
         (record { source = reader S.told S.left S.failures source.old; image = writer I.told I.written I.failures image.old; listing = writer L.told L.written L.failures listing.old })
         (record { source = reader S.told S.left S.failures source.new; image = writer I.told I.written I.failures image.new; listing = writer L.told L.written L.failures listing.new }) result }
 {
-    let program = read_program(alloc, source)?;
+    let program = read_program(alloc, language, source)?;
     write_program(program.rope(), &program, image, listing, version)
 }
 
@@ -41,16 +42,17 @@ pub fn asm_engine<S: Read, I: Write, L: Write>(
 /// Where a bank has no room for them the first such is answered, and nothing is written.
 pub fn asm_with_check_words<S: Read, I: Write, L: Write>(
     alloc: Global,
+    language: Language,
     source: &mut S,
     image: &mut I,
     listing: &mut L,
     version: Version,
 ) -> Result<Option<Bank>, WorkshopFault>
-    ensures { AssemblesChecked version
+    ensures { AssemblesChecked language version
         (record { source = reader S.told S.left S.failures source.old; image = writer I.told I.written I.failures image.old; listing = writer L.told L.written L.failures listing.old })
         (record { source = reader S.told S.left S.failures source.new; image = writer I.told I.written I.failures image.new; listing = writer L.told L.written L.failures listing.new }) result }
 {
-    let program = read_program(alloc, source)?;
+    let program = read_program(alloc, language, source)?;
     let mut rope = program.rope().copied(alloc)?;
     if let Err(NoRoom { bank }) = add_check_words(&mut rope) {
         return Ok(Some(bank));

@@ -75,8 +75,8 @@ fn read_subject<P: Read>(
         (reader P.told P.left P.failures program.old) (reader P.told P.left P.failures program.new) result }
 {
     match origin {
-        Origin::Source => {
-            let (rope, rows) = read_program(alloc, program)?.split_rows();
+        Origin::Source(language) => {
+            let (rope, rows) = read_program(alloc, language, program)?.split_rows();
             Ok((rope, Some(rows)))
         }
         Origin::Image(version) => {

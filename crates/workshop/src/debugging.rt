@@ -6,6 +6,7 @@ ghost use Rattle.replay.specs.Calls.{Hears, IsAllowed};
 ghost use Rattle.workshop.specs.Debugging.{DebugsProgram, DebugsExtended, Follows, Opens, Travels};
 ghost use Rattle.workshop.specs.Failures.{reader, writer};
 ghost use Rattle.workshop.specs.Inputs.{prepared};
+ghost use Rattle.yayul.specs.declared.language.Language.TheVariants.{Standard};
 ghost use Rattle.workshop.specs.Loading.{Tells};
 
 use crate::fault::WorkshopFault;
@@ -17,7 +18,7 @@ use replay::{Call, Observer, Session, SlotKeeper, follow};
 use rope::Version;
 use std::alloc::Global;
 use words::{Read, Write};
-use yayul::Symbols;
+use yayul::{Language, Symbols};
 
 /// A session over a program, and the program's symbols.
 #[derive(Drop)]
@@ -34,12 +35,12 @@ pub fn open_session<S: Read, F: Read>(
     source: &mut S,
     feed: &mut F,
 ) -> Result<Opened, WorkshopFault>
-    ensures opens { Opens Origin.Source
+    ensures opens { Opens (Origin.Source Standard)
         (record { program = reader S.told S.left S.failures source.old; feed = reader F.told F.left F.failures feed.old })
         (record { program = reader S.told S.left S.failures source.new; feed = reader F.told F.left F.failures feed.new }) result }
     ensures start { IfOk result (λ o. o.session.n ≡ 0) }
 {
-    open_program(alloc, Origin::Source, source, feed)
+    open_program(alloc, Origin::Source(Language::Standard), source, feed)
 }
 
 /// Reads a program and then a feed, and opens a session over them that has made no step. Its images stand in slots, which are
@@ -76,11 +77,18 @@ pub fn debug_engine<S: Read, F: Read, R: Read, W: Write>(
     commands: &mut R,
     out: &mut W,
 ) -> Result<(), WorkshopFault>
-    ensures { DebugsProgram Origin.Source
+    ensures { DebugsProgram (Origin.Source Standard)
         (record { files = record { program = reader S.told S.left S.failures source.old; feed = reader F.told F.left F.failures feed.old }; commands = reader R.told R.left R.failures commands.old; out = writer W.told W.written W.failures out.old })
         (record { files = record { program = reader S.told S.left S.failures source.new; feed = reader F.told F.left F.failures feed.new }; commands = reader R.told R.left R.failures commands.new; out = writer W.told W.written W.failures out.new }) result }
 {
-    debug_program(alloc, Origin::Source, source, feed, commands, out)
+    debug_program(
+        alloc,
+        Origin::Source(Language::Standard),
+        source,
+        feed,
+        commands,
+        out,
+    )
 }
 
 /// Reads a rope image of a version to its end, reads the feed, and answers the commands over the words of the image: see

@@ -8,6 +8,7 @@ ghost use Rattle.workshop.specs.Failures.{reader, writer};
 ghost use Rattle.workshop.specs.Progress.{TellsRun};
 ghost use Rattle.workshop.specs.Runs.{Runs, Makes, outputs_after};
 ghost use Rattle.cpu.specs.Next.{next};
+ghost use Rattle.yayul.specs.declared.language.Language.TheVariants.{Standard};
 ghost use Rattle.cpu.specs.State.{FitsRun};
 
 use crate::fault::WorkshopFault;
@@ -19,6 +20,7 @@ use rope::Version;
 use space::numbers::{Chan, Eras};
 use std::alloc::Global;
 use words::{Read, Word, Write, WriteFailed};
+use yayul::Language;
 
 /// What a run has come to.
 #[derive(Clone, Copy, PartialEq, Eq, Debug, Drop)]
@@ -53,12 +55,19 @@ pub fn run_engine<S: Read, F: Read, W: Write>(
     out: &mut W,
 ) -> Result<Summary, WorkshopFault>
     requires { steps ≤ 2 ^ 40 - 2 }
-    ensures runs { Runs Origin.Source steps
+    ensures runs { Runs (Origin.Source Standard) steps
         (record { files = record { program = reader S.told S.left S.failures source.old; feed = reader F.told F.left F.failures feed.old }; out = writer W.told W.written W.failures out.old })
         (record { files = record { program = reader S.told S.left S.failures source.new; feed = reader F.told F.left F.failures feed.new }; out = writer W.told W.written W.failures out.new }) result }
     ensures handed_on { W.told ≡ true → 0 < steps → OnOk result (W.handed_on out.new ≡ W.written out.new) }
 {
-    run_program(alloc, Origin::Source, source, feed, steps, out)
+    run_program(
+        alloc,
+        Origin::Source(Language::Standard),
+        source,
+        feed,
+        steps,
+        out,
+    )
 }
 
 /// Reads a rope image of a version to its end, reads the feed, and runs the words of the image for some steps: see

@@ -10,7 +10,7 @@ use feed::Feed;
 use rope::Rope;
 use std::alloc::Global;
 use words::{MOST_BYTES, Read, read_text};
-use yayul::{Program, Symbols, assemble};
+use yayul::{Language, Program, Symbols, assemble};
 
 /// The words of a program, its symbols, and the inputs of a feed.
 #[derive(Drop)]
@@ -40,13 +40,17 @@ pub(crate) fn load<P: Read, F: Read>(
     })
 }
 
-/// Reads a source whole, and assembles it.
-pub(crate) fn read_program<S: Read>(alloc: Global, source: &mut S) -> Result<Program, WorkshopFault>
-    ensures { Reads (λ old new. ReadsText (assembled old) old new)
+/// Reads a source of a language whole, and assembles it.
+pub(crate) fn read_program<S: Read>(
+    alloc: Global,
+    language: Language,
+    source: &mut S,
+) -> Result<Program, WorkshopFault>
+    ensures { Reads (λ old new. ReadsText (assembled language old) old new)
         (reader S.told S.left S.failures source.old) (reader S.told S.left S.failures source.new) result }
 {
     let text = read_text(alloc, source, MOST_BYTES)?;
-    Ok(assemble(alloc, &text)?)
+    Ok(assemble(alloc, language, &text)?)
 }
 
 /// Reads a feed.

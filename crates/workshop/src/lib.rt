@@ -40,3 +40,4 @@ pub use ropes::{
 };
 pub use space::numbers::Bank;
 pub use tracing::{trace_and_tell, trace_program};
+pub use yayul::Language;

@@ -8,13 +8,13 @@ use crate::inputs::read_program;
 use rope::{Rope, Version};
 use std::alloc::Global;
 use words::Read;
-use yayul::Symbols;
+use yayul::{Language, Symbols};
 
 /// Where the words of a program come from.
 #[derive(Clone, Copy, PartialEq, Eq, Debug, Drop)]
 pub enum Origin {
-    /// The text of a source, which is assembled.
-    Source,
+    /// The text of a source of a language, which is assembled.
+    Source(Language),
     /// A rope image of a version, which has no symbols.
     Image(Version),
 }
@@ -30,7 +30,7 @@ impl Origin {
             (reader R.told R.left R.failures file.old) (reader R.told R.left R.failures file.new) result }
     {
         match self {
-            Origin::Source => Ok(read_program(alloc, file)?.split()),
+            Origin::Source(language) => Ok(read_program(alloc, language, file)?.split()),
             Origin::Image(version) => {
                 let rope = Rope::read(alloc, file, version)?;
                 Ok((rope, Symbols::new(alloc)))

@@ -15,6 +15,7 @@ use rope::{Dump, Rope, Version};
 use space::numbers::Bank;
 use std::alloc::Global;
 use words::{Read, Write};
+use yayul::Language;
 
 /// Reads a rope image of a version to its end, and writes a line for each word of a bank, or of all banks: its place, the
 /// word, and the instruction that it is.
@@ -107,22 +108,23 @@ pub fn compare_engine<A: Read, B: Read, W: Write>(
     Ok(write_differences(&words, &others, Extent::All, out)?)
 }
 
-/// Assembles a source, reads a rope image of a version to its end, and writes a line for each place that the source fills where
+/// Assembles a source of a language, reads a rope image of a version to its end, and writes a line for each place that the source fills where
 /// the words differ, and then how many places there are, which it answers. Of the other places nothing is said.
 ///
 /// The source has at most 8,388,608 bytes. Its first fault is answered, else that of the image, and then nothing is written.
 pub fn compare_only_engine<S: Read, R: Read, W: Write>(
     alloc: Global,
+    language: Language,
     source: &mut S,
     image: &mut R,
     version: Version,
     out: &mut W,
 ) -> Result<u32, WorkshopFault>
-    ensures { ComparesOnly version
+    ensures { ComparesOnly language version
         (record { old = reader S.told S.left S.failures source.old; new = reader R.told R.left R.failures image.old; out = writer W.told W.written W.failures out.old })
         (record { old = reader S.told S.left S.failures source.new; new = reader R.told R.left R.failures image.new; out = writer W.told W.written W.failures out.new }) result }
 {
-    let program = read_program(alloc, source)?;
+    let program = read_program(alloc, language, source)?;
     let words = Rope::read(alloc, image, version)?;
     Ok(write_differences(program.rope(), &words, Extent::Filled, out)?)
 }

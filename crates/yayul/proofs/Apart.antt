@@ -7,7 +7,7 @@ use Rattle.std.specs.List.{list_any}
 use Rattle.agc_text.specs.Lines.{lines}
 use Rattle.yayul.specs.Layout.{Request, start, width, stands_at, layout_after}
 use Rattle.yayul.specs.Inside.Sound.{AreApart, meets}
-use Rattle.yayul.specs.Language.{Addressed, Constant, Content, FarAddress, Plain}
+use Rattle.yayul.specs.Language.{Language, Addressed, Constant, Content, FarAddress, Plain}
 use Rattle.yayul.specs.Laws.{ShareNoPlace, WordsShareNoPlace}
 use Rattle.yayul.proofs.Asked.{ordered}
 use Rattle.yayul.proofs.Taken.{meets_not}
@@ -65,5 +65,5 @@ share_no_place rs apart = λ i j q r lt eq er bank offset here.
       | inr neither ↦ neither
     ]
 
-pub words_share_no_place : (source : List ℕ) → WordsShareNoPlace source
-words_share_no_place source = λ none. share_no_place (layout_after 1 start (lines source)).requests (ordered (lines source) start (layout_after 1 start (lines source)) refl refl none).1
+pub words_share_no_place : (language : Language) (source : List ℕ) → WordsShareNoPlace language source
+words_share_no_place language source = λ none. share_no_place (layout_after 1 (start language) (lines source)).requests (ordered (lines source) (start language) (layout_after 1 (start language) (lines source)) refl refl none).1

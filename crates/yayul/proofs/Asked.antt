@@ -8,8 +8,7 @@ use Rattle.std.specs.List.{list_any}
 use Rattle.std.specs.Option.{option_map_or}
 use Rattle.std.specs.Result.{result_unwrap_or}
 use Rattle.rope.specs.Places.{bank_words}
-use Rattle.yayul.specs.Forms.{statement_of}
-use Rattle.yayul.specs.Layout.{Request, and_then, value_here, early_value, defined, asked, asked_here, fault_if, standing, on_line, Layout, width, lacks_room, after_words, stands_at, is_taken, is_malformed, is_twice, is_erasable, word_place, gives, statement_effect, text_faults, line_effect, line_faults, layout_after, layout_faults}
+use Rattle.yayul.specs.Layout.{statement_on, Request, and_then, value_here, early_value, defined, asked, asked_here, fault_if, standing, on_line, Layout, width, lacks_room, after_words, stands_at, is_taken, is_malformed, is_twice, is_erasable, word_place, gives, statement_effect, text_faults, line_effect, line_faults, layout_after, layout_faults}
 use Rattle.yayul.specs.Inside.Sound.{AreFrom, AreRising, AreApart, AreBelow, AreOrdered, meets}
 use Rattle.yayul.specs.declared.faults.Fault.{Fault}
 use Rattle.yayul.specs.declared.faults.FaultKind.{FaultKind}
@@ -147,7 +146,7 @@ no_others (k ∷ kinds) others e = absurd (cc)
 line_next : (line : ℕ) (s : Layout) (text : List ℕ) → line_faults line s text ≡ [] → IsNext line s.requests (line_effect line s text).after.requests
 unfolding line_effect
 line_next line s text e =
-    statement_next line s (statement_of text).label (statement_of text).operation (no_others (text_faults line text) (line_effect line s text).faults e)
+    statement_next line s (statement_on s text).label (statement_on s text).operation (no_others (text_faults line text) (line_effect line s text).faults e)
 
 from-push : (n : ℕ) (rs : List Request) (r : Request) → AreFrom n rs → n ≤ r.line → AreFrom n (rs ++ r ∷ [])
 from-push n [] r p le = (le, tt)

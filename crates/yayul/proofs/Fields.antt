@@ -11,8 +11,9 @@ use Rattle.agc_text.specs.declared.fields.Field.{Field}
 use Rattle.agc_text.specs.declared.fields.Line.{Line}
 use Rattle.yayul.specs.Operators.{operators}
 use Rattle.yayul.specs.Forms.{operation_in, operation_of}
-use Rattle.yayul.specs.Inside.Representation.{text_of, followed_by, arguments_of, operation_by}
-use Rattle.yayul.specs.Language.{Operator, Nothing}
+use Rattle.yayul.specs.Flight.{flight_operator, flight_operation_of, flight_operation_in}
+use Rattle.yayul.specs.Inside.Representation.{text_of, followed_by, arguments_of, operation_by, flight_operation_by}
+use Rattle.yayul.specs.Language.{FlightOperator, Location, Operation, Operator, Nothing, PassedOver}
 use Rattle.agc_text.specs.Tables.{value_in}
 
 -- the text of a field is that of its piece
@@ -30,7 +31,10 @@ arguments_in pieces =
     followed_by (option_map (λ q. q.text) (slice_get pieces 1)) (followed_by (option_map (λ q. q.text) (slice_get pieces 2)) (further (nat_lt 3 (length pieces))))
 
 -- what fields after an offset are makes no difference
-many : (operator : Option Operator) (a b c d : List ℕ) (more others : List (List ℕ)) → operation_of operator (a ∷ b ∷ c ∷ more) ≡ operation_of operator (a ∷ b ∷ d ∷ others)
+abbrev Alike : (List (List ℕ) → Operation) → Type 0
+Alike says = (a b c d : List ℕ) (more others : List (List ℕ)) → says (a ∷ b ∷ c ∷ more) ≡ says (a ∷ b ∷ d ∷ others)
+
+many : (operator : Option Operator) → Alike (operation_of operator)
 many None a b c d more others = refl
 many (Some Operator.Setloc) a b c d more others = refl
 many (Some (Operator.Bank taken)) a b c d more others = refl
@@ -44,14 +48,21 @@ many (Some (Operator.Plain code)) a b c d more others = refl
 many (Some (Operator.Addressed code)) a b c d more others = refl
 many (Some (Operator.ToNext code)) a b c d more others = refl
 
+flight_many : (here : Location) (operator : Option FlightOperator) → Alike (flight_operation_of here operator)
+flight_many here None a b c d more others = refl
+flight_many here (Some PassedOver) a b c d more others = refl
+flight_many here (Some FlightOperator.Equals) a b c d more others = refl
+flight_many here (Some (FlightOperator.Bank taken)) a b c d more others = refl
+flight_many here (Some (FlightOperator.Standard operator)) a b c d more others = many (Some operator) a b c d more others
+
 -- an operator says with fields what it says with the pieces after it
-with_arguments : (operator : Option Operator) (p : Piece) (rest : List Piece) → operation_of operator (arguments_in (p ∷ rest)) ≡ operation_of operator (texts rest)
-with_arguments operator p [] = refl
-with_arguments operator p (q ∷ []) = refl
-with_arguments operator p (q ∷ r ∷ []) = refl
-with_arguments operator p (q ∷ r ∷ t ∷ more) =
+with_arguments : (says : List (List ℕ) → Operation) → Alike says → (p : Piece) (rest : List Piece) → says (arguments_in (p ∷ rest)) ≡ says (texts rest)
+with_arguments says alike p [] = refl
+with_arguments says alike p (q ∷ []) = refl
+with_arguments says alike p (q ∷ r ∷ []) = refl
+with_arguments says alike p (q ∷ r ∷ t ∷ more) =
     let many_stand : nat_lt 3 (length (p ∷ q ∷ r ∷ t ∷ more)) ≡ true = grind (arith, nat_tests) in
-    ap (λ b. operation_of operator (q.text ∷ r.text ∷ further b)) many_stand ∙ many operator q.text r.text [] t.text [] (texts more)
+    ap (λ b. says (q.text ∷ r.text ∷ further b)) many_stand ∙ alike q.text r.text [] t.text [] (texts more)
 
 -- what the first piece says with the arguments
 by_first : (operator : Option Field) (a : List (List ℕ)) (pieces : List Piece) → option_map piece operator ≡ slice_get pieces 0 → a ≡ arguments_in pieces → option_map_or (λ f. operation_of (value_in operators f.text.now) a) operator Nothing ≡ operation_in pieces
@@ -60,7 +71,7 @@ by_first None a (p ∷ ps) first same = cc
 by_first (Some f) a [] first same = cc
 by_first (Some f) a (p ∷ ps) first same =
     ap (λ text. operation_of (value_in operators text) a) (ap (λ (q : Piece). q.text) (same_Some (piece f) p first))
-    ∙ ap (operation_of (value_in operators p.text)) same ∙ with_arguments (value_in operators p.text) p ps
+    ∙ ap (operation_of (value_in operators p.text)) same ∙ with_arguments (operation_of (value_in operators p.text)) (many (value_in operators p.text)) p ps
 
 -- what a line taken apart says is what its pieces say
 pub operation_by-pieces : (l : Line) (pieces : List Piece) → option_map piece l.operator ≡ slice_get pieces 0 → option_map piece l.operand ≡ slice_get pieces 1 → option_map piece l.offset ≡ slice_get pieces 2 → l.more ≡ nat_lt 3 (length pieces)
@@ -69,3 +80,22 @@ operation_by-pieces l pieces operator operand offset more =
     let a : arguments_of l ≡ arguments_in pieces =
     λ j. followed_by (text_of_piece l.operand (slice_get pieces 1) operand j) (followed_by (text_of_piece l.offset (slice_get pieces 2) offset j) (further (more j))) in
     by_first l.operator (arguments_of l) pieces operator a
+
+-- what the first piece says with the arguments in the language of flight programs
+flight_by_first : (here : Location) (operator : Option Field) (a : List (List ℕ)) (pieces : List Piece) → option_map piece operator ≡ slice_get pieces 0 → a ≡ arguments_in pieces
+    → option_map_or (λ f. flight_operation_of here (flight_operator f.text.now) a) operator Nothing ≡ flight_operation_in here pieces
+flight_by_first here None a [] first same = refl
+flight_by_first here None a (p ∷ ps) first same = cc
+flight_by_first here (Some f) a [] first same = cc
+flight_by_first here (Some f) a (p ∷ ps) first same =
+    ap (λ text. flight_operation_of here (flight_operator text) a) (ap (λ (q : Piece). q.text) (same_Some (piece f) p first))
+    ∙ ap (flight_operation_of here (flight_operator p.text)) same
+    ∙ with_arguments (flight_operation_of here (flight_operator p.text)) (flight_many here (flight_operator p.text)) p ps
+
+-- so it is with a line of a flight program
+pub flight_operation_by-pieces : (here : Location) (l : Line) (pieces : List Piece) → option_map piece l.operator ≡ slice_get pieces 0 → option_map piece l.operand ≡ slice_get pieces 1 → option_map piece l.offset ≡ slice_get pieces 2
+    → l.more ≡ nat_lt 3 (length pieces) → flight_operation_by here l ≡ flight_operation_in here pieces
+flight_operation_by-pieces here l pieces operator operand offset more =
+    let a : arguments_of l ≡ arguments_in pieces =
+    λ j. followed_by (text_of_piece l.operand (slice_get pieces 1) operand j) (followed_by (text_of_piece l.offset (slice_get pieces 2) offset j) (further (more j))) in
+    flight_by_first here l.operator (arguments_of l) pieces operator a

@@ -6,8 +6,7 @@ use Rattle.std.specs.List.{slice_get, flat_map}
 use Rattle.rope.specs.Places.{Words}
 use Rattle.words.specs.Devices.{WritesBeginning}
 use Rattle.words.proofs.Texts.{append-then, beginning-after, beginning-along}
-use Rattle.yayul.specs.Forms.{statement_of}
-use Rattle.yayul.specs.Layout.{Layout, line_effect}
+use Rattle.yayul.specs.Layout.{statement_on, Layout, line_effect}
 use Rattle.yayul.specs.Listing.{Margin, line_rows, rows, shown}
 use Rattle.yayul.specs.Inside.Representation.{shown_by_mark, lines_show, rows_of}
 use Rattle.yayul.specs.declared.mark.Mark.{Mark}
@@ -55,7 +54,7 @@ rows-no_marks margin line words (text ∷ texts) marks e = ap (λ ms. rows_of ma
 pub rows-shown : (margin : Margin) (line : ℕ) (s : Layout) (words : Words) (texts : List (List ℕ)) → rows_of margin line words texts (lines_show line s texts) ≡ rows margin line s words texts
 rows-shown margin line s words [] = refl
 rows-shown margin line s words (text ∷ texts) =
-    ap (λ more. line_rows margin line words text (shown s.location (statement_of text)) ++ more) (rows-shown margin (line + 1) (line_effect line s text).after words texts)
+    ap (λ more. line_rows margin line words text (shown s.location (statement_on s text)) ++ more) (rows-shown margin (line + 1) (line_effect line s text).after words texts)
 
 -- the entries from one on
 pub from_entry : {A : Type 0} (xs : List A) (i : ℕ) (x : A) → slice_get xs i ≡ Some x → drop i xs ≡ x ∷ drop (i + 1) xs

@@ -1,8 +1,8 @@
 -- A source of the words of some banks gives them.
-use Rattle.std.proofs.Common.{◌≡◌, ◌≢◌, ◌<◌, ◌≤◌, ◌+◌, ◌-◌, ◌*◌, ◌^◌, ◌==◌, ◌&&◌, ◌||◌, ◌⊎◌, not, eqb, nat_le, nat_lt, ltb, leb, ℕ, zero, suc, List, [], ◌∷◌, ◌++◌, length, map, Option, Some, None, Ok, Result, Bool, true, false, cond, refl, arith, ◌∙◌, ap, sym, inl, inr, append_assoc}
-use Rattle.std.specs.Prelude.{flat_map, fold, max, if◌then◌else◌}
+use Rattle.std.proofs.Common.{◌≡◌, ◌<◌, ◌≤◌, ◌+◌, ◌*◌, ◌^◌, ◌==◌, ◌&&◌, eqb, nat_le, nat_lt, ℕ, zero, suc, List, [], ◌∷◌, ◌++◌, length, map, Some, None, Ok, Bool, true, false, refl, arith, ◌∙◌, ap, sym, inl, inr}
+use Rattle.std.specs.Prelude.{flat_map, if◌then◌else◌}
 use Rattle.std.specs.List.{list_all, list_any, range_with_len}
-use Rattle.std.proofs.lemmas.Bool.{cases_Bool, cases_eq, ne_eqb}
+use Rattle.std.proofs.lemmas.Bool.{cases_eq}
 use Rattle.std.proofs.lemmas.Bool.Decides.{nat_tests}
 use Rattle.std.proofs.lemmas.List.{append-nil}
 use Rattle.std.proofs.lemmas.List.Folds.{list_any-append}
@@ -10,18 +10,18 @@ use Rattle.std.proofs.lemmas.List.Sums.{fold-append}
 use Rattle.std.proofs.lemmas.List.Concat.{flat_map-append}
 use Rattle.agc_text.specs.Bytes.{is_text_byte, line_length}
 use Rattle.agc_text.specs.Lines.{lines}
-use Rattle.rope.specs.Places.{banks, bank_words, Words, Placed, place_number, no_words, with_word, with_words, slot_at, word_at}
+use Rattle.rope.specs.Places.{banks, bank_words, Words, Placed, place_number, no_words, with_words, slot_at, word_at}
 use Rattle.rope.proofs.PlaceLaws.{slot_at-no_words, slot_at-with_word, with_words-append}
-use Rattle.yayul.specs.Layout.{Request, Layout, start, stands_at, bank_end, text_faults, line_effect, statement_effect, line_faults, layout_after, layout_faults, LineEffect, on_line}
+use Rattle.yayul.specs.Layout.{Request, Layout, start, stands_at, bank_end, text_faults, line_effect, statement_effect, line_faults, layout_after, layout_faults, LineEffect}
 use Rattle.yayul.specs.Words.{request_words, request_faults, word_faults}
-use Rattle.yayul.specs.Program.{Program, program, placed, completed, unless_fault, least}
-use Rattle.yayul.specs.Language.{All, Bank, Constant, Gives, Is, Missing, Location, Statement}
+use Rattle.yayul.specs.Program.{Program, program, placed}
+use Rattle.yayul.specs.Language.{Standard, Constant, Location, Statement}
 use Rattle.yayul.proofs.Lines.{faultless_line}
 use Rattle.yayul.proofs.Said.{word_text, bank_text, word_said, bank_said}
 
 -- a layout at a fixed place, without a symbol
 abbrev pub at : ℕ → ℕ → List Request → Layout
-at bank offset requests = record { location = Location.Fixed bank offset; symbols = []; requests = requests; extracode = false; eb = 0 }
+at bank offset requests = record { language = Standard; location = Location.Fixed bank offset; symbols = []; requests = requests; extracode = false; eb = 0 }
 
 -- what the line of a word asks for
 abbrev pub asked_word : ℕ → ℕ → ℕ → ℕ → Request
@@ -217,17 +217,17 @@ banks_pass words comment first may (suc n) bank line from offset next rs few aft
 -- a source assembles, and the words of some banks stand in its program, and no others
 pub record GivesBanks (words : Words) (first n : ℕ) (source : List ℕ) : Type 0 where
   pub given : Program
-  pub assembles : program source ≡ Ok given
+  pub assembles : program Standard source ≡ Ok given
   pub same : (b o : ℕ) → b < banks → o < bank_words → slot_at given.rope b o ≡ (if nat_le first b && nat_lt b (first + n) then Some (word_at words b o) else None)
 
 pub gives_banks : (words : Words) (comment : ℕ → ℕ → List ℕ) (first n : ℕ) (source : List ℕ) → MayBeWritten words comment → n + first ≤ banks → lines source ≡ banks_texts words comment first n → GivesBanks words first n source
 unfolding program
 gives_banks words comment first n source may few whole =
     let passes = banks_pass words comment first may n first 1 2 0 (1 + 1025 * n) [] few (omega arith) refl (omega (arith, few)) (reached_start words first) in
-    let faults : layout_faults 1 start (lines source) ≡ [] = rw whole passes.faults in
-    let layout : layout_after 1 start (lines source) ≡ at passes.bank passes.offset passes.requests = rw whole passes.layout in
+    let faults : layout_faults 1 (start Standard) (lines source) ≡ [] = rw whole passes.faults in
+    let layout : layout_after 1 (start Standard) (lines source) ≡ at passes.bank passes.offset passes.requests = rw whole passes.layout in
     record {
-      given = record { rope = with_words no_words (flat_map (placed []) passes.requests); symbols = []; source = source };
+      given = record { rope = with_words no_words (flat_map (placed []) passes.requests); symbols = []; source = record { language = Standard; text = source } };
       assembles = rw (faults, layout, passes.reached.faultless) refl;
       same = λ b o inside small.
           let test : is_given first (place_number (first + n) 0) b o ≡ (nat_le first b && nat_lt b (first + n)) = grind (arith, nat_tests) in

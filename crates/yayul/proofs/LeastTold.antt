@@ -8,14 +8,13 @@ use Rattle.std.proofs.lemmas.List.Concat.{flat_map-append}
 use Rattle.std.proofs.lemmas.List.Folds.{find_at, list_any-append}
 use Rattle.agc_text.specs.Bytes.{line_length, is_text_byte}
 use Rattle.agc_text.specs.Lines.{lines}
-use Rattle.yayul.specs.Forms.{statement_of}
-use Rattle.yayul.specs.Layout.{Request, Layout, and_then, value_here, early_value, defined, asked, asked_here, fault_if, fault_number, standing, start, on_line, is_malformed, is_twice, word_place, statement_effect, text_faults, line_effect, line_faults, layout_after, layout_faults}
+use Rattle.yayul.specs.Layout.{statement_on, Request, Layout, and_then, value_here, early_value, defined, asked, asked_here, fault_if, fault_number, standing, start, on_line, is_malformed, is_twice, word_place, statement_effect, text_faults, line_effect, line_faults, layout_after, layout_faults}
 use Rattle.yayul.specs.Laws.{is_of, TellsOf, FindingsAgree}
 use Rattle.yayul.specs.Program.{Program, least, completed, program, unless_fault}
 use Rattle.yayul.specs.Survey.{Survey, unmarked, known_after, extracode_known, moves, displaces, some_stands, wrong_byte, is_refused, layout_kinds, noted, passed_line, passed_lines, is_among, names_one, erases, is_same_byte, doubt, follows, kinds_in_order, is_one_of, finding, told_of, word_kinds, content_kinds, line_kinds, told_line, told_lines, looked_at, told}
 use Rattle.yayul.specs.Words.{content_words, request_words, request_faults, word_faults}
 use Rattle.yayul.specs.Inside.Answers.{lesser_kind, least_kind}
-use Rattle.yayul.specs.Language.{Addressed, BadBank, BadLabel, BadOperand, Bank, BankFull, CodeInErasable, Constant, Content, Ebank, Equals, Erase, FarAddress, Fault, FaultKind, Gives, Label, LongLine, Malformed, Missing, Named, NeedsExtend, NoMemory, NotAscii, NotExtracode, Nothing, Operation, OutOfRange, PlaceTaken, Plain, Setloc, Term, TooManyLines, TwiceDefined, Undefined, Unknown, UnknownOperator, UsedTooEarly, Value, WrongKindOfAddress}
+use Rattle.yayul.specs.Language.{Language, Addressed, BadBank, BadLabel, BadOperand, Bank, BankFull, CodeInErasable, Constant, Content, Ebank, Equals, Erase, FarAddress, Fault, FaultKind, Gives, Label, LongLine, Malformed, Missing, Named, NeedsExtend, NoMemory, NotAscii, NotExtracode, Nothing, Operation, OutOfRange, PlaceTaken, Plain, Setloc, Term, TooManyLines, TwiceDefined, Undefined, Unknown, UnknownOperator, UsedTooEarly, Value, WrongKindOfAddress}
 use Rattle.yayul.specs.declared.doubt.Doubt.{Doubt}
 use Rattle.yayul.specs.declared.doubt.Known.{Known}
 use Rattle.yayul.specs.declared.finding.Finding.{Finding}
@@ -76,16 +75,16 @@ module _ (line : ℕ) (l : Layout) (text : List ℕ) (e : line_faults line l tex
   not_refused : is_refused line l text ≡ false
   not_refused = ap (λ kinds. some_stands kinds || some_stands (layout_kinds line l text)) no_text ∙ ap some_stands no_layout
 
-  extracode_stays : extracode_known true false (statement_of text).operation ≡ true
+  extracode_stays : extracode_known true false (statement_on l text).operation ≡ true
   unfolding line_effect
-  extracode_stays = still_known line l (statement_of text).label (statement_of text).operation no_layout
+  extracode_stays = still_known line l (statement_on l text).label (statement_on l text).operation no_layout
 
-  all_stays : known_after (record { location = true; extracode = true; wrong = None }) text (statement_of text).operation (is_refused line l text) (list_any displaces (layout_kinds line l text))
+  all_stays : known_after (record { location = true; extracode = true; wrong = None }) text (statement_on l text).operation (is_refused line l text) (list_any displaces (layout_kinds line l text))
       ≡ record { location = true; extracode = true; wrong = None }
   all_stays =
-      ap (λ r. known_after (record { location = true; extracode = true; wrong = None }) text (statement_of text).operation r (list_any displaces (layout_kinds line l text))) not_refused
-      ∙ ap (λ kinds. known_after (record { location = true; extracode = true; wrong = None }) text (statement_of text).operation false (list_any displaces kinds)) no_layout
-      ∙ (λ i. record { location = whether (moves (statement_of text).operation) i; extracode = extracode_stays i; wrong = ap (λ byte. option_or byte None) (none_wrong text (all_text line text no_text)) i })
+      ap (λ r. known_after (record { location = true; extracode = true; wrong = None }) text (statement_on l text).operation r (list_any displaces (layout_kinds line l text))) not_refused
+      ∙ ap (λ kinds. known_after (record { location = true; extracode = true; wrong = None }) text (statement_on l text).operation false (list_any displaces kinds)) no_layout
+      ∙ (λ i. record { location = whether (moves (statement_on l text).operation) i; extracode = extracode_stays i; wrong = ap (λ byte. option_or byte None) (none_wrong text (all_text line text no_text)) i })
     where
       whether : (b : Bool) → cond b (not false) (true && not false) ≡ true
       whether true = refl
@@ -95,7 +94,7 @@ module _ (line : ℕ) (l : Layout) (text : List ℕ) (e : line_faults line l tex
   pub passed_clean : passed_line line (clean l) text ≡ clean (line_effect line l text).after
   passed_clean = λ i. record {
     layout = ap (λ r. cond r l (line_effect line l text).after) not_refused i;
-    lost = ap (λ r. cond r (noted [] (statement_of text).label) []) not_refused i;
+    lost = ap (λ r. cond r (noted [] (statement_on l text).label) []) not_refused i;
     known = all_stays i;
   }
 
@@ -111,7 +110,7 @@ clean_after (text ∷ texts) line l e =
 abbrev words_of : List (List ℕ × Value) → ℕ → Layout → List (List ℕ) → List Fault
 words_of table line l [] = []
 words_of table line l (text ∷ texts) =
-    on_line line (word_kinds table l (statement_of text).operation) ++ words_of table (line + 1) (line_effect line l text).after texts
+    on_line line (word_kinds table l (statement_on l text).operation) ++ words_of table (line + 1) (line_effect line l text).after texts
 
 asked_words : (table : List (List ℕ × Value)) (line : ℕ) (s : Layout) (content : Content)
     → word_faults table (asked_here line s content).requests ≡ word_faults table s.requests ++ on_line line (content_kinds table s content)
@@ -156,9 +155,9 @@ statement_words table line s label operation = by_operation operation
     by_operation (Gives (Some content)) = gives content label
 
 line_words : (table : List (List ℕ × Value)) (line : ℕ) (s : Layout) (text : List ℕ)
-    → word_faults table (line_effect line s text).after.requests ≡ word_faults table s.requests ++ on_line line (word_kinds table s (statement_of text).operation)
+    → word_faults table (line_effect line s text).after.requests ≡ word_faults table s.requests ++ on_line line (word_kinds table s (statement_on s text).operation)
 unfolding line_effect
-line_words table line s text = statement_words table line s (statement_of text).label (statement_of text).operation
+line_words table line s text = statement_words table line s (statement_on s text).label (statement_on s text).operation
 
 -- the word faults of what lines ask for are those of the lines
 words_told : (table : List (List ℕ × Value)) (texts : List (List ℕ)) (line : ℕ) (s : Layout)
@@ -166,7 +165,7 @@ words_told : (table : List (List ℕ × Value)) (texts : List (List ℕ)) (line 
 words_told table [] line s = sym (append-nil (word_faults table s.requests))
 words_told table (text ∷ texts) line s =
     let after : Layout = (line_effect line s text).after in
-    let here : List Fault = on_line line (word_kinds table s (statement_of text).operation) in
+    let here : List Fault = on_line line (word_kinds table s (statement_on s text).operation) in
     words_told table texts (line + 1) after
     ∙ ap (λ faults. faults ++ words_of table (line + 1) after texts) (line_words table line s text)
     ∙ append_assoc (word_faults table s.requests) here (words_of table (line + 1) after texts)
@@ -326,8 +325,8 @@ fields_follow symbol NoMemory e = absurd (cc)
 -- ## Where no line is refused
 -- the faults of a faultless line are those of its words
 clean_kinds : (w : Survey) (line : ℕ) (l : Layout) (text : List ℕ) → line_faults line l text ≡ []
-    → line_kinds w line (clean l) text ≡ word_kinds w.layout.symbols l (statement_of text).operation
-clean_kinds w line l text e = ap (λ kinds. kinds ++ word_kinds w.layout.symbols l (statement_of text).operation) e
+    → line_kinds w line (clean l) text ≡ word_kinds w.layout.symbols l (statement_on l text).operation
+clean_kinds w line l text e = ap (λ kinds. kinds ++ word_kinds w.layout.symbols l (statement_on l text).operation) e
 
 nothing_told : (d : Doubt) (line : ℕ) (text : List ℕ) → told_of d line text [] ≡ []
 nothing_told d line text = refl
@@ -341,8 +340,8 @@ none_told [] line l w e none = refl
 none_told (text ∷ texts) line l w e none =
     let after : Layout = (line_effect line l text).after in
     let parts = head_faults line (line_faults line l text) (layout_faults (line + 1) after texts) e in
-    let words = head_faults line (word_kinds w.symbols l (statement_of text).operation) (words_of w.symbols (line + 1) after texts) none in
-    let d : Doubt = doubt [] [] (record { location = true; extracode = true; wrong = None }) text (statement_of text).operation in
+    let words = head_faults line (word_kinds w.symbols l (statement_on l text).operation) (words_of w.symbols (line + 1) after texts) none in
+    let d : Doubt = doubt [] [] (record { location = true; extracode = true; wrong = None }) text (statement_on l text).operation in
     ap (λ kinds. told_of d line text kinds ++ told_lines (clean w) (line + 1) (passed_line line (clean l) text) texts) (clean_kinds (clean w) line l text parts.0 ∙ words.0)
     ∙ ap (λ s. told_lines (clean w) (line + 1) s texts) (passed_clean line l text parts.0)
     ∙ none_told texts (line + 1) after w parts.1 words.1
@@ -361,15 +360,15 @@ either_list (f ∷ fs) gs fault (inr more) =
     elim (either_list fs gs fault more) [ inl here ↦ inl (inr here) | inr there ↦ inr there ]
 
 -- a word fault of a faultless line is told
-word_told : (line : ℕ) (l w : Layout) (text : List ℕ) (fault : Fault) → line_faults line l text ≡ [] → StandsIn (on_line line (word_kinds w.symbols l (statement_of text).operation)) fault
+word_told : (line : ℕ) (l w : Layout) (text : List ℕ) (fault : Fault) → line_faults line l text ≡ [] → StandsIn (on_line line (word_kinds w.symbols l (statement_on l text).operation)) fault
     → list_any (is_of fault) (told_line (clean w) line (clean l) text) ≡ true
 word_told line l w text fault e stands =
-    let kinds : List FaultKind = word_kinds w.symbols l (statement_of text).operation in
+    let kinds : List FaultKind = word_kinds w.symbols l (statement_on l text).operation in
     let found = kind_of_fault line kinds fault stands in
-    let d : Doubt = doubt [] [] (record { location = true; extracode = true; wrong = None }) text (statement_of text).operation in
+    let d : Doubt = doubt [] [] (record { location = true; extracode = true; wrong = None }) text (statement_on l text).operation in
     let plain : list_all is_text_byte text ≡ true = all_text line text (no_front (text_faults line text) (line_effect line l text).faults e) in
     let alone : follows d found.0 ≡ false =
-    ap (λ x. follows x found.0) (clean_doubt [] text (statement_of text).operation ∙ (λ i. doubt_here (not (plain i)) (names_none (statement_of text).operation i))) ∙ none_follows found.0 in
+    ap (λ x. follows x found.0) (clean_doubt [] text (statement_on l text).operation ∙ (λ i. doubt_here (not (plain i)) (names_none (statement_on l text).operation i))) ∙ none_follows found.0 in
     ap (λ f. list_any (is_of f) (told_line (clean w) line (clean l) text)) found.1.1
     ∙ ap (λ ks. list_any (is_of (least_fault.told line found.0)) (told_of d line text ks)) (clean_kinds (clean w) line l text e)
     ∙ told_here d line text kinds found.0 (one_of_among found.0 kinds found.1.0) alone
@@ -381,7 +380,7 @@ words_are_told (text ∷ texts) line l w fault e stands =
     let after : Layout = (line_effect line l text).after in
     let parts = head_faults line (line_faults line l text) (layout_faults (line + 1) after texts) e in
     let later : List Finding = told_lines (clean w) (line + 1) (passed_line line (clean l) text) texts in
-    elim (either_list (on_line line (word_kinds w.symbols l (statement_of text).operation)) (words_of w.symbols (line + 1) after texts) fault stands) [
+    elim (either_list (on_line line (word_kinds w.symbols l (statement_on l text).operation)) (words_of w.symbols (line + 1) after texts) fault stands) [
       | inl here ↦ any_front (is_of fault) (told_line (clean w) line (clean l) text) later (word_told line l w text fault parts.0 here)
       | inr there ↦ any_back (is_of fault) (told_line (clean w) line (clean l) text) later
           (ap (λ s. list_any (is_of fault) (told_lines (clean w) (line + 1) s texts)) (passed_clean line l text parts.0) ∙ words_are_told texts (line + 1) after w fault parts.1 there)
@@ -444,7 +443,7 @@ first_told : (w : Survey) (line : ℕ) (l : Layout) (text : List ℕ) (kind : Fa
     → list_any (is_of (least_fault.told line kind)) (told_line w line (clean l) text) ≡ true
 unfolding line_effect
 first_told w line l text kind e =
-    let operation : Operation = (statement_of text).operation in
+    let operation : Operation = (statement_on l text).operation in
     let words : List FaultKind = word_kinds w.layout.symbols l operation in
     let d : Doubt = doubt w.lost [] (record { location = true; extracode = true; wrong = None }) text operation in
     let among : IsAmong kind (line_faults line l text) = least_among (line_faults line l text) kind e in
@@ -456,7 +455,7 @@ first_told w line l text kind e =
       | inl plain ↦ told_alone
           (ap (λ x. follows x kind) (clean_doubt w.lost text operation ∙ (λ i. doubt_here (not (plain i)) (names_one w.lost operation)))
           ∙ early_follows (names_one w.lost operation) (not (list_all is_text_byte text)) _ _ (line_effect line l text).faults kind
-          (statement_late line l (statement_of text).label operation) among)
+          (statement_late line l (statement_on l text).label operation) among)
       | inr other ↦
           let bytes : Some NotAscii ≡ Some kind = sym (line_told line l text NotAscii (first_is_bytes (not (list_all is_text_byte text)) _ _ (ap not other))) ∙ e in
           let is : NotAscii ≡ kind = cc in
@@ -518,37 +517,37 @@ stands_least (f ∷ fs) fault e =
     subst (λ (x : Fault). StandsIn (f ∷ fs) x) same (fold_is_least f fs).0
 
 -- where no line is refused
-laid_out : (source : List ℕ) → layout_faults 1 start (lines source) ≡ [] → TellsOf (completed (layout_after 1 start (lines source)) source) (told_lines (passed_lines 1 unmarked (looked_at source)) 1 unmarked (looked_at source))
-laid_out source e =
-    subst (λ (findings : List Finding). TellsOf (completed after source) findings) (sym same) (by_least (least (word_faults after.symbols after.requests)) refl)
+laid_out : (language : Language) (source : List ℕ) → layout_faults 1 (start language) (lines source) ≡ [] → TellsOf (completed (layout_after 1 (start language) (lines source)) (record { language = language; text = source })) (told_lines (passed_lines 1 (unmarked language) (looked_at source)) 1 (unmarked language) (looked_at source))
+laid_out language source e =
+    subst (λ (findings : List Finding). TellsOf (completed after (record { language = language; text = source })) findings) (sym same) (by_least (least (word_faults after.symbols after.requests)) refl)
   where
     after : Layout
-    after = layout_after 1 start (lines source)
+    after = layout_after 1 (start language) (lines source)
 
     all : looked_at source ≡ lines source
-    all = all_looked_at (lines source) 1 65536 start refl e
+    all = all_looked_at (lines source) 1 65536 (start language) refl e
 
-    same : told_lines (passed_lines 1 unmarked (looked_at source)) 1 unmarked (looked_at source) ≡ told_lines (clean after) 1 (clean start) (lines source)
+    same : told_lines (passed_lines 1 (unmarked language) (looked_at source)) 1 (unmarked language) (looked_at source) ≡ told_lines (clean after) 1 (clean (start language)) (lines source)
     same =
-        ap (λ texts. told_lines (passed_lines 1 unmarked texts) 1 unmarked texts) all
-        ∙ ap (λ w. told_lines w 1 (clean start) (lines source)) (clean_after (lines source) 1 start e)
+        ap (λ texts. told_lines (passed_lines 1 (unmarked language) texts) 1 (unmarked language) texts) all
+        ∙ ap (λ w. told_lines w 1 (clean (start language)) (lines source)) (clean_after (lines source) 1 (start language) e)
 
-    words : word_faults after.symbols after.requests ≡ words_of after.symbols 1 start (lines source)
-    words = words_told after.symbols (lines source) 1 start
+    words : word_faults after.symbols after.requests ≡ words_of after.symbols 1 (start language) (lines source)
+    words = words_told after.symbols (lines source) 1 (start language)
 
     by_least : (found : Option Fault) → least (word_faults after.symbols after.requests) ≡ found
-        → TellsOf (unless_fault found (Ok (record { rope = Rattle.rope.specs.Places.with_words Rattle.rope.specs.Places.no_words (Rattle.yayul.specs.Program.image_of after); symbols = after.symbols; source = source })))
-        (told_lines (clean after) 1 (clean start) (lines source))
-    by_least None is = none_told (lines source) 1 start after e (sym words ∙ none_of_least (word_faults after.symbols after.requests) is)
+        → TellsOf (unless_fault found (Ok (record { rope = Rattle.rope.specs.Places.with_words Rattle.rope.specs.Places.no_words (Rattle.yayul.specs.Program.image_of after); symbols = after.symbols; source = record { language = language; text = source } })))
+        (told_lines (clean after) 1 (clean (start language)) (lines source))
+    by_least None is = none_told (lines source) 1 (start language) after e (sym words ∙ none_of_least (word_faults after.symbols after.requests) is)
     by_least (Some fault) is =
-        words_are_told (lines source) 1 start after fault e
+        words_are_told (lines source) 1 (start language) after fault e
         (subst (λ (faults : List Fault). StandsIn faults fault) words (stands_least (word_faults after.symbols after.requests) fault is))
 
-pub findings_agree : (source : List ℕ) → FindingsAgree source
+pub findings_agree : (language : Language) (source : List ℕ) → FindingsAgree language source
 unfolding program told
-findings_agree source = by_least (least (layout_faults 1 start (lines source))) refl
+findings_agree language source = by_least (least (layout_faults 1 (start language) (lines source))) refl
   where
-    by_least : (found : Option Fault) → least (layout_faults 1 start (lines source)) ≡ found
-        → TellsOf (unless_fault found (completed (layout_after 1 start (lines source)) source)) (told_lines (passed_lines 1 unmarked (looked_at source)) 1 unmarked (looked_at source))
-    by_least None is = laid_out source (none_of_least (layout_faults 1 start (lines source)) is)
-    by_least (Some fault) is = layout_told (lines source) 1 65536 start (passed_lines 1 unmarked (looked_at source)) fault refl is
+    by_least : (found : Option Fault) → least (layout_faults 1 (start language) (lines source)) ≡ found
+        → TellsOf (unless_fault found (completed (layout_after 1 (start language) (lines source)) (record { language = language; text = source }))) (told_lines (passed_lines 1 (unmarked language) (looked_at source)) 1 (unmarked language) (looked_at source))
+    by_least None is = laid_out language source (none_of_least (layout_faults 1 (start language) (lines source)) is)
+    by_least (Some fault) is = layout_told (lines source) 1 65536 (start language) (passed_lines 1 (unmarked language) (looked_at source)) fault refl is

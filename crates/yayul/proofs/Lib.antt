@@ -2,6 +2,7 @@ mod ByLength
 mod Codes
 mod Fields
 mod Rows
+mod FlightRows
 mod ListingRows
 mod Least
 mod LeastOfSet

@@ -3,12 +3,11 @@ use Rattle.std.proofs.Common.{◌≡◌, ◌≢◌, ℕ, ◌+◌, Bool, true, fa
 use Rattle.std.proofs.lemmas.List.{map-append}
 use Rattle.std.specs.List.{list_all}
 use Rattle.std.proofs.lemmas.Bool.{eq-eqb}
-use Rattle.yayul.specs.Forms.{statement_of}
-use Rattle.yayul.specs.Layout.{on_line, standing, fault_if, Layout, text_faults, statement_effect, line_faults, line_effect, layout_after, layout_faults}
+use Rattle.yayul.specs.Layout.{statement_on, on_line, standing, fault_if, Layout, text_faults, statement_effect, line_faults, line_effect, layout_after, layout_faults}
 use Rattle.yayul.specs.Program.{least}
 use Rattle.yayul.specs.Listing.{Shown, shown}
 use Rattle.yayul.specs.Inside.Representation.{shown_by_mark, lines_show}
-use Rattle.yayul.specs.Inside.Answers.{Tells, TellsOn, least_kind, LeadsOn, LineLeadsOn}
+use Rattle.yayul.specs.Inside.Answers.{layout_of, with_requests, Tells, TellsOn, least_kind, LeadsOn, LineLeadsOn}
 use Rattle.yayul.specs.declared.faults.FaultKind.TheVariants.{NoMemory, NotAscii, LongLine, TooManyLines}
 use Rattle.yayul.specs.declared.faults.Fault.{Fault}
 use Rattle.yayul.specs.declared.language.Statement.{Statement}
@@ -47,10 +46,14 @@ unfolding line_effect
 line_told line s text k e =
     least-before_late (text_faults line text) (line_effect line s text).faults k e
     (text_early (not (list_all is_text_byte text)) (nat_lt line_length (length text)) (line == 65537) k e)
-    (statement_late line s (statement_of text).label (statement_of text).operation)
+    (statement_late line s (statement_on s text).label (statement_on s text).operation)
+
+-- what a line says where a layout stands, it says where one stands that agrees with it
+pub said_on : (l : Held) (s : Layout) (text : List ℕ) (said : Statement) → said ≡ statement_on (layout_of l) text → layout_of l ≡ with_requests [] s → said ≡ statement_on s text
+said_on l s text said is same = is ∙ ap (λ t. statement_on t text) same
 
 -- a line without such a fault does what it says, and shows it
-pub line_taken : (line : ℕ) (s : Layout) (text : List ℕ) (said : Statement) (l : Held) (p : Placing) (mark : Mark) → least_kind (text_faults line text) ≡ None → said ≡ statement_of text
+pub line_taken : (line : ℕ) (s : Layout) (text : List ℕ) (said : Statement) (l : Held) (p : Placing) (mark : Mark) → least_kind (text_faults line text) ≡ None → said ≡ statement_on s text
     → shown_by_mark mark ≡ shown s.location said → LeadsOn line (statement_effect line s said.label said.operation) l p (Ok tt) → LineLeadsOn line s text l p (Ok mark)
 unfolding line_effect
 line_taken line s text said l p mark none e m leads =
@@ -58,7 +61,7 @@ line_taken line s text said l p mark none e m leads =
     (ap (λ ks. ks ++ (line_effect line s text).faults) (none_least (text_faults line text) none) ∙ q.0, (q.1, m ∙ ap (shown s.location) e))
 
 -- what such a line says is told, where it has a fault
-pub line_refused : (line : ℕ) (s : Layout) (text : List ℕ) (said : Statement) (l : Held) (p : Placing) (kind : FaultKind) → least_kind (text_faults line text) ≡ None → said ≡ statement_of text
+pub line_refused : (line : ℕ) (s : Layout) (text : List ℕ) (said : Statement) (l : Held) (p : Placing) (kind : FaultKind) → least_kind (text_faults line text) ≡ None → said ≡ statement_on s text
     → LeadsOn line (statement_effect line s said.label said.operation) l p (Err kind) → LineLeadsOn line s text l p (Err kind)
 unfolding line_effect
 line_refused line s text said l p kind none e leads =
@@ -90,7 +93,7 @@ layout_passed line s t text here after e next =
 
 -- what the lines show, where one is passed
 pub shown_passed : (line : ℕ) (s t : Layout) (text : List ℕ) (here after : List (List ℕ)) (mark : Mark) (all : List Shown) (marks more : List Mark) → here ≡ text ∷ after
-    → t ≡ (line_effect line s text).after → shown_by_mark mark ≡ shown s.location (statement_of text) → more ≡ marks ++ mark ∷ []
+    → t ≡ (line_effect line s text).after → shown_by_mark mark ≡ shown s.location (statement_on s text) → more ≡ marks ++ mark ∷ []
     → all ≡ map shown_by_mark marks ++ lines_show line s here → all ≡ map shown_by_mark more ++ lines_show (line + 1) t after
 shown_passed line s t text here after mark all marks more e next is pushed so_far =
     so_far ∙ ap (λ texts. map shown_by_mark marks ++ lines_show line s texts) e

@@ -7,6 +7,7 @@ use Rattle.agc_text.specs.Lines.{lines}
 use Rattle.rope.specs.Places.{Words, word_at}
 use Rattle.space.specs.Places.{window, fb_of}
 use Rattle.words.specs.Numerals.{octal_text}
+use Rattle.yayul.specs.Language.{Standard}
 use Rattle.yayul.specs.Operators.{operators}
 use Rattle.yayul.specs.Forms.{statement_of}
 use Rattle.yayul.specs.Layout.{start, line_effect}
@@ -38,7 +39,7 @@ pair bank offset second = record { place = None; words = (bank, offset) ∷ (ban
 
 -- what the lines of a source show
 abbrev shows : List (List ℕ) → List Shown
-shows texts = lines_show 1 start texts
+shows texts = lines_show 1 (start Standard) texts
 
 five_plus_five_shows : shows (codes " SETLOC 4000" ∷ codes " CA FIVE" ∷ codes " AD FIVE" ∷ codes " EXTEND" ∷ codes " WRITE 10" ∷ codes " TCF 4000" ∷ codes "FIVE OCT 5" ∷ []) ≡ nothing ∷ word 2 0 ∷ word 2 1 ∷ word 2 2 ∷ word 2 3 ∷ word 2 4 ∷ word 2 5 ∷ []
 unfolding runs operators statement_of line_effect
@@ -68,7 +69,7 @@ two_rows_of_two_words : (words : Words) → word_at words 2 4 ≡ 0o02000 → wo
 unfolding line_rows number_column word_columns place_text window octal_text digits
 two_rows_of_two_words words e f = rw (e, f) refl
 
-places_without_words : listed (program (source (codes "NUM EQUALS 20" ∷ codes " SETLOC 500" ∷ codes "X ERASE +1" ∷ codes "" ∷ codes "Y" ∷ codes "  " ∷ codes " SETLOC 1400" ∷ codes " ERASE" ∷ codes " EBANK= 1400" ∷ codes " BANK 3" ∷ codes "LAST# end" ∷ []))) ≡ source (
+places_without_words : listed (program Standard (source (codes "NUM EQUALS 20" ∷ codes " SETLOC 500" ∷ codes "X ERASE +1" ∷ codes "" ∷ codes "Y" ∷ codes "  " ∷ codes " SETLOC 1400" ∷ codes " ERASE" ∷ codes " EBANK= 1400" ∷ codes " BANK 3" ∷ codes "LAST# end" ∷ []))) ≡ source (
     codes "    1                NUM EQUALS 20"
     ∷ codes "    2                 SETLOC 500"
     ∷ codes "    3 E1,0500        X ERASE +1"
@@ -89,6 +90,6 @@ places_without_words : listed (program (source (codes "NUM EQUALS 20" ∷ codes 
 unfolding program runs operators statement_of line_effect request_words request_faults lines window fb_of listing line_rows number_column word_columns place_text symbol_row symbols_head octal_text digits
 places_without_words = refl
 
-no_lines : listed (program []) ≡ source (codes "SYMBOLS 0" ∷ [])
+no_lines : listed (program Standard []) ≡ source (codes "SYMBOLS 0" ∷ [])
 unfolding program runs operators statement_of line_effect request_words request_faults lines window fb_of listing line_rows number_column word_columns place_text symbol_row symbols_head octal_text digits
 no_lines = refl

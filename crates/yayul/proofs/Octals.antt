@@ -1,11 +1,11 @@
 -- The digits of octal texts.
-use Rattle.std.proofs.Common.{◌≡◌, ◌<◌, ◌≤◌, ◌+◌, ◌-◌, ◌*◌, ◌/◌, ◌%◌, ◌^◌, ℕ, zero, suc, List, [], ◌∷◌, ◌++◌, Bool, true, false, refl, arith, ◌∙◌, ap, sym, map}
+use Rattle.std.proofs.Common.{◌≡◌, ◌<◌, ◌+◌, ◌*◌, ◌/◌, ◌%◌, ◌^◌, ℕ, zero, suc, [], ◌∷◌, Bool, true, refl, arith, ◌∙◌, ap, map}
 use Rattle.std.specs.List.{list_all}
 use Rattle.std.specs.Int.Digits.{number_from_digits}
 use Rattle.std.proofs.lemmas.Int.Digits.{number_push}
 use Rattle.std.proofs.lemmas.List.{map-append}
 use Rattle.std.proofs.lemmas.List.Folds.{list_all-append}
-use Rattle.std.proofs.Math.Nat.{mod-lt, pow-suc}
+use Rattle.std.proofs.Math.Nat.{pow-suc}
 use Rattle.words.specs.Numerals.{octal_text}
 use Rattle.agc_text.specs.Digits.{digit_value}
 

@@ -8,10 +8,9 @@ use Rattle.std.specs.Option.{option_map_or}
 use Rattle.std.specs.Result.{result_err, result_unwrap_or}
 use Rattle.agc_text.specs.Lines.{lines}
 use Rattle.agc_text.specs.Tables.{same_name, value_in}
-use Rattle.yayul.specs.Forms.{statement_of}
-use Rattle.yayul.specs.Layout.{Layout, and_then, value_here, early_value, defined, asked, asked_here, fault_if, standing, start, width, lacks_room, is_taken, is_malformed, is_missing, is_twice, is_erasable, word_place, erased_to, statement_effect, text_faults, line_effect, line_faults, layout_after, layout_faults}
+use Rattle.yayul.specs.Layout.{statement_on, Layout, and_then, value_here, early_value, defined, asked, asked_here, fault_if, standing, start, width, lacks_room, is_taken, is_malformed, is_missing, is_twice, is_erasable, word_place, erased_to, statement_effect, text_faults, line_effect, line_faults, layout_after, layout_faults}
 use Rattle.yayul.specs.Program.{Program, least, completed, program, unless_fault}
-use Rattle.yayul.specs.Language.{BadLabel, BankFull, Bank, CodeInErasable, Content, Ebank, Equals, Erase, Fault, FaultKind, Gives, Label, Malformed, Missing, Named, Nothing, Operation, PlaceTaken, Setloc, TwiceDefined, Unknown, Value}
+use Rattle.yayul.specs.Language.{BadLabel, BankFull, Bank, CodeInErasable, Content, Ebank, Equals, Erase, Fault, FaultKind, Gives, Label, Language, Malformed, Missing, Named, Nothing, Operation, PlaceTaken, Setloc, TwiceDefined, Unknown, Value}
 use Rattle.yayul.specs.Laws.{NamesStandOnce, StandOnce}
 use Rattle.yayul.proofs.Asked.{none_stands, no_others, head_faults}
 
@@ -79,7 +78,7 @@ statement_once line s label (Gives (Some content)) once e =
 line_once : (line : ℕ) (s : Layout) (text : List ℕ) → StandOnce s.symbols → line_faults line s text ≡ [] → StandOnce (line_effect line s text).after.symbols
 unfolding line_effect
 line_once line s text once e =
-    statement_once line s (statement_of text).label (statement_of text).operation once (no_others (text_faults line text) (line_effect line s text).faults e)
+    statement_once line s (statement_on s text).label (statement_on s text).operation once (no_others (text_faults line text) (line_effect line s text).faults e)
 
 -- faultless lines leave each name defined once
 once_after : (texts : List (List ℕ)) (line : ℕ) (s : Layout) → StandOnce s.symbols → layout_faults line s texts ≡ [] → StandOnce (layout_after line s texts).symbols
@@ -97,8 +96,8 @@ none_of_least : (faults : List Fault) → least faults ≡ None → faults ≡ [
 none_of_least [] e = refl
 none_of_least (f ∷ fs) e = absurd (cc)
 
-pub names_stand_once : (source : List ℕ) → NamesStandOnce source
+pub names_stand_once : (language : Language) (source : List ℕ) → NamesStandOnce language source
 unfolding program
-names_stand_once source =
-    unless_once (least (layout_faults 1 start (lines source))) (completed (layout_after 1 start (lines source)) source) (λ none.
-    unless_once (least _) (Ok _) (λ _. once_after (lines source) 1 start (λ i j d lt within. omega (arith, within)) (none_of_least (layout_faults 1 start (lines source)) none)))
+names_stand_once language source =
+    unless_once (least (layout_faults 1 (start language) (lines source))) (completed (layout_after 1 (start language) (lines source)) (record { language = language; text = source })) (λ none.
+    unless_once (least _) (Ok _) (λ _. once_after (lines source) 1 (start language) (λ i j d lt within. omega (arith, within)) (none_of_least (layout_faults 1 (start language) (lines source)) none)))

@@ -10,7 +10,7 @@ use Rattle.yayul.specs.Forms.{statement_of}
 use Rattle.yayul.specs.Layout.{fault_number, start, line_effect, layout_after}
 use Rattle.yayul.specs.Words.{request_words, request_faults}
 use Rattle.yayul.specs.Program.{image_of, program}
-use Rattle.yayul.specs.Language.{FaultKind, BadLabel, TwiceDefined, UnknownOperator, BadOperand, Undefined, UsedTooEarly, BadBank, BankFull, PlaceTaken, CodeInErasable, NeedsExtend, NotExtracode, WrongKindOfAddress, OutOfRange}
+use Rattle.yayul.specs.Language.{Standard, FaultKind, BadLabel, TwiceDefined, UnknownOperator, BadOperand, Undefined, UsedTooEarly, BadBank, BankFull, PlaceTaken, CodeInErasable, NeedsExtend, NotExtracode, WrongKindOfAddress, OutOfRange}
 
 -- a source of lines, each but the last followed by a semicolon here
 abbrev source : List ℕ → List ℕ
@@ -18,7 +18,7 @@ source text = map (λ byte. if byte == 0o73 then 0o12 else byte) text
 
 -- the words that the lines of a source ask for, each with its place
 abbrev placed : List ℕ → List Placed
-placed text = image_of (layout_after 1 start (lines text))
+placed text = image_of (layout_after 1 (start Standard) (lines text))
 
 -- sources with their words, in the order of their lines
 abbrev good : List (List ℕ × List ℕ)
@@ -56,7 +56,7 @@ good =
     ∷ (codes " XXALQ; XLQ; ZL; COM; DTCF; OVSK; TCAA; DOUBLE; EXTEND; ZQ; EXTEND; DCOM", 0o00000 ∷ 0o00001 ∷ 0o22007 ∷ 0o40000 ∷ 0o52005 ∷ 0o54000 ∷ 0o54005 ∷ 0o60000 ∷ 0o00006 ∷ 0o22007 ∷ 0o00006 ∷ 0o40001 ∷ [])
     ∷ []
 
-each_good : map {B = Bool × List ℕ} (λ row. (is_ok (program (source row.0)), map (λ p. p.word) (placed (source row.0)))) good ≡ map {B = Bool × List ℕ} (λ row. (true, row.1)) good
+each_good : map {B = Bool × List ℕ} (λ row. (is_ok (program Standard (source row.0)), map (λ p. p.word) (placed (source row.0)))) good ≡ map {B = Bool × List ℕ} (λ row. (true, row.1)) good
 unfolding program runs operators statement_of line_effect request_words request_faults lines window fb_of sup_of
 each_good = refl
 
@@ -70,7 +70,7 @@ spread =
     ∷ (codes " SETLOC 5776; 2CADR 4000", (2, 1022) ∷ (2, 1023) ∷ [])
     ∷ []
 
-each_spread : map {B = Bool × List (ℕ × ℕ)} (λ row. (is_ok (program (source row.0)), map (λ p. (p.bank, p.offset)) (placed (source row.0)))) spread ≡ map {B = Bool × List (ℕ × ℕ)} (λ row. (true, row.1)) spread
+each_spread : map {B = Bool × List (ℕ × ℕ)} (λ row. (is_ok (program Standard (source row.0)), map (λ p. (p.bank, p.offset)) (placed (source row.0)))) spread ≡ map {B = Bool × List (ℕ × ℕ)} (λ row. (true, row.1)) spread
 unfolding program runs operators statement_of line_effect request_words request_faults lines window fb_of sup_of
 each_spread = refl
 
@@ -181,6 +181,6 @@ faulty =
     ∷ (codes " TS X; MP X;X OCT 1", 1, WrongKindOfAddress)
     ∷ []
 
-each_faulty : map (λ row. program (source row.0)) faulty ≡ map (λ row. Err (record { line = row.1; number = fault_number row.2 })) faulty
+each_faulty : map (λ row. program Standard (source row.0)) faulty ≡ map (λ row. Err (record { line = row.1; number = fault_number row.2 })) faulty
 unfolding program runs operators statement_of line_effect request_words request_faults lines window fb_of sup_of
 each_faulty = refl

@@ -1,7 +1,7 @@
 -- What the lines of such a source say.
-use Rattle.std.proofs.Common.{◌≡◌, ◌<◌, ◌≤◌, ◌+◌, ◌-◌, ◌*◌, ◌/◌, ◌%◌, ◌^◌, ◌==◌, ◌&&◌, ◌||◌, not, eqb, nat_le, ℕ, zero, suc, List, [], ◌∷◌, ◌++◌, length, take, drop, map, get_or, Option, Some, None, Bool, true, false, cond, refl, arith, ◌∙◌, ap, sym, inl, inr}
+use Rattle.std.proofs.Common.{◌≡◌, ◌<◌, ◌≤◌, ◌+◌, ◌/◌, ◌%◌, ◌^◌, not, eqb, nat_le, ℕ, List, [], ◌∷◌, ◌++◌, length, take, drop, get_or, Some, None, Bool, true, false, refl, arith, ◌∙◌, ap, sym, inl, inr}
 use Rattle.std.specs.Prelude.{codes}
-use Rattle.std.specs.List.{list_all, position_or_len, before_first}
+use Rattle.std.specs.List.{list_all, position_or_len}
 use Rattle.std.proofs.lemmas.Bool.{cases_Bool}
 use Rattle.std.proofs.lemmas.Bool.Decides.{nat_tests}
 use Rattle.std.proofs.Math.Seq.{take-append_seam, drop-append_seam, take-length}
@@ -10,13 +10,13 @@ use Rattle.std.proofs.lemmas.List.Folds.{list_all-append}
 use Rattle.std.specs.Option.{option_map}
 use Rattle.words.specs.Numerals.{octal_text}
 use Rattle.words.proofs.Digits.{length-octal_text}
-use Rattle.agc_text.specs.Digits.{digit_value, digits_value, is_digit}
-use Rattle.agc_text.specs.Fields.{Piece, is_blank, before_comment, fields, runs, texts, label_of, others_of}
+use Rattle.agc_text.specs.Digits.{digits_value, is_digit}
+use Rattle.agc_text.specs.Fields.{Piece, is_blank, before_comment, runs, texts, label_of, others_of}
 use Rattle.agc_text.specs.Tables.{value_in}
 use Rattle.agc_text.proofs.Splits.{texts-skip, texts-take}
 use Rattle.yayul.specs.Operators.{operators}
-use Rattle.yayul.specs.Forms.{statement_of, label_in, operation_in, operation_of, octal_in, number_in, numeral, number_value, at_most, greatest_number, is_marked_decimal}
-use Rattle.yayul.specs.Language.{All, Bank, Constant, Gives, Is, Missing, Operator, Operation, Statement}
+use Rattle.yayul.specs.Forms.{statement_of, label_in, operation_in, operation_of, octal_in, number_in, greatest_number, is_marked_decimal}
+use Rattle.yayul.specs.Language.{All, Bank, Constant, Gives, Is, Missing, Statement}
 use Rattle.yayul.proofs.Octals.{octal_all, octal_number}
 
 -- where the first byte that passes a test stands, after bytes that do not

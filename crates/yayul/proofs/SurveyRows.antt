@@ -4,6 +4,7 @@ use Rattle.std.specs.Prelude.{codes, ◌==◌, if◌then◌else◌}
 use Rattle.agc_text.specs.Fields.{runs}
 use Rattle.agc_text.specs.Lines.{lines}
 use Rattle.space.specs.Places.{window, fb_of, sup_of}
+use Rattle.yayul.specs.Language.{Standard}
 use Rattle.yayul.specs.Operators.{operators}
 use Rattle.yayul.specs.Forms.{statement_of}
 use Rattle.yayul.specs.Layout.{line_effect}
@@ -37,6 +38,6 @@ told_rows =
     ∷ (codes " SETLOC 3777; ERASE;X ERASE", (3, 3, 5, 20) ∷ [])
     ∷ []
 
-each_told : map {B = List (ℕ × ℕ × ℕ × ℕ)} (λ r. map row (told (source r.0))) told_rows ≡ map {B = List (ℕ × ℕ × ℕ × ℕ)} (λ r. r.1) told_rows
+each_told : map {B = List (ℕ × ℕ × ℕ × ℕ)} (λ r. map row (told Standard (source r.0))) told_rows ≡ map {B = List (ℕ × ℕ × ℕ × ℕ)} (λ r. r.1) told_rows
 unfolding told span_at runs operators statement_of line_effect request_words request_faults lines window fb_of sup_of
 each_told = refl

@@ -3,8 +3,7 @@ use Rattle.std.proofs.Common.{◌≡◌, ℕ, zero, suc, arith, take, append_ass
 use Rattle.std.specs.Prelude.{OnOk}
 use Rattle.yayul.specs.declared.finding.Finding.{Finding}
 use Rattle.std.specs.List.{list_any}
-use Rattle.yayul.specs.Forms.{statement_of}
-use Rattle.yayul.specs.Layout.{Layout, standing, statement_effect, line_effect, text_faults}
+use Rattle.yayul.specs.Layout.{statement_on, Layout, standing, statement_effect, line_effect, text_faults}
 use Rattle.yayul.specs.Language.{Bank, Ebank, Equals, Erase, FaultKind, Gives, Nothing, Operation, Setloc, Statement, Unknown, Value}
 use Rattle.yayul.specs.Survey.{Survey, noted, displaces, some_stands, layout_kinds, is_refused, known_after, passed_line, passed_lines, told_lines, word_kinds, doubt, line_kinds, told_of, told_line}
 use Rattle.yayul.specs.declared.doubt.Doubt.{Doubt}
@@ -37,7 +36,7 @@ bare_words table s (Gives (Some content)) = refl
 
 -- what is told of a line
 pub line_told : (line last : ℕ) (s w : Survey) (l v : Held) (text : List ℕ) (said : Statement) (faults : LineFaults) (d : Doubt)
-    → said ≡ statement_of text → Surveys line s l → Surveys last w v → d ≡ doubt v.lost l.lost l.known text said.operation
+    → said ≡ statement_on s.layout text → Surveys line s l → Surveys last w v → d ≡ doubt v.lost l.lost l.known text said.operation
     → standing faults.of_text ≡ text_faults line text
     → standing faults.of_layout ≡ (statement_effect line s.layout said.label said.operation).faults
     → standing faults.of_words ≡ word_kinds v.layout.symbols (layout_of l.layout) said.operation
@@ -46,22 +45,22 @@ unfolding line_effect
 line_told line last s w l v text said faults d e here whole is of_text of_layout of_words =
     let layout : standing faults.of_layout ≡ layout_kinds line s.layout text =
     of_layout ∙ ap (λ (x : Statement). (statement_effect line s.layout x.label x.operation).faults) e in
-    let words : standing faults.of_words ≡ word_kinds w.layout.symbols s.layout (statement_of text).operation =
+    let words : standing faults.of_words ≡ word_kinds w.layout.symbols s.layout (statement_on s.layout text).operation =
     of_words ∙ ap (λ (t : Layout). word_kinds t.symbols (layout_of l.layout) said.operation) whole.agrees.same
     ∙ ap (λ t. word_kinds w.layout.symbols t said.operation) here.agrees.same
     ∙ bare_words w.layout.symbols s.layout said.operation
     ∙ ap (λ (x : Statement). word_kinds w.layout.symbols s.layout x.operation) e in
     let kinds : kinds_of faults ≡ line_kinds w line s text = λ i. of_text i ++ layout i ++ words i in
-    let doubted : d ≡ doubt w.lost s.lost s.known text (statement_of text).operation =
+    let doubted : d ≡ doubt w.lost s.lost s.known text (statement_on s.layout text).operation =
     is ∙ ap (λ lost. doubt lost l.lost l.known text said.operation) whole.lost
     ∙ ap (λ lost. doubt w.lost lost l.known text said.operation) here.lost
     ∙ ap (λ known. doubt w.lost s.lost known text said.operation) here.known
     ∙ ap (λ (x : Statement). doubt w.lost s.lost s.known text x.operation) e in
     ap (λ x. told_of x line text (kinds_of faults)) doubted
-    ∙ ap (told_of (doubt w.lost s.lost s.known text (statement_of text).operation) line text) kinds
+    ∙ ap (told_of (doubt w.lost s.lost s.known text (statement_on s.layout text).operation) line text) kinds
 
 module _ (line : ℕ) (s : Survey) (old new : Held) (text : List ℕ) (said : Statement) (of_text of_layout : List FaultKind)
-    (e : said ≡ statement_of text) (here : Surveys line s old) (text_is : of_text ≡ text_faults line text)
+    (e : said ≡ statement_on s.layout text) (here : Surveys line s old) (text_is : of_text ≡ text_faults line text)
     (layout_is : of_layout ≡ (statement_effect line s.layout said.label said.operation).faults)
     (known : new.known ≡ known_after old.known text said.operation (some_stands of_text || some_stands of_layout) (list_any displaces of_layout)) where
   same_layout : of_layout ≡ layout_kinds line s.layout text
@@ -75,8 +74,8 @@ module _ (line : ℕ) (s : Survey) (old new : Held) (text : List ℕ) (said : St
   known_next =
       known ∙ ap (λ k. known_after k text said.operation (some_stands of_text || some_stands of_layout) (list_any displaces of_layout)) here.known
       ∙ ap (λ (x : Statement). known_after s.known text x.operation (some_stands of_text || some_stands of_layout) (list_any displaces of_layout)) e
-      ∙ ap (λ r. known_after s.known text (statement_of text).operation r (list_any displaces of_layout)) same_refused
-      ∙ ap (λ ks. known_after s.known text (statement_of text).operation (is_refused line s.layout text) (list_any displaces ks)) same_layout
+      ∙ ap (λ r. known_after s.known text (statement_on s.layout text).operation r (list_any displaces of_layout)) same_refused
+      ∙ ap (λ ks. known_after s.known text (statement_on s.layout text).operation (is_refused line s.layout text) (list_any displaces ks)) same_layout
 
   -- a refused line does nothing, but that its label is lost
   pub passed_refused : (some_stands of_text || some_stands of_layout) ≡ true → new.layout ≡ old.layout → new.placing ≡ old.placing → new.lost ≡ noted old.lost said.label
@@ -87,7 +86,7 @@ module _ (line : ℕ) (s : Survey) (old new : Held) (text : List ℕ) (said : St
         agrees = subst (λ r. Agrees (line + 1) (cond r s.layout (line_effect line s.layout text).after) new.layout new.placing) (sym is)
             (rw (layout, placing) (record { same = here.agrees.same; keeps = next_keeps line s.layout old.placing here.agrees.keeps }));
         lost = lost ∙ ap (λ names. noted names said.label) here.lost ∙ ap (λ (x : Statement). noted s.lost x.label) e
-            ∙ ap (λ r. cond r (noted s.lost (statement_of text).label) s.lost) (sym is);
+            ∙ ap (λ r. cond r (noted s.lost (statement_on s.layout text).label) s.lost) (sym is);
         known = known_next;
       }
 
@@ -100,7 +99,7 @@ module _ (line : ℕ) (s : Survey) (old new : Held) (text : List ℕ) (said : St
       record {
         agrees = subst (λ r. Agrees (line + 1) (cond r s.layout (line_effect line s.layout text).after) new.layout new.placing) (sym is)
             (subst (λ (x : Statement). Agrees (line + 1) (statement_effect line s.layout x.label x.operation).after new.layout new.placing) e agrees);
-        lost = lost ∙ here.lost ∙ ap (λ r. cond r (noted s.lost (statement_of text).label) s.lost) (sym is);
+        lost = lost ∙ here.lost ∙ ap (λ r. cond r (noted s.lost (statement_on s.layout text).label) s.lost) (sym is);
         known = known_next;
       }
 

@@ -3,11 +3,10 @@ use Rattle.std.proofs.Common.{◌≡◌, ℕ, ◌+◌, ◌≤◌, ◌==◌, Bool
 use Rattle.std.specs.List.{list_any, filter}
 use Rattle.std.proofs.lemmas.Bool.{and_left, and_right, ne_eqb}
 use Rattle.std.proofs.lemmas.List.Folds.{list_any-append}
-use Rattle.yayul.specs.Forms.{statement_of}
-use Rattle.yayul.specs.Layout.{fault_number}
+use Rattle.yayul.specs.Layout.{statement_on, fault_number}
 use Rattle.yayul.specs.Laws.{same_fault, StandEachOnce, FindingsStandOnce}
 use Rattle.yayul.specs.Survey.{Survey, unmarked, doubt, follows, kinds_in_order, is_one_of, finding, line_kinds, passed_line, passed_lines, told_line, told_lines, looked_at, told}
-use Rattle.yayul.specs.Language.{FaultKind}
+use Rattle.yayul.specs.Language.{Language, FaultKind}
 use Rattle.yayul.specs.declared.finding.Finding.{Finding}
 use Rattle.yayul.proofs.Taken.{or-parts}
 
@@ -91,11 +90,11 @@ lines_once : (texts : List (List ℕ)) (whole : Survey) (line : ℕ) (s : Survey
 lines_once [] whole line s = tt
 lines_once (text ∷ texts) whole line s =
     let test : FaultKind → Bool =
-    λ kind. is_one_of (line_kinds whole line s text) kind && not (follows (doubt whole.lost s.lost s.known text (statement_of text).operation) kind) in
+    λ kind. is_one_of (line_kinds whole line s text) kind && not (follows (doubt whole.lost s.lost s.known text (statement_on s.layout text).operation) kind) in
     joined_once line (told_line whole line s text) (told_lines whole (line + 1) (passed_line line s text) texts)
     (on_line line text (filter test kinds_in_order)) (lines_from texts whole (line + 1) (passed_line line s text))
     (kinds_once test line text kinds_in_order kinds_differ) (lines_once texts whole (line + 1) (passed_line line s text))
 
-pub findings_stand_once : (source : List ℕ) → FindingsStandOnce source
+pub findings_stand_once : (language : Language) (source : List ℕ) → FindingsStandOnce language source
 unfolding told
-findings_stand_once source = lines_once (looked_at source) (passed_lines 1 unmarked (looked_at source)) 1 unmarked
+findings_stand_once language source = lines_once (looked_at source) (passed_lines 1 (unmarked language) (looked_at source)) 1 (unmarked language)

@@ -8,8 +8,12 @@ pub use Rattle.yayul.specs.declared.language.Content.{Content}
 pub use Rattle.yayul.specs.declared.language.Content.TheVariants.{Constant, Plain, Addressed, FarAddress}
 pub use Rattle.yayul.specs.declared.language.Extracode.{Extracode}
 pub use Rattle.yayul.specs.declared.language.Extracode.TheVariants.{No, Yes, Either}
+pub use Rattle.yayul.specs.declared.language.FlightOperator.{FlightOperator}
+pub use Rattle.yayul.specs.declared.language.FlightOperator.TheVariants.{PassedOver}
 pub use Rattle.yayul.specs.declared.language.Label.{Label}
 pub use Rattle.yayul.specs.declared.language.Label.TheVariants.{Missing, Malformed, Named}
+pub use Rattle.yayul.specs.declared.language.Language.{Language}
+pub use Rattle.yayul.specs.declared.language.Language.TheVariants.{Standard, Flight}
 pub use Rattle.yayul.specs.declared.language.Location.{Location}
 pub use Rattle.yayul.specs.declared.language.Numeral.{Numeral}
 pub use Rattle.yayul.specs.declared.language.Numeral.TheVariants.{NoForm, TooLarge, Is}

@@ -9,7 +9,7 @@ use Rattle.yayul.specs.Operators.{operators}
 use Rattle.yayul.specs.Program.{Program, program}
 use Rattle.yayul.specs.Survey.{told}
 use Rattle.yayul.specs.Words.{addressed_word}
-use Rattle.yayul.specs.Language.{AddressedCode, Channel, Content, Either, Extracode, Fault, No, Num, Operand, Operator, Takes, Value, Yes}
+use Rattle.yayul.specs.Language.{AddressedCode, Channel, Content, Either, Extracode, Fault, Language, No, Num, Operand, Operator, Takes, Value, Yes}
 use Rattle.yayul.specs.declared.finding.Finding.{Finding}
 
 -- ## The words of instructions
@@ -77,8 +77,8 @@ ShareNoPlace requests =
     → (bank offset : ℕ) → stands_at bank offset q ≡ true → stands_at bank offset r ≡ false
 
 -- no two words of a source without a layout fault share a place
-abbrev pub WordsShareNoPlace : List ℕ → Type 0
-WordsShareNoPlace source = layout_faults 1 start (lines source) ≡ [] → ShareNoPlace (layout_after 1 start (lines source)).requests
+abbrev pub WordsShareNoPlace : Language → List ℕ → Type 0
+WordsShareNoPlace language source = layout_faults 1 (start language) (lines source) ≡ [] → ShareNoPlace (layout_after 1 (start language) (lines source)).requests
 
 -- ## Names
 -- no two symbols have one name
@@ -86,8 +86,8 @@ abbrev pub StandOnce : List (List ℕ × Value) → Type 0
 StandOnce symbols = AllPairs (λ a b. a.0 ≢ b.0) symbols
 
 -- no name is defined twice in a source that assembles
-abbrev pub NamesStandOnce : List ℕ → Type 0
-NamesStandOnce source = IfOk (program source) (λ p. StandOnce p.symbols)
+abbrev pub NamesStandOnce : Language → List ℕ → Type 0
+NamesStandOnce language source = IfOk (program language source) (λ p. StandOnce p.symbols)
 
 -- ## What is told
 -- a finding tells a fault: it has its line and its number
@@ -100,8 +100,8 @@ TellsOf (Ok p) findings = findings ≡ []
 TellsOf (Err fault) findings = list_any (is_of fault) findings ≡ true
 
 -- what is told of a source agrees with what it assembles to
-abbrev pub FindingsAgree : List ℕ → Type 0
-FindingsAgree source = TellsOf (program source) (told source)
+abbrev pub FindingsAgree : Language → List ℕ → Type 0
+FindingsAgree language source = TellsOf (program language source) (told language source)
 
 -- a finding tells what another does
 abbrev pub same_fault : Finding → Finding → Bool
@@ -113,5 +113,5 @@ StandEachOnce [] = Unit {0}
 StandEachOnce (f ∷ fs) = (list_any (same_fault f) fs ≡ false) × StandEachOnce fs
 
 -- each fault of a source is told once
-abbrev pub FindingsStandOnce : List ℕ → Type 0
-FindingsStandOnce source = StandEachOnce (told source)
+abbrev pub FindingsStandOnce : Language → List ℕ → Type 0
+FindingsStandOnce language source = StandEachOnce (told language source)

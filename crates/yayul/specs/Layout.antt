@@ -9,8 +9,9 @@ use Rattle.space.specs.declared.place.Linear.{Linear}
 use Rattle.space.specs.declared.place.Linear.TheVariants as linear
 use Rattle.symbols.specs.Values.{place_of}
 use Rattle.yayul.specs.Operators.{is_bank, stays_extended}
-use Rattle.yayul.specs.Forms.{greatest_number, statement_of}
-use Rattle.yayul.specs.Language.{Addressed, BadBank, BadLabel, BadOperand, Bank, BankFull, BankRange, CodeInErasable, Constant, Content, Ebank, Equals, Erasable, Erase, FarAddress, Fault, FaultKind, Fixed, Gives, Is, Label, Location, LongLine, Malformed, Minus, Missing, Named, NeedsExtend, NoForm, NoMemory, NotAscii, NotExtracode, Nothing, Num, Numeral, Operand, Operation, OutOfRange, PlaceTaken, Plain, Plus, Setloc, Shift, Term, TooLarge, TooManyLines, TwiceDefined, Undefined, Unknown, UnknownOperator, UsedTooEarly, Value, WrongKindOfAddress}
+use Rattle.yayul.specs.Forms.{greatest_number}
+use Rattle.yayul.specs.Flight.{statement_in}
+use Rattle.yayul.specs.Language.{Addressed, BadBank, BadLabel, BadOperand, Bank, BankFull, BankRange, CodeInErasable, Constant, Content, Ebank, Equals, Erasable, Erase, FarAddress, Fault, FaultKind, Fixed, Gives, Is, Label, Language, Location, LongLine, Malformed, Minus, Missing, Named, NeedsExtend, NoForm, NoMemory, NotAscii, NotExtracode, Nothing, Num, Numeral, Operand, Operation, OutOfRange, PlaceTaken, Plain, Plus, Setloc, Shift, Statement, Term, TooLarge, TooManyLines, TwiceDefined, Undefined, Unknown, UnknownOperator, UsedTooEarly, Value, WrongKindOfAddress}
 
 -- ## Faults
 -- the number that a kind of fault is told by
@@ -128,8 +129,9 @@ pub record Request : Type 0 where
   pub extracode : Bool
   pub eb : ℕ
 
--- what stands before a line: the location, and what earlier lines gave
+-- what stands before a line: the language of the source, the location, and what earlier lines gave
 pub record Layout : Type 0 where
+  pub language : Language
   pub location : Location
   pub symbols : List (List ℕ × Value)
   pub requests : List Request
@@ -137,8 +139,8 @@ pub record Layout : Type 0 where
   pub eb : ℕ
 
 -- before the first line: bank 2, offset 0, erasable bank 0
-abbrev pub start : Layout
-start = record { location = Location.Fixed 2 0; symbols = []; requests = []; extracode = false; eb = 0 }
+abbrev pub start : Language → Layout
+start language = record { language = language; location = Location.Fixed 2 0; symbols = []; requests = []; extracode = false; eb = 0 }
 
 -- how many words a content gives
 abbrev pub width : Content → ℕ
@@ -288,9 +290,13 @@ statement_effect line s label (Ebank operand) = ebank s label operand
 statement_effect line s label (Gives None) = refused s label BadOperand
 statement_effect line s label (Gives (Some content)) = gives line s label content
 
+-- what a line says where it stands
+abbrev pub statement_on : Layout → List ℕ → Statement
+statement_on s text = statement_in s.language s.location text
+
 -- what a line does
 unfoldable pub line_effect : ℕ → Layout → List ℕ → LineEffect
-line_effect line s text = statement_effect line s (statement_of text).label (statement_of text).operation
+line_effect line s text = statement_effect line s (statement_on s text).label (statement_on s text).operation
 
 -- the faults of a line's bytes, its length and its number, which is at most 65,536
 abbrev pub text_faults : ℕ → List ℕ → List FaultKind

@@ -8,8 +8,7 @@ use Rattle.space.specs.declared.place.Linear.{Linear}
 use Rattle.space.specs.declared.place.Linear.TheVariants as linear
 use Rattle.symbols.specs.Values.{value_text}
 use Rattle.words.specs.Numerals.{octal_text}
-use Rattle.yayul.specs.Forms.{statement_of}
-use Rattle.yayul.specs.Layout.{Layout, start, width, is_missing, line_effect}
+use Rattle.yayul.specs.Layout.{Layout, start, width, is_missing, statement_on, line_effect}
 use Rattle.yayul.specs.Program.{Program}
 use Rattle.yayul.specs.Language.{Erase, Gives, Label, Location, Nothing, Operation, Statement, Value}
 
@@ -99,7 +98,7 @@ line_rows margin number words text shown =
 abbrev pub rows : Margin → ℕ → Layout → Words → List (List ℕ) → List ℕ
 rows margin line s words [] = []
 rows margin line s words (text ∷ texts) =
-    line_rows margin line words text (shown s.location (statement_of text)) ++ rows margin (line + 1) (line_effect line s text).after words texts
+    line_rows margin line words text (shown s.location (statement_on s text)) ++ rows margin (line + 1) (line_effect line s text).after words texts
 
 -- the row of a symbol, its name left in 8 places
 unfoldable pub symbol_row : List ℕ × Value → List ℕ
@@ -111,4 +110,4 @@ symbols_head symbols = codes "SYMBOLS " ++ decimal (length symbols) ++ codes "\n
 
 -- the listing of a program: its lines, and its symbols in order of definition
 unfoldable pub listing : Program → List ℕ
-listing p = rows no_margin 1 start p.rope (lines p.source) ++ (symbols_head p.symbols ++ flat_map symbol_row p.symbols)
+listing p = rows no_margin 1 (start p.source.language) p.rope (lines p.source.text) ++ (symbols_head p.symbols ++ flat_map symbol_row p.symbols)

@@ -5,7 +5,7 @@ use Rattle.agc_text.specs.Lines.{lines}
 use Rattle.rope.specs.Places.{Words, Placed, no_words, with_words}
 use Rattle.yayul.specs.Layout.{Request, Layout, start, layout_after, layout_faults}
 use Rattle.yayul.specs.Words.{request_words, word_faults}
-use Rattle.yayul.specs.Language.{Fault, Value}
+use Rattle.yayul.specs.Language.{Fault, Language, Value}
 
 -- a fault stands on a lesser line than another, or on the same line with a lesser number
 abbrev pub is_before : Fault → Fault → Bool
@@ -21,11 +21,16 @@ abbrev pub unless_fault : {A : Type 0} → Option Fault → Result A Fault → R
 unless_fault None following = following
 unless_fault (Some fault) following = Err fault
 
--- an assembled source: its words in their places, its symbols in order of definition, and its text
+-- a source: its language and its text
+pub record Source : Type 0 where
+  pub language : Language
+  pub text : List ℕ
+
+-- an assembled source: its words in their places, its symbols in order of definition, and the source
 pub record Program : Type 0 where
   pub rope : Words
   pub symbols : List (List ℕ × Value)
-  pub source : List ℕ
+  pub source : Source
 
 -- some words of a bank, the first at an offset
 abbrev pub placed_from : ℕ → ℕ → List ℕ → List Placed
@@ -41,14 +46,15 @@ abbrev pub image_of : Layout → List Placed
 image_of s = flat_map (placed s.symbols) s.requests
 
 -- what the layout of a source comes to: its least word fault, else its program
-abbrev pub completed : Layout → List ℕ → Result Program Fault
+abbrev pub completed : Layout → Source → Result Program Fault
 completed s source =
     unless_fault (least (word_faults s.symbols s.requests)) (Ok (record { rope = with_words no_words (image_of s); symbols = s.symbols; source = source }))
 
 -- the least layout fault of a source, else what its layout comes to
-unfoldable pub program : List ℕ → Result Program Fault
-program source =
-    unless_fault (least (layout_faults 1 start (lines source))) (completed (layout_after 1 start (lines source)) source)
+unfoldable pub program : Language → List ℕ → Result Program Fault
+program language text =
+    unless_fault (least (layout_faults 1 (start language) (lines text)))
+    (completed (layout_after 1 (start language) (lines text)) (record { language = language; text = text }))
 
 -- want of memory, which stands on no line
 abbrev pub no_memory : Fault

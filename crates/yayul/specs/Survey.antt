@@ -6,11 +6,10 @@ use Rattle.agc_text.specs.Bytes.{line_length, is_text_byte}
 use Rattle.agc_text.specs.Fields.{Piece, fields, label_of, others_of}
 use Rattle.agc_text.specs.Lines.{lines}
 use Rattle.agc_text.specs.Tables.{value_in}
-use Rattle.yayul.specs.Forms.{statement_of}
-use Rattle.yayul.specs.Layout.{Layout, start, word_place, standing, text_faults, fault_number, line_effect, extends}
+use Rattle.yayul.specs.Layout.{Layout, start, word_place, standing, text_faults, fault_number, statement_on, line_effect, extends}
 use Rattle.yayul.specs.Words.{content_words, extracode_of, extracode_fault}
 use Rattle.std.specs.Result.{result_err}
-use Rattle.yayul.specs.Language.{Addressed, BadBank, BadLabel, BadOperand, Bank, BankFull, CodeInErasable, Content, Ebank, Equals, Erase, FarAddress, FaultKind, Fixed, Gives, Label, LongLine, Malformed, Missing, Named, NeedsExtend, NotAscii, NoMemory, NotExtracode, Num, Operation, OutOfRange, PlaceTaken, Setloc, Term, TooManyLines, TwiceDefined, Undefined, Unknown, UnknownOperator, UsedTooEarly, Value, WrongKindOfAddress}
+use Rattle.yayul.specs.Language.{Addressed, BadBank, BadLabel, BadOperand, Bank, BankFull, CodeInErasable, Content, Ebank, Equals, Erase, FarAddress, FaultKind, Fixed, Gives, Label, Language, LongLine, Malformed, Missing, Named, NeedsExtend, NotAscii, NoMemory, NotExtracode, Num, Operation, OutOfRange, PlaceTaken, Setloc, Term, TooManyLines, TwiceDefined, Undefined, Unknown, UnknownOperator, UsedTooEarly, Value, WrongKindOfAddress}
 use Rattle.yayul.specs.declared.finding.Span.{Span}
 use Rattle.yayul.specs.declared.finding.Finding.{Finding}
 use Rattle.yayul.specs.declared.doubt.Known.{Known}
@@ -66,8 +65,8 @@ pub record Survey : Type 0 where
   pub known : Known
 
 -- before the first line all is known
-abbrev pub unmarked : Survey
-unmarked = record { layout = start; lost = []; known = record { location = true; extracode = true; wrong = None } }
+abbrev pub unmarked : Language → Survey
+unmarked language = record { layout = start language; lost = []; known = record { location = true; extracode = true; wrong = None } }
 
 -- a name stands in a table
 abbrev pub stands_in : List (List ℕ × Value) → List ℕ → Bool
@@ -128,8 +127,8 @@ is_refused line s text = some_stands (text_faults line text) || some_stands (lay
 abbrev pub passed_line : ℕ → Survey → List ℕ → Survey
 passed_line line s text = record {
   layout = if is_refused line s.layout text then s.layout else (line_effect line s.layout text).after;
-  lost = if is_refused line s.layout text then noted s.lost (statement_of text).label else s.lost;
-  known = known_after s.known text (statement_of text).operation (is_refused line s.layout text) (list_any displaces (layout_kinds line s.layout text));
+  lost = if is_refused line s.layout text then noted s.lost (statement_on s.layout text).label else s.lost;
+  known = known_after s.known text (statement_on s.layout text).operation (is_refused line s.layout text) (list_any displaces (layout_kinds line s.layout text));
 }
 
 -- what stands after some lines, the first of them with a number
@@ -225,11 +224,11 @@ told_of d line text kinds = map (finding line text) (filter (λ kind. is_one_of 
 -- the faults of a line where a survey stands: of its bytes, its length and its number, of its fields, and of its words
 abbrev pub line_kinds : Survey → ℕ → Survey → List ℕ → List FaultKind
 line_kinds whole line s text =
-    text_faults line text ++ layout_kinds line s.layout text ++ word_kinds whole.layout.symbols s.layout (statement_of text).operation
+    text_faults line text ++ layout_kinds line s.layout text ++ word_kinds whole.layout.symbols s.layout (statement_on s.layout text).operation
 
 -- what is told of a line, where this stands before it, and this after the last line
 abbrev pub told_line : Survey → ℕ → Survey → List ℕ → List Finding
-told_line whole line s text = told_of (doubt whole.lost s.lost s.known text (statement_of text).operation) line text (line_kinds whole line s text)
+told_line whole line s text = told_of (doubt whole.lost s.lost s.known text (statement_on s.layout text).operation) line text (line_kinds whole line s text)
 
 -- what is told of some lines
 abbrev pub told_lines : Survey → ℕ → Survey → List (List ℕ) → List Finding
@@ -241,5 +240,5 @@ abbrev pub looked_at : List ℕ → List (List ℕ)
 looked_at source = take 65537 (lines source)
 
 -- what is told of a source
-unfoldable pub told : List ℕ → List Finding
-told source = told_lines (passed_lines 1 unmarked (looked_at source)) 1 unmarked (looked_at source)
+unfoldable pub told : Language → List ℕ → List Finding
+told language source = told_lines (passed_lines 1 (unmarked language) (looked_at source)) 1 (unmarked language) (looked_at source)

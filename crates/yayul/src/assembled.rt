@@ -8,6 +8,7 @@ ghost use Rattle.yayul.specs.Listing.{listing};
 ghost use Rattle.yayul.specs.Inside.Representation.{shown_by_mark, lines_show};
 ghost use Rattle.agc_text.specs.Tables.{value_in};
 
+use crate::language::Language;
 use crate::listing::{write_rows, write_symbols};
 use crate::margin::NoMargin;
 use crate::mark::Marks;
@@ -22,6 +23,7 @@ use words::{Write, WriteFailed};
 pub struct Program {
     rope: Rope,
     symbols: Symbols,
+    language: Language,
     source: Vec<u8>,
     // What the listing shows beside each line.
     marks: Marks,
@@ -38,19 +40,26 @@ impl Model for Program {
 
     ghost coded = { program_code };
 
-    ghost view = { λ p. record { rope = p.rope; symbols = p.symbols; source = p.source.items } };
+    ghost view = { λ p. record { rope = p.rope; symbols = p.symbols; source = record { language = p.language; text = p.source.items } } };
 
-    ghost invariant = { λ p. map shown_by_mark p.marks ≡ lines_show 1 start (lines p.source.items) };
+    ghost invariant = { λ p. map shown_by_mark p.marks ≡ lines_show 1 (start p.language) (lines p.source.items) };
 }
 
 impl Program {
-    pub(crate) fn new(rope: Rope, symbols: Symbols, source: Vec<u8>, marks: Marks) -> Program
-        requires { map shown_by_mark marks ≡ lines_show 1 start (lines source.items) }
-        ensures { result ≡ record { rope = rope; symbols = symbols; source = source.items } }
+    pub(crate) fn new(
+        rope: Rope,
+        symbols: Symbols,
+        language: Language,
+        source: Vec<u8>,
+        marks: Marks,
+    ) -> Program
+        requires { map shown_by_mark marks ≡ lines_show 1 (start language) (lines source.items) }
+        ensures { result ≡ record { rope = rope; symbols = symbols; source = record { language = language; text = source.items } } }
     {
         Program {
             rope,
             symbols,
+            language,
             source,
             marks,
         }
@@ -83,7 +92,10 @@ impl Program {
         ensures rope { result.0 ≡ self.rope }
         ensures source { result.1 ≡ self.source }
     {
-        (self.rope, SourceRows::new(self.source, self.marks))
+        (
+            self.rope,
+            SourceRows::new(self.language, self.source, self.marks),
+        )
     }
 
     /// Writes the listing: a row for each line of the source, with its number, its place, its word and its text, and then the

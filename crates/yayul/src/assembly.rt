@@ -10,6 +10,7 @@ ghost use Rattle.yayul.specs.Inside.Waiting.{Holds};
 
 use crate::assembled::Program;
 use crate::faults::{Fault, FaultKind};
+use crate::language::Language;
 use crate::layout::{Layout, Placing};
 use crate::mark::Marks;
 use agc_text::next_line;
@@ -19,31 +20,32 @@ use symbols::Symbols;
 /// Want of memory, for which no line is to blame.
 pub(crate) const NO_MEMORY: Fault = Fault { line: 0, number: 2 };
 
-/// Assembles a source: its program, or its least fault. A fault of number 2 says nothing of the
+/// Assembles a source of a language: its program, or its least fault. A fault of number 2 says nothing of the
 /// source but that memory ran out, and stands on line 0.
-pub fn assemble(alloc: Global, source: &[u8]) -> Result<Program, Fault>
-    ensures { GivesProgram (program source.now) result }
+pub fn assemble(alloc: Global, language: Language, source: &[u8]) -> Result<Program, Fault>
+    ensures { GivesProgram (program language source.now) result }
 {
     let mut marks = Marks::new(alloc);
     let Ok(mut placing) = Placing::start(alloc) else {
         return Err(NO_MEMORY);
     };
-    let layout = lay_out(alloc, source, &mut placing, &mut marks)?;
-    complete(alloc, placing, layout.symbols, source, marks)
+    let layout = lay_out(alloc, language, source, &mut placing, &mut marks)?;
+    complete(alloc, placing, layout.symbols, language, source, marks)
 }
 
 /// Lays out the lines of a source, up to the first fault, places their words, and appends what each shows in the listing.
 fn lay_out(
     alloc: Global,
+    language: Language,
     source: &[u8],
     placing: &mut Placing,
     marks: &mut Marks,
 ) -> Result<Layout, Fault>
-    requires { Keeps 1 start placing.old }
-    ensures lays_out { LaysOut (lines source.now) placing.new result }
-    ensures marks { OnOk result (map shown_by_mark marks.new ≡ map shown_by_mark marks.old ++ lines_show 1 start (lines source.now)) }
+    requires { Keeps 1 (start language) placing.old }
+    ensures lays_out { LaysOut language (lines source.now) placing.new result }
+    ensures marks { OnOk result (map shown_by_mark marks.new ≡ map shown_by_mark marks.old ++ lines_show 1 (start language) (lines source.now)) }
 {
-    let mut layout = Layout::start(alloc);
+    let mut layout = Layout::start(alloc, language);
     let mut rest = source;
     let mut line = 1;
     while let Some((text, after)) = next_line(rest) {
@@ -77,18 +79,19 @@ fn complete(
     alloc: Global,
     placing: Placing,
     symbols: Symbols,
+    language: Language,
     source: &[u8],
     marks: Marks,
 ) -> Result<Program, Fault>
     ghost laid_out: { LaidOut }
     requires known { symbols ≡ laid_out.symbols }
     requires held { (line : ℕ) × Holds line laid_out.symbols laid_out.requests (map request_of placing.waiting.items) placing.rope placing.fault }
-    requires shown { map shown_by_mark marks ≡ lines_show 1 start (lines source.now) }
-    ensures { GivesProgram (completed laid_out source.now) result }
+    requires shown { map shown_by_mark marks ≡ lines_show 1 (start language) (lines source.now) }
+    ensures { GivesProgram (completed laid_out (record { language = language; text = source.now })) result }
 {
     let rope = placing.complete(&symbols)?;
     match Vec::from_slice(alloc, source) {
-        Ok(text) => Ok(Program::new(rope, symbols, text, marks)),
+        Ok(text) => Ok(Program::new(rope, symbols, language, text, marks)),
         Err(_) => Err(NO_MEMORY),
     }
 }

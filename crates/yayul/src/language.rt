@@ -4,6 +4,15 @@ use crate::instruction::{AddressedInstruction, PlainInstruction};
 use symbols::{FixedBank, Name};
 use words::Word;
 
+/// The language of a source.
+#[derive(Clone, Copy, PartialEq, Eq, Debug, Drop)]
+pub enum Language {
+    /// The language of this assembler.
+    Standard,
+    /// A larger one, with forms of flight programs.
+    Flight,
+}
+
 /// Whether an instruction is an extracode.
 #[derive(Clone, Copy, Drop)]
 pub(crate) enum Extracode {
@@ -96,6 +105,19 @@ pub(crate) enum Operator {
     Addressed(AddressedCode),
     /// Gives the word of a code with the next location in its field.
     ToNext(AddressedCode),
+}
+
+/// What an operator of the language of flight programs does.
+#[derive(Clone, Copy, Drop)]
+pub(crate) enum FlightOperator {
+    /// Makes no word, whatever fields follow.
+    PassedOver,
+    /// Gives its label the value of an operand, or of the location.
+    Equals,
+    /// Moves the location past the words of a bank, or of its own.
+    Bank(BankRange),
+    /// What an operator of the standard language does.
+    Standard(Operator),
 }
 
 /// What a text is, read as a number.

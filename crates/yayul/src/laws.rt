@@ -2,6 +2,8 @@
 
 ghost use Rattle.yayul.specs.Laws.{ScalesToNearest, WordsShareNoPlace, NamesStandOnce, FindingsAgree, FindingsStandOnce};
 
+use crate::language::Language;
+
 /// The word of a fraction of 1 to 9 decimals is the nearest multiple of 2^-14: less than half of one away, so that none is as near.
 #[tactic(auto, using(crate::proofs::Nearest::scales_to_nearest))]
 pub fn fraction_is_nearest(decimals: u32, digits: u8)
@@ -13,32 +15,36 @@ pub fn fraction_is_nearest(decimals: u32, digits: u8)
 
 /// No two words share a place: of a source without a layout fault, no line asks for a place of another's.
 #[tactic(auto, using(crate::proofs::Apart::words_share_no_place))]
-pub fn words_share_no_place(source: &[u8])
-    ensures { WordsShareNoPlace source.now }
+pub fn words_share_no_place(language: Language, source: &[u8])
+    ensures { WordsShareNoPlace language source.now }
 {
+    let _language = language;
     let _source = source;
 }
 
 /// Names are defined once: in a source that assembles no two symbols have one name.
 #[tactic(auto, using(crate::proofs::Once::names_stand_once))]
-pub fn names_stand_once(source: &[u8])
-    ensures { NamesStandOnce source.now }
+pub fn names_stand_once(language: Language, source: &[u8])
+    ensures { NamesStandOnce language source.now }
 {
+    let _language = language;
     let _source = source;
 }
 
 /// What is told of a source agrees with what it assembles to: of one that assembles nothing is told, and of one that is refused its fault is.
 #[tactic(auto, using(crate::proofs::LeastTold::findings_agree))]
-pub fn findings_agree(source: &[u8])
-    ensures { FindingsAgree source.now }
+pub fn findings_agree(language: Language, source: &[u8])
+    ensures { FindingsAgree language source.now }
 {
+    let _language = language;
     let _source = source;
 }
 
 /// Each fault is told once: no two findings of a source have one line and one number.
 #[tactic(auto, using(crate::proofs::ToldOnce::findings_stand_once))]
-pub fn findings_stand_once(source: &[u8])
-    ensures { FindingsStandOnce source.now }
+pub fn findings_stand_once(language: Language, source: &[u8])
+    ensures { FindingsStandOnce language source.now }
 {
+    let _language = language;
     let _source = source;
 }

@@ -6,7 +6,7 @@ ghost use Rattle.yayul.specs.Inside.Sound.{number_at, end_at};
 
 use crate::bank::ErasableBank;
 use crate::faults::Fault;
-use crate::language::Location;
+use crate::language::{Language, Location};
 use crate::request::WordRequest;
 use rope::Rope;
 use symbols::Symbols;
@@ -17,6 +17,7 @@ pub(crate) const BANKS: usize = 0o44;
 /// What stands after some lines, besides their words.
 #[derive(Drop)]
 pub(crate) struct Layout {
+    pub(crate) language: Language,
     pub(crate) location: Location,
     pub(crate) symbols: Symbols,
     pub(crate) extracode: bool,

@@ -2,7 +2,7 @@
 
 ghost use Rattle.std.specs.Prelude.{◌≡◌, ◌<◌, ◌∷◌, [], false, ◌&&◌, not, IfOk, IfErr, OnOk, Some};
 ghost use Rattle.std.specs.Result.{result_err};
-ghost use Rattle.yayul.specs.Layout.{Layout as LaidOut, fault_if, standing, start, word_place, width, lacks_room, is_missing, is_twice, label_alone, refused, bare_faults, relocated, and_then, location_at, erasable_place, early_value, valued, ebank, erase, gives, statement_effect, text_faults};
+ghost use Rattle.yayul.specs.Layout.{Layout as LaidOut, fault_if, standing, start, word_place, width, lacks_room, is_missing, is_twice, label_alone, refused, bare_faults, relocated, and_then, location_at, erasable_place, early_value, valued, ebank, erase, gives, statement_effect, statement_on, text_faults};
 ghost use Rattle.yayul.specs.declared.faults.FaultKind.TheVariants.{BankFull};
 ghost use Rattle.yayul.specs.Inside.Answers.{layout_of, least_kind, labelled, words_faults, LeadsTo, Agrees, LeadsOn, LineLeadsOn, TakesWords, passed};
 ghost use Rattle.yayul.specs.Inside.Representation.{request_of, holds_word};
@@ -10,7 +10,8 @@ ghost use Rattle.yayul.specs.Inside.Sound.{IsLocation};
 
 use crate::bank::ErasableBank;
 use crate::faults::{FaultKind, least_fault, lesser_kind};
-use crate::language::{Content, Label, Location, Numeral, Operand, Operation, Statement};
+use crate::flight::flight_statement;
+use crate::language::{Content, Label, Language, Location, Numeral, Operand, Operation, Statement};
 use crate::layout::{Layout, Placing};
 use crate::mark::Mark;
 use crate::request::WordRequest;
@@ -25,10 +26,11 @@ pub(crate) const LINE_COUNT: u32 = 65_536;
 
 impl Layout {
     /// What stands before the first line. Nothing is allocated.
-    pub(crate) fn start(alloc: Global) -> Layout
-        ensures { layout_of result ≡ start }
+    pub(crate) fn start(alloc: Global, language: Language) -> Layout
+        ensures { layout_of result ≡ start language }
     {
         Layout {
+            language,
             location: Location::Fixed(FixedBank::two(), 0),
             symbols: Symbols::new(alloc),
             extracode: false,
@@ -48,11 +50,21 @@ impl Layout {
         if let Some(kind) = text_fault(line, text) {
             return Err(kind);
         }
-        let statement = statement_of(text);
+        let statement = self.statement_on(text);
         let mark = Mark::of(self.location, &statement);
         let Statement { label, operation } = statement;
         self.operation(placing, line, label, operation)?;
         Ok(mark)
+    }
+
+    /// What a line says where it stands.
+    pub(crate) fn statement_on(&self, text: &[u8]) -> Statement
+        ensures { result ≡ statement_on (layout_of self.now) text.now }
+    {
+        match self.language {
+            Language::Standard => statement_of(text),
+            Language::Flight => flight_statement(self.location, text),
+        }
     }
 
     // Does what a line's fields say.

@@ -4,11 +4,14 @@ ghost use Rattle.std.specs.Prelude.{◌≡◌, ◌==◌, ◌≤◌, true, IfSome
 ghost use Rattle.std.specs.Option.{SomeIff};
 ghost use Rattle.agc_text.specs.Tables.{named, value_in};
 ghost use Rattle.yayul.specs.Operators.{operators, is_bank, field_size, bits_under};
+ghost use Rattle.yayul.specs.Flight.{flight_operator, flight_operators};
 ghost use Rattle.yayul.specs.Words.{extracode_fault};
-ghost use Rattle.yayul.specs.Inside.Codes.{has_room};
+ghost use Rattle.yayul.specs.Inside.Codes.{has_room, flight_has_room};
 
 use crate::faults::FaultKind;
-use crate::language::{AddressedCode, BankRange, Bits, Extracode, Operator, PlainCode, Takes};
+use crate::language::{
+    AddressedCode, BankRange, Bits, Extracode, FlightOperator, Operator, PlainCode, Takes,
+};
 use symbols::FixedBank;
 
 impl Extracode {
@@ -203,6 +206,70 @@ const OPERATORS_OF_SIX: [(&str, Operator); 11] = [
     ("SQUARE", plain!(0o70000, Yes)),
 ];
 
+// Each operator that the standard language lacks, or has with fewer forms.
+const FLIGHT_OPERATORS: [(&str, FlightOperator); 19] = [
+    ("EQUALS", FlightOperator::Equals),
+    ("=", FlightOperator::Equals),
+    ("BANK", FlightOperator::Bank(BankRange::All)),
+    ("BLOCK", FlightOperator::Bank(BankRange::TwoOrThree)),
+    ("COUNT", FlightOperator::PassedOver),
+    ("COUNT*", FlightOperator::PassedOver),
+    ("BNKSUM", FlightOperator::PassedOver),
+    ("SUBRO", FlightOperator::PassedOver),
+    ("MEMORY", FlightOperator::PassedOver),
+    ("OCTAL", FlightOperator::Standard(Operator::Octal)),
+    ("GENADR", FlightOperator::Standard(constant!(Address))),
+    ("REMADR", FlightOperator::Standard(constant!(Address))),
+    ("1DNADR", FlightOperator::Standard(constant!(ErasablePlace))),
+    (
+        "2DNADR",
+        FlightOperator::Standard(addressed!(0o4000, Twelve, No, ErasablePlace)),
+    ),
+    (
+        "3DNADR",
+        FlightOperator::Standard(addressed!(0o10000, Twelve, No, ErasablePlace)),
+    ),
+    (
+        "4DNADR",
+        FlightOperator::Standard(addressed!(0o14000, Twelve, No, ErasablePlace)),
+    ),
+    (
+        "5DNADR",
+        FlightOperator::Standard(addressed!(0o20000, Twelve, No, ErasablePlace)),
+    ),
+    (
+        "6DNADR",
+        FlightOperator::Standard(addressed!(0o24000, Twelve, No, ErasablePlace)),
+    ),
+    (
+        "DNCHAN",
+        FlightOperator::Standard(addressed!(0o34000, Nine, No, Channel)),
+    ),
+];
+
+/// The operator of a name in the language of flight programs.
+#[tactic(auto, using(crate::proofs::Codes::own_or_standard, crate::proofs::Codes::flight_fits))]
+pub(crate) fn flight_operator_of(name: &[u8]) -> Option<FlightOperator>
+    ensures value { result ≡ flight_operator name.now }
+    ensures fits { IfSome result (λ operator. flight_has_room operator ≡ true) }
+{
+    match find_operator(flight_operators(), name) {
+        Some(operator) => Some(operator),
+        None => match operator_of(name) {
+            Some(operator) => Some(FlightOperator::Standard(operator)),
+            None => None,
+        },
+    }
+}
+
+// The operators that the standard language lacks, or has with fewer forms.
+#[tactic(auto, unfolding(crate::specs::Flight::flight_operators))]
+fn flight_operators() -> &'static [(&'static str, FlightOperator)]
+    ensures { named result.now ≡ flight_operators }
+{
+    &FLIGHT_OPERATORS
+}
+
 /// The operator of a name.
 pub(crate) fn operator_of(name: &[u8]) -> Option<Operator>
     ensures value { result ≡ value_in operators name.now }
@@ -227,7 +294,7 @@ fn operators_of_length(count: usize) -> &'static [(&'static str, Operator)]
     }
 }
 
-fn find_operator(table: &[(&str, Operator)], name: &[u8]) -> Option<Operator>
+fn find_operator<T: Copy>(table: &[(&str, T)], name: &[u8]) -> Option<T>
     ensures { result ≡ value_in (named table.now) name.now }
 {
     for (text, operator) in table {

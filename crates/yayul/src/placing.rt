@@ -4,6 +4,7 @@ ghost use Rattle.std.specs.Prelude.{◌≡◌, ◌+◌, ◌<◌, ◌≤◌, ◌+
 ghost use Rattle.std.specs.Result.{result_map_both, result_unwrap_or};
 ghost use Rattle.rope.specs.Places.{bank_words, stands};
 ghost use Rattle.yayul.specs.Layout.{Request, start, width};
+ghost use Rattle.yayul.specs.Language.{Language};
 ghost use Rattle.yayul.specs.Inside.Answers.{Keeps, Settles, TakesWords, PlacesWords};
 ghost use Rattle.yayul.specs.Inside.Representation.{request_of, words_in, holds_word_at, bank_target_by, is_undefined};
 ghost use Rattle.yayul.specs.Inside.Sound.{IsLocation};
@@ -21,7 +22,7 @@ use symbols::{FixedBank, Symbols};
 impl Placing {
     /// No words.
     pub(crate) fn start(alloc: Global) -> Result<Placing, RopeFault>
-        ensures { IfOk result (λ p. Keeps 1 start p) }
+        ensures { IfOk result (λ p. (language : Language) → Keeps 1 (start language) p) }
     {
         let rope = Rope::empty(alloc)?;
         Ok(Placing {

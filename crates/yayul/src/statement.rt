@@ -90,7 +90,7 @@ pub(crate) fn statement_of(line: &[u8]) -> Statement
 }
 
 // The label in a field, where it has a name's form.
-fn label_in(field: Option<Field<'_>>) -> Label
+pub(crate) fn label_in(field: Option<Field<'_>>) -> Label
     ensures { result ≡ label_in (text_of field.entry) }
 {
     match field {
@@ -113,7 +113,7 @@ fn operation_by(line: &Line<'_>) -> Operation
 }
 
 // What an operator says with the fields after it.
-fn operation_of(operator: Option<Operator>, line: &Line<'_>) -> Operation
+pub(crate) fn operation_of(operator: Option<Operator>, line: &Line<'_>) -> Operation
     requires { IfSome operator (λ operator. has_room operator ≡ true) }
     ensures { result ≡ operation_of operator (arguments_of line.now) }
 {
@@ -156,7 +156,7 @@ fn next_location() -> Operand
 }
 
 // The operand, where it has the form of one and no further field stands.
-fn operand_in(line: &Line<'_>) -> Option<Operand>
+pub(crate) fn operand_in(line: &Line<'_>) -> Option<Operand>
     ensures { result ≡ operand_in (arguments_of line.now) }
 {
     let operand = line.operand?;
@@ -179,7 +179,7 @@ fn constant_of(number: Numeral) -> Option<Content>
 }
 
 // A number alone.
-fn bank_in(line: &Line<'_>) -> Numeral
+pub(crate) fn bank_in(line: &Line<'_>) -> Numeral
     ensures { result ≡ alone number_in (arguments_of line.now) }
 {
     match (line.operand, line.offset) {

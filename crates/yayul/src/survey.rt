@@ -3,8 +3,8 @@
 ghost use Rattle.std.specs.Prelude.{◌≡◌, ◌+◌, ◌++◌, ◌==◌, ◌&&◌, ◌||◌, not, ℕ, false, map, filter, IfErr, IfOk, OnOk};
 ghost use Rattle.std.specs.List.{list_any};
 ghost use Rattle.std.specs.Option.{option_map_or};
-ghost use Rattle.yayul.specs.Layout.{standing, fault_number};
-ghost use Rattle.yayul.specs.Forms.{statement_of};
+ghost use Rattle.yayul.specs.Layout.{standing, fault_number, statement_on};
+ghost use Rattle.yayul.specs.Inside.Answers.{layout_of};
 ghost use Rattle.yayul.specs.Program.{no_memory};
 ghost use Rattle.yayul.specs.Survey.{Survey as Surveyed, unmarked, noted, displaces, some_stands, passed_line, passed_lines, is_one_of, follows, finding, told_of, told_line, told_lines, looked_at, told};
 ghost use Rattle.yayul.specs.Inside.Surveys.{Surveys, kinds_of};
@@ -14,10 +14,9 @@ use crate::conditions::Conditions;
 use crate::doubt::{Doubt, Known};
 use crate::faults::{Fault, FaultKind, least_fault};
 use crate::finding::{Finding, span_at};
-use crate::language::{Label, Statement};
+use crate::language::{Label, Language, Statement};
 use crate::layout::{Layout, Placing};
 use crate::line::{LINE_COUNT, text_conditions};
-use crate::statement::statement_of;
 use agc_text::next_line;
 use std::alloc::{AllocError, Global};
 use symbols::{Symbols, Value};
@@ -34,15 +33,15 @@ pub(crate) struct Survey {
 }
 
 impl Survey {
-    fn start(alloc: Global) -> Result<Survey, Fault>
-        ensures start { IfOk result (λ survey. Surveys 1 unmarked survey) }
+    fn start(alloc: Global, language: Language) -> Result<Survey, Fault>
+        ensures start { IfOk result (λ survey. Surveys 1 (unmarked language) survey) }
         ensures err { IfErr result (λ fault. fault ≡ no_memory) }
     {
         let Ok(placing) = Placing::start(alloc) else {
             return Err(NO_MEMORY);
         };
         Ok(Survey {
-            layout: Layout::start(alloc),
+            layout: Layout::start(alloc, language),
             placing,
             lost: Symbols::new(alloc),
             known: Known {
@@ -55,7 +54,7 @@ impl Survey {
 
     // Passes a line that says this.
     fn pass(&mut self, line: u32, text: &[u8], statement: Statement) -> Result<(), Fault>
-        requires { statement ≡ statement_of text.now }
+        requires { statement ≡ statement_on (layout_of self.old.layout) text.now }
         ensures leads { (s : Surveyed) → Surveys line s self.old → OnOk result (Surveys (line + 1) (passed_line line s text.now) self.new) }
         ensures err { IfErr result (λ fault. fault ≡ no_memory) }
     {
@@ -127,27 +126,28 @@ fn displaces(condition: Option<FaultKind>) -> bool
 
 /// All faults of a source that do not follow from others, in the order of lines and columns.
 #[tactic(auto, unfolding(crate::specs::Survey::told))]
-pub fn findings(alloc: Global, source: &[u8]) -> Result<Vec<Finding>, Fault>
-    ensures told { IfOk result (λ findings. findings.items ≡ told source.now) }
+pub fn findings(alloc: Global, language: Language, source: &[u8]) -> Result<Vec<Finding>, Fault>
+    ensures told { IfOk result (λ findings. findings.items ≡ told language source.now) }
     ensures err { IfErr result (λ fault. fault ≡ no_memory) }
 {
-    let whole = passed_lines(alloc, source)?;
-    told_lines(alloc, source, &whole)
+    let whole = passed_lines(alloc, language, source)?;
+    told_lines(alloc, language, source, &whole)
 }
 
 // What stands after the lines of a source.
-fn passed_lines(alloc: Global, source: &[u8]) -> Result<Survey, Fault>
-    ensures passed { IfOk result (λ survey. (line : ℕ) × Surveys line (passed_lines 1 unmarked (looked_at source.now)) survey) }
+fn passed_lines(alloc: Global, language: Language, source: &[u8]) -> Result<Survey, Fault>
+    ensures passed { IfOk result (λ survey. (line : ℕ) × Surveys line (passed_lines 1 (unmarked language) (looked_at source.now)) survey) }
     ensures err { IfErr result (λ fault. fault ≡ no_memory) }
 {
-    let mut survey = Survey::start(alloc)?;
+    let mut survey = Survey::start(alloc, language)?;
     let mut rest = source;
     let mut line = 1;
     while let Some((text, after)) = next_line(rest) {
         if line > LINE_COUNT + 1 {
             return Ok(survey);
         }
-        survey.pass(line, text, statement_of(text))?;
+        let statement = survey.layout.statement_on(text);
+        survey.pass(line, text, statement)?;
         rest = after;
         line += 1;
     }
@@ -155,12 +155,17 @@ fn passed_lines(alloc: Global, source: &[u8]) -> Result<Survey, Fault>
 }
 
 // What is told of the lines of a source, where this stands after all of them.
-fn told_lines(alloc: Global, source: &[u8], whole: &Survey) -> Result<Vec<Finding>, Fault>
-    requires { (line : ℕ) × Surveys line (passed_lines 1 unmarked (looked_at source.now)) whole.now }
-    ensures told { IfOk result (λ findings. findings.items ≡ told_lines (passed_lines 1 unmarked (looked_at source.now)) 1 unmarked (looked_at source.now)) }
+fn told_lines(
+    alloc: Global,
+    language: Language,
+    source: &[u8],
+    whole: &Survey,
+) -> Result<Vec<Finding>, Fault>
+    requires { (line : ℕ) × Surveys line (passed_lines 1 (unmarked language) (looked_at source.now)) whole.now }
+    ensures told { IfOk result (λ findings. findings.items ≡ told_lines (passed_lines 1 (unmarked language) (looked_at source.now)) 1 (unmarked language) (looked_at source.now)) }
     ensures err { IfErr result (λ fault. fault ≡ no_memory) }
 {
-    let mut survey = Survey::start(alloc)?;
+    let mut survey = Survey::start(alloc, language)?;
     let mut told = Vec::new(alloc);
     let mut rest = source;
     let mut line = 1;
@@ -168,7 +173,7 @@ fn told_lines(alloc: Global, source: &[u8], whole: &Survey) -> Result<Vec<Findin
         if line > LINE_COUNT + 1 {
             return Ok(told);
         }
-        let statement = statement_of(text);
+        let statement = survey.layout.statement_on(text);
         match survey.tell(whole, line, text, &statement, &mut told) {
             Ok(()) => survey.pass(line, text, statement)?,
             Err(_) => return Err(NO_MEMORY),
@@ -227,7 +232,7 @@ impl Survey {
         statement: &Statement,
         told: &mut Vec<Finding>,
     ) -> Result<(), AllocError>
-        requires { statement.now ≡ statement_of text.now }
+        requires { statement.now ≡ statement_on (layout_of self.now.layout) text.now }
         ensures { (s w : Surveyed) (last : ℕ) → Surveys line s self.now → Surveys last w whole.now → OnOk result (told.new.items ≡ told.old.items ++ told_line w line s text.now) }
     {
         let Statement { label, operation } = statement;

@@ -3,12 +3,11 @@ use Rattle.std.specs.Prelude.{◌≡◌, ◌≢◌, ℕ, ◌+◌, ◌<◌, ◌�
 use Rattle.std.specs.List.{flat_map}
 use Rattle.std.specs.Result.{result_err, result_unwrap_or}
 use Rattle.rope.specs.Places.{Words, banks, no_words, with_words}
-use Rattle.yayul.specs.Forms.{statement_of}
-use Rattle.yayul.specs.Layout.{Request, Layout, LineEffect, start, standing, fault_if, label_faults, defined, lacks_room, is_erasable, after_words, extends, width, fault_number, line_faults, line_effect, layout_after, layout_faults}
+use Rattle.yayul.specs.Layout.{Request, Layout, LineEffect, start, standing, fault_if, label_faults, defined, lacks_room, is_erasable, after_words, extends, width, fault_number, line_faults, statement_on, line_effect, layout_after, layout_faults}
 use Rattle.yayul.specs.Listing.{shown}
 use Rattle.yayul.specs.Program.{placed, placed_from, least, no_memory}
 use Rattle.yayul.specs.Words.{extracode_of, extracode_fault, request_words, word_faults}
-use Rattle.yayul.specs.Language.{BankFull, CodeInErasable, Content, Fault, FaultKind, Label, NoMemory, PlaceTaken, Value}
+use Rattle.yayul.specs.Language.{BankFull, CodeInErasable, Content, Fault, FaultKind, Label, Language, NoMemory, PlaceTaken, Value}
 use Rattle.yayul.specs.declared.layout.Layout.{Layout as Held}
 use Rattle.yayul.specs.declared.layout.Placing.{Placing}
 use Rattle.yayul.specs.declared.mark.Mark.{Mark}
@@ -37,7 +36,7 @@ with_requests rs s = record s { requests = rs }
 
 -- the layout that stands after some lines, without what they ask for
 abbrev pub layout_of : Held → Layout
-layout_of l = record { location = l.location; symbols = l.symbols; requests = []; extracode = l.extracode; eb = l.eb }
+layout_of l = record { language = l.language; location = l.location; symbols = l.symbols; requests = []; extracode = l.extracode; eb = l.eb }
 
 -- the words are held that a layout asks for, which stands before a line
 pub record Keeps (line : ℕ) (s : Layout) (p : Placing) : Type 0 where
@@ -63,7 +62,7 @@ LeadsOn line e l p (Err kind) = kind ≢ NoMemory → least_kind e.faults ≡ So
 -- the same of a line of the source, its text and number included, and what it shows
 abbrev pub LineLeadsOn : ℕ → Layout → List ℕ → Held → Placing → Result Mark FaultKind → Type 0
 LineLeadsOn line s text l p (Ok mark) =
-    (line_faults line s text ≡ []) × (Agrees (line + 1) (line_effect line s text).after l p × (shown_by_mark mark ≡ shown s.location (statement_of text)))
+    (line_faults line s text ≡ []) × (Agrees (line + 1) (line_effect line s text).after l p × (shown_by_mark mark ≡ shown s.location (statement_on s text)))
 LineLeadsOn line s text l p (Err kind) = kind ≢ NoMemory → least_kind (line_faults line s text) ≡ Some kind
 
 -- a label that is given a value
@@ -104,9 +103,9 @@ abbrev pub TellsOn : ℕ → FaultKind → Fault → Type 0
 TellsOn line kind fault = (fault ≡ no_memory) ⊎ ((kind ≢ NoMemory) × (fault ≡ record { line = line; number = fault_number kind }))
 
 -- lines without a fault are laid out; of others the least fault is told
-abbrev pub LaysOut : List (List ℕ) → Placing → Result Held Fault → Type 0
-LaysOut texts p (Ok l) = (layout_faults 1 start texts ≡ []) × ((line : ℕ) × Agrees line (layout_after 1 start texts) l p)
-LaysOut texts p (Err fault) = Tells (least (layout_faults 1 start texts)) fault
+abbrev pub LaysOut : Language → List (List ℕ) → Placing → Result Held Fault → Type 0
+LaysOut language texts p (Ok l) = (layout_faults 1 (start language) texts ≡ []) × ((line : ℕ) × Agrees line (layout_after 1 (start language) texts) l p)
+LaysOut language texts p (Err fault) = Tells (least (layout_faults 1 (start language) texts)) fault
 
 -- words stand in their places, where no request has a fault; of others the least is told
 abbrev pub PlacesWords : List (List ℕ × Value) → List Request → Result Words Fault → Type 0

@@ -1,6 +1,8 @@
 -- The room that codes leave for a field.
 use Rattle.std.specs.Prelude.{ℕ, ◌+◌, Bool, true, nat_le}
 use Rattle.yayul.specs.declared.language.AddressedCode.{AddressedCode}
+use Rattle.yayul.specs.declared.language.FlightOperator.{FlightOperator}
+use Rattle.yayul.specs.declared.language.FlightOperator.TheVariants as flight
 use Rattle.yayul.specs.declared.language.Operator.{Operator}
 use Rattle.yayul.specs.declared.language.Operator.TheVariants.{Setloc, Bank, Erase, Equals, Ebank, Octal, Decimal, FarAddress, Plain, Addressed, ToNext}
 use Rattle.yayul.specs.declared.language.Takes.{Takes}
@@ -36,3 +38,10 @@ has_room FarAddress = true
 has_room (Plain i) = nat_le i.code greatest_code
 has_room (Addressed i) = nat_le (greatest_with_field i) greatest_code
 has_room (ToNext i) = nat_le (greatest_with_field i) greatest_code
+
+-- so have those of one of the language of flight programs
+abbrev pub flight_has_room : FlightOperator → Bool
+flight_has_room flight.PassedOver = true
+flight_has_room flight.Equals = true
+flight_has_room (flight.Bank taken) = true
+flight_has_room (flight.Standard operator) = has_room operator

@@ -12,12 +12,14 @@ use Rattle.symbols.specs.contracts.values.Value as value
 use Rattle.symbols.specs.declared.values.Value.{Value}
 use Rattle.symbols.specs.declared.values.Value.TheVariants.{Num, Erasable, Fixed}
 use Rattle.yayul.specs.Forms.{operation_of}
+use Rattle.yayul.specs.Flight.{flight_operation_of, flight_operator}
 use Rattle.yayul.specs.Language.{BadBank, BadOperand, BankRange, FaultKind, Is, Location, NoForm, Numeral, TooLarge, Undefined}
-use Rattle.yayul.specs.Layout.{Request, Layout, word_place, after_words, line_effect}
+use Rattle.yayul.specs.Layout.{Request, Layout, word_place, after_words, statement_on, line_effect}
 use Rattle.yayul.specs.Listing.{Margin, Shown, nothing, line_rows, shown}
-use Rattle.yayul.specs.Forms.{statement_of}
 use Rattle.yayul.specs.Operators.{operators, is_bank}
-use Rattle.yayul.specs.Program.{Program}
+use Rattle.yayul.specs.Program.{Source, Program}
+use Rattle.yayul.specs.contracts.language.Language as language
+use Rattle.yayul.specs.declared.language.Language.{Language}
 use Rattle.yayul.specs.declared.language.Operation.{Operation}
 use Rattle.yayul.specs.declared.language.Operation.TheVariants.{Nothing}
 use Rattle.yayul.specs.declared.mark.Mark.{Mark}
@@ -44,6 +46,10 @@ arguments_of l = followed_by (text_of l.operand) (followed_by (text_of l.offset)
 -- what the fields besides the label say
 abbrev pub operation_by : Line → Operation
 operation_by l = option_map_or (λ f. operation_of (value_in operators f.text.now) (arguments_of l)) l.operator Nothing
+
+-- the same in the language of flight programs, where the line stands at a location
+abbrev pub flight_operation_by : Location → Line → Operation
+flight_operation_by here l = option_map_or (λ f. flight_operation_of here (flight_operator f.text.now) (arguments_of l)) l.operator Nothing
 
 -- the value of a kind and a number, which may be past the last of its kind
 abbrev pub value_at : Point → Value
@@ -90,7 +96,7 @@ shown_by_mark (mark.Words bank n second) = record { place = None; words = (bank,
 -- what each of some lines shows, the first of them with a number and what stands before it
 abbrev pub lines_show : ℕ → Layout → List (List ℕ) → List Shown
 lines_show line s [] = []
-lines_show line s (text ∷ texts) = shown s.location (statement_of text) ∷ lines_show (line + 1) (line_effect line s text).after texts
+lines_show line s (text ∷ texts) = shown s.location (statement_on s text) ∷ lines_show (line + 1) (line_effect line s text).after texts
 
 -- the rows of some lines, the first of them with a number, and each with what it shows
 abbrev pub rows_of : Margin → ℕ → Words → List (List ℕ) → List Shown → List ℕ
@@ -98,9 +104,15 @@ rows_of margin line words [] shows = []
 rows_of margin line words (text ∷ texts) [] = []
 rows_of margin line words (text ∷ texts) (shown ∷ shows) = line_rows margin line words text shown ++ rows_of margin (line + 1) words texts shows
 
+-- a source is stored as its fields, paired
+abbrev pub source_code : Coded Source
+source_code =
+    code_by (Language × List ℕ) (coded× language.the_row.coded (coded_list coded_ℕ))
+    (λ s. (s.language, s.text)) (λ s. record { language = s.0; text = s.1 }) (λ _. refl)
+
 -- a program is stored as its fields, paired
 abbrev pub program_code : Coded Program
 program_code =
-    code_by (Words × (List (List ℕ × Value) × List ℕ))
-    (coded× (map.code coded_ℕ coded_ℕ) (coded× (coded_list (coded× (coded_list coded_ℕ) value.the_row.coded)) (coded_list coded_ℕ)))
+    code_by (Words × (List (List ℕ × Value) × Source))
+    (coded× (map.code coded_ℕ coded_ℕ) (coded× (coded_list (coded× (coded_list coded_ℕ) value.the_row.coded)) source_code))
     (λ p. (p.rope, (p.symbols, p.source))) (λ p. record { rope = p.0; symbols = p.1.0; source = p.1.1 }) (λ _. refl)

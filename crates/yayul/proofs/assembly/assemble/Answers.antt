@@ -7,10 +7,10 @@ use Rattle.yayul.proofs.assembly.assemble.Goals as goal
 
 pub returns : goal.returns
 returns c =
-    answers_same (program c.args.source.now) (completed (layout_after 1 start (lines c.args.source.now)) c.args.source.now) c.complete.result
-    (program_ok c.args.source.now c.in_ok-layout.ensures.lays_out.0) c.complete.ensures
+    answers_same (program c.args.language c.args.source.now) (completed (layout_after 1 (start c.args.language) (lines c.args.source.now)) (record { language = c.args.language; text = c.args.source.now })) c.complete.result
+    (program_ok c.args.language c.args.source.now c.in_ok-layout.ensures.lays_out.0) c.complete.ensures
 
 pub returns-in_err-layout : goal.returns-in_err-layout
 returns-in_err-layout c =
     let p = err_from_is_err_and c.from_residual.result c.from_residual.ensures.1 in
-    rw (p.1, p.2) (program_err c.args.source.now c.in_err-layout.field-0.0 c.in_err-layout.ensures.lays_out)
+    rw (p.1, p.2) (program_err c.args.language c.args.source.now c.in_err-layout.field-0.0 c.in_err-layout.ensures.lays_out)

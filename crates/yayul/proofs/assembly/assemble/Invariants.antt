@@ -3,4 +3,4 @@ use Rattle.yayul.specs.Layout.{start, layout_after}
 use Rattle.yayul.proofs.assembly.assemble.Given as goal
 
 abbrev pub ghost-complete : goal.ghost-complete
-ghost-complete a = layout_after 1 start (lines a.source.now)
+ghost-complete a = layout_after 1 (start a.language) (lines a.source.now)

@@ -20,13 +20,13 @@ loop-text-preserved c =
       same_layout = c.loop-text.invariant.same_layout
           ∙ layout_passed c.loop-text.line s t c.in-Some.text.now (lines c.loop-text.rest.now) (lines c.in-Some.after.now) c.in-Some.ensures.lines refl;
       same_shown = shown_passed c.loop-text.line s t c.in-Some.text.now (lines c.loop-text.rest.now) (lines c.in-Some.after.now) c.in-Ok.mark
-          (map shown_by_mark c.args.marks.now ++ lines_show 1 start (lines c.args.source.now)) c.loop-text.marks c.push.new.self
+          (map shown_by_mark c.args.marks.now ++ lines_show 1 (start c.args.language) (lines c.args.source.now)) c.loop-text.marks c.push.new.self
           c.in-Some.ensures.lines refl leads.1.1 c.in-Ok-push.ensures c.loop-text.invariant.same_shown;
       few = omega (arith, few);
     }
 
 pub returns-in-Err-clause-lays_out : goal.returns-in-Err-clause-lays_out
 returns-in-Err-clause-lays_out c =
-    told_on (layout_faults 1 start (lines c.args.source.now)) c.loop-text.line c.loop-text.invariant.state c.in-Some.text.now
+    told_on (layout_faults 1 (start c.args.language) (lines c.args.source.now)) c.loop-text.line c.loop-text.invariant.state c.in-Some.text.now
     (lines c.loop-text.rest.now) (lines c.in-Some.after.now) c.in-Err.kind c.fault_on.result
     c.loop-text.invariant.same_faults c.in-Some.ensures.lines (c.in-Err.ensures c.loop-text.invariant.state c.loop-text.invariant.agrees) c.fault_on.ensures

@@ -9,9 +9,9 @@ abbrev pub invariant-loop-text : goal.invariant-loop-text
 invariant-loop-text l = record {
   state : Layout;
   agrees : Agrees l.line state l.layout l.placing;
-  same_faults : layout_faults 1 start (lines l.source) ≡ layout_faults l.line state (lines l.rest);
-  same_layout : layout_after 1 start (lines l.source) ≡ layout_after l.line state (lines l.rest);
-  same_shown : map shown_by_mark l.initial.marks ++ lines_show 1 start (lines l.source) ≡ map shown_by_mark l.marks ++ lines_show l.line state (lines l.rest);
+  same_faults : layout_faults 1 (start l.fn.language) (lines l.source) ≡ layout_faults l.line state (lines l.rest);
+  same_layout : layout_after 1 (start l.fn.language) (lines l.source) ≡ layout_after l.line state (lines l.rest);
+  same_shown : map shown_by_mark l.initial.marks ++ lines_show 1 (start l.fn.language) (lines l.source) ≡ map shown_by_mark l.marks ++ lines_show l.line state (lines l.rest);
   few : l.line ≤ 65537;
 }
 

@@ -8,7 +8,7 @@ abbrev pub invariant-loop-text : goal.invariant-loop-text
 invariant-loop-text l = record {
   state : Survey;
   stands : Surveys l.line state l.survey;
-  same : passed_lines 1 unmarked (looked_at l.source) ≡ passed_lines l.line state (take (65538 - l.line) (lines l.rest));
+  same : passed_lines 1 (unmarked l.fn.language) (looked_at l.source) ≡ passed_lines l.line state (take (65538 - l.line) (lines l.rest));
   few : l.line ≤ 65538;
 }
 

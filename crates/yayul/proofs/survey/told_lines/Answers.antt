@@ -6,7 +6,7 @@ use Rattle.yayul.proofs.survey.told_lines.Goals as goal
 
 pub returns-then-line-clause-told : goal.returns-then-line-clause-told
 returns-then-line-clause-told c =
-    let whole = passed_lines 1 unmarked (looked_at c.args.source.now) in
+    let whole = passed_lines 1 (unmarked c.args.language) (looked_at c.args.source.now) in
     sym (c.loop-text.invariant.same
     ∙ ap (λ texts. c.loop-text.told.items ++ told_lines whole c.loop-text.line c.loop-text.invariant.state texts)
     (none_left (65538 - c.loop-text.line) (lines c.loop-text.rest.now) (omega arith))
@@ -14,7 +14,7 @@ returns-then-line-clause-told c =
 
 pub returns-clause-told : goal.returns-clause-told
 returns-clause-told c =
-    let whole = passed_lines 1 unmarked (looked_at c.args.source.now) in
+    let whole = passed_lines 1 (unmarked c.args.language) (looked_at c.args.source.now) in
     sym (c.loop-text.invariant.same
     ∙ ap (λ texts. c.loop-text.told.items ++ told_lines whole c.loop-text.line c.loop-text.invariant.state texts)
     (take_none (65538 - c.loop-text.line) (lines c.loop-text.rest.now) c.in_default.ensures.lines)
@@ -24,7 +24,7 @@ pub loop-text-preserved : goal.loop-text-preserved
 loop-text-preserved c =
     let line = c.loop-text.line in
     let s = c.loop-text.invariant.state in
-    let whole = passed_lines 1 unmarked (looked_at c.args.source.now) in
+    let whole = passed_lines 1 (unmarked c.args.language) (looked_at c.args.source.now) in
     record {
       state = passed_line line s c.in-Some.text.now;
       stands = c.in_ok-pass-in-Ok.ensures.leads s c.loop-text.invariant.stands;

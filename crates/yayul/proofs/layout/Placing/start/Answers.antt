@@ -9,7 +9,7 @@ pub invariant_of-result : goal.invariant_of-result
 invariant_of-result c = record { ended = λ bank lt. subst (λ end. end ≤ bank_words) (sym (zeros 36 bank)) (omega arith) }
 
 pub returns : goal.returns
-returns c =
+returns c = λ language.
     let none = ap (map request_of) c.new.ensures.items in
     record {
       holds = rw (none, c.in_ok-rope.ensures.ok) (holds-start []);

@@ -1,0 +1,83 @@
+-- Small sources in the language of flight programs, assembled by the definitions alone: each comes to its words, or to its least fault.
+use Rattle.std.proofs.Common.{◌≡◌, ℕ, Bool, true, List, [], ◌∷◌, Err, refl, map}
+use Rattle.std.specs.Prelude.{codes, ◌==◌, if◌then◌else◌, is_ok}
+use Rattle.agc_text.specs.Fields.{runs}
+use Rattle.agc_text.specs.Lines.{lines}
+use Rattle.space.specs.Places.{window, fb_of, sup_of}
+use Rattle.yayul.specs.Operators.{operators}
+use Rattle.yayul.specs.Forms.{statement_of}
+use Rattle.yayul.specs.Flight.{flight_operators, uncounted_statement}
+use Rattle.yayul.specs.Layout.{fault_number, start, line_effect, layout_after}
+use Rattle.yayul.specs.Words.{request_words, request_faults}
+use Rattle.yayul.specs.Program.{image_of, program}
+use Rattle.yayul.specs.Language.{Flight, Standard, FaultKind, BadLabel, TwiceDefined, UnknownOperator, BadOperand, BadBank, WrongKindOfAddress, OutOfRange}
+
+-- a source of lines, each but the last followed by a semicolon here
+abbrev source : List ℕ → List ℕ
+source text = map (λ byte. if byte == 0o73 then 0o12 else byte) text
+
+-- the bank, the offset and the word of each place that a source fills
+abbrev words : List ℕ → List (ℕ × ℕ × ℕ)
+words text = map (λ p. (p.bank, p.offset, p.word)) (image_of (layout_after 1 (start Flight) (lines text)))
+
+-- sources with their words, in the order of their lines
+abbrev good : List (List ℕ × List (ℕ × ℕ × ℕ))
+good =
+    (codes "+3 OCT 5; -1 OCT 6; +8D DXCH 4 +1;-10D OCT 1; +2;X; -0 CA X", (2, 0, 5) ∷ (2, 1, 6) ∷ (2, 2, 0o52006) ∷ (2, 3, 1) ∷ (2, 4, 0o34004) ∷ [])
+    ∷ (codes " COUNT* $$/EXEC; COUNT 05; BNKSUM 05; SUBRO; MEMORY 120000 - 167777; OCT 1", (2, 0, 1) ∷ [])
+    ∷ (codes " SETLOC 4005;X EQUALS;Y =; OCT 1; CA X; CA Y;Z EQUALS X +1; CA Z", (2, 5, 1) ∷ (2, 6, 0o34005) ∷ (2, 7, 0o34005) ∷ (2, 8, 0o34006) ∷ [])
+    ∷ (codes " BANK 04;P40S EQUALS; SETLOC P40S; BANK; OCT 1; SETLOC 4000; OCT 2; SETLOC P40S; BANK; OCT 3", (4, 0, 1) ∷ (2, 0, 2) ∷ (4, 1, 3) ∷ [])
+    ∷ (codes " BLOCK 2; OCT 1; SETLOC 4000; BLOCK; OCT 2; BANK 5; BLOCK; OCT 3", (2, 0, 1) ∷ (2, 1, 2) ∷ (5, 0, 3) ∷ [])
+    ∷ (codes " OCTAL 37777; BANK 5;X GENADR X; REMADR X", (2, 0, 0o37777) ∷ (5, 0, 0o2000) ∷ (5, 1, 0o2000) ∷ [])
+    ∷ (codes " 1DNADR 100; 2DNADR 400; 3DNADR 400; 4DNADR 400; 5DNADR 400; 6DNADR 154; DNCHAN 30", (2, 0, 0o00100) ∷ (2, 1, 0o04400) ∷ (2, 2, 0o10400) ∷ (2, 3, 0o14400) ∷ (2, 4, 0o20400) ∷ (2, 5, 0o24154) ∷ (2, 6, 0o34030) ∷ [])
+    ∷ []
+
+each_good : map {B = Bool × List (ℕ × ℕ × ℕ)} (λ row. (is_ok (program Flight (source row.0)), words (source row.0))) good ≡ map {B = Bool × List (ℕ × ℕ × ℕ)} (λ row. (true, row.1)) good
+unfolding program runs operators flight_operators statement_of uncounted_statement line_effect request_words request_faults lines window fb_of sup_of
+each_good = refl
+
+-- sources with the line and the kind of their least fault
+abbrev faulty : List (List ℕ × ℕ × FaultKind)
+faulty =
+    (codes "X +3 OCT 5", 1, UnknownOperator)
+    ∷ (codes "+ OCT 5", 1, BadLabel)
+    ∷ (codes "+3X OCT 5", 1, BadLabel)
+    ∷ (codes " +3 +3 OCT 5", 1, UnknownOperator)
+    ∷ (codes " EQUALS", 1, BadLabel)
+    ∷ (codes "X EQUALS;X EQUALS", 2, TwiceDefined)
+    ∷ (codes " SETLOC 5777; OCT 1;X EQUALS", 3, OutOfRange)
+    ∷ (codes " SETLOC 1400; BANK", 2, BadOperand)
+    ∷ (codes "X BANK", 1, BadLabel)
+    ∷ (codes " BANK 44", 1, BadBank)
+    ∷ (codes " BLOCK 4", 1, BadBank)
+    ∷ (codes " BANK 5 +1", 1, BadOperand)
+    ∷ (codes " OCTAL 8", 1, BadOperand)
+    ∷ (codes " 2DNADR X;X OCT 0", 1, WrongKindOfAddress)
+    ∷ (codes " DNCHAN 1000", 1, WrongKindOfAddress)
+    ∷ (codes " EXTEND; EDRUPT 0", 2, UnknownOperator)
+    ∷ (codes " SBANK= LOWSUPER", 1, UnknownOperator)
+    ∷ (codes "X COUNT 5;X OCT 1", 2, TwiceDefined)
+    ∷ []
+
+each_faulty : map (λ row. program Flight (source row.0)) faulty ≡ map (λ row. Err (record { line = row.1; number = fault_number row.2 })) faulty
+unfolding program runs operators flight_operators statement_of uncounted_statement line_effect request_words request_faults lines window fb_of sup_of
+each_faulty = refl
+
+-- what the standard language refuses of this
+abbrev refused : List (List ℕ × ℕ × FaultKind)
+refused =
+    (codes "+3 OCT 5", 1, BadLabel)
+    ∷ (codes " -1 OCT 6", 1, UnknownOperator)
+    ∷ (codes " COUNT 05", 1, UnknownOperator)
+    ∷ (codes " COUNT* $$/EXEC", 1, UnknownOperator)
+    ∷ (codes "X EQUALS", 1, BadOperand)
+    ∷ (codes "X =", 1, BadOperand)
+    ∷ (codes " BANK", 1, BadOperand)
+    ∷ (codes " BLOCK", 1, BadOperand)
+    ∷ (codes " OCTAL 5", 1, UnknownOperator)
+    ∷ (codes " 2DNADR 400", 1, UnknownOperator)
+    ∷ []
+
+each_refused : map (λ row. program Standard (source row.0)) refused ≡ map (λ row. Err (record { line = row.1; number = fault_number row.2 })) refused
+unfolding program runs operators statement_of line_effect request_words request_faults lines window fb_of sup_of
+each_refused = refl
