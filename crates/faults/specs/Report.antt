@@ -1,17 +1,14 @@
 -- The faults and the warnings of a source as lines of text.
 use Rattle.std.specs.Prelude.{ℕ, ◌+◌, ◌-◌, ◌==◌, List, [], ◌∷◌, ◌++◌, length, map, take, drop, max, min, replicate, codes, decimal, flat_map, nat_le, slice_get, unwrap_or, if◌then◌else◌}
 use Rattle.std.specs.List.{position_or_len}
-use Rattle.agc_text.specs.Bytes.{is_text_byte, space, tab}
+use Rattle.agc_text.specs.Bytes.{space, tab}
 use Rattle.agc_text.specs.Lines.{lines}
 use Rattle.yayul.specs.declared.finding.Finding.{Finding}
-use Rattle.faults.specs.Refusals.{meaning}
-use Rattle.faults.specs.Warnings.{warning_meaning}
+use Rattle.faults.specs.Causes.{Cause, fault_cause, filled, said}
+use Rattle.faults.specs.Shown.{shown_byte}
+use Rattle.faults.specs.Warnings.{parts_of, warning_meaning}
 use Rattle.faults.specs.declared.findings.Severity.{Severity}
 use Rattle.faults.specs.declared.findings.Severity.TheVariants.{Error, Warning}
-
--- a byte as it is shown: a question mark for one that a line may not hold
-abbrev pub shown_byte : ℕ → ℕ
-shown_byte byte = if is_text_byte byte then byte else 0o77
 
 -- what stands under a byte, so that what follows stands under what follows it
 abbrev pub margin_byte : ℕ → ℕ
@@ -34,12 +31,28 @@ abbrev pub place_text : List ℕ → List ℕ → Finding → List ℕ
 place_text name text f = name ++ codes ":" ++ decimal f.line ++ codes ":" ++ decimal (min f.span.start (length text) + 1)
 
 -- what it is
-abbrev pub message_text : Severity → ℕ → List ℕ
-message_text Error number = codes ": error E" ++ decimal number ++ codes ": " ++ meaning number ++ codes "\n"
-message_text Warning number = codes ": warning W" ++ decimal number ++ codes ": " ++ warning_meaning number ++ codes "\n"
+abbrev pub kind_text : Severity → List ℕ
+kind_text Error = codes ": error E"
+kind_text Warning = codes ": warning W"
+
+-- why it is one, and how it is mended
+abbrev pub cause_of : Severity → List ℕ → Finding → Cause
+cause_of Error text f = fault_cause text f
+cause_of Warning text f = said (warning_meaning f.number)
+
+abbrev pub message_text : List ℕ → Severity → Finding → Cause → List ℕ
+message_text text severity f c = kind_text severity ++ decimal f.number ++ codes ": " ++ filled (parts_of text) c.other c.words ++ codes "\n"
+
+-- its cure, in a row of its own, where there is one
+abbrev pub cure_text : List ℕ → Cause → List ℕ
+cure_text text c = if length c.cure == 0 then [] else codes "      = " ++ filled (parts_of text) c.other c.cure ++ codes "\n"
+
+-- a finding with why it is one
+abbrev pub caused_text : List ℕ → List ℕ → Severity → Finding → Cause → List ℕ
+caused_text name text severity f c = place_text name text f ++ message_text text severity f c ++ row_text text f ++ marks_text text f ++ cure_text text c
 
 abbrev pub finding_text : List ℕ → List ℕ → Severity → Finding → List ℕ
-finding_text name text severity f = place_text name text f ++ message_text severity f.number ++ row_text text f ++ marks_text text f
+finding_text name text severity f = caused_text name text severity f (cause_of severity text f)
 
 -- the line of a number, of some lines
 abbrev pub text_at : List (List ℕ) → ℕ → List ℕ

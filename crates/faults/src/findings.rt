@@ -3,11 +3,15 @@
 ghost use Rattle.std.specs.Prelude.{◌≡◌, ◌<◌, ◌≤◌, ◌++◌, ◌+◌, ◌-◌, map, take, length, replicate, codes, decimal, flat_map, max, OnOk, IfOk};
 ghost use Rattle.agc_text.specs.Lines.{lines};
 ghost use Rattle.agc_text.specs.Bytes.{space};
-ghost use Rattle.faults.specs.Report.{shown_byte, margin_byte, numbered, row_text, marks_text, place_text, message_text, finding_text, text_at, shown_finding, count_before, as_error, as_warning, merged, counted, count_text, report};
+ghost use Rattle.faults.specs.Warnings.{parts_in};
+ghost use Rattle.faults.specs.Shown.{shown_byte};
+ghost use Rattle.faults.specs.Causes.{filled, filled_byte};
+ghost use Rattle.faults.specs.Views.{cause_in};
+ghost use Rattle.faults.specs.Report.{margin_byte, numbered, row_text, marks_text, place_text, kind_text, cause_of, message_text, cure_text, finding_text, text_at, shown_finding, count_before, as_error, as_warning, merged, counted, count_text, report};
 
-use crate::mistakes::warning_meaning;
-use crate::refusals::meaning;
-use agc_text::{is_text, next_line};
+use crate::causes::{Cause, fault_cause, text_of};
+use crate::mistakes::{parts_of, warning_meaning};
+use agc_text::{Line, is_text, next_line};
 use arrayvec::ArrayVec;
 use std::alloc::{AllocError, Global};
 use words::push_decimal;
@@ -147,25 +151,87 @@ fn push_place(
     push_number(out, column as u64)
 }
 
-// Appends what a finding is.
-fn push_message(out: &mut Vec<u8>, severity: Severity, number: u8) -> Result<(), AllocError>
-    ensures { OnOk result (out.new.items ≡ out.old.items ++ message_text severity number) }
+// What a finding is.
+fn kind_text(severity: Severity) -> &'static [u8]
+    ensures { result.now ≡ kind_text severity }
 {
     match severity {
-        Severity::Error => push_told(out, b": error E", number, meaning(number)),
-        Severity::Warning => push_told(out, b": warning W", number, warning_meaning(number)),
+        Severity::Error => b": error E",
+        Severity::Warning => b": warning W",
     }
 }
 
-// Appends what kind of a finding a number is of, the number, and what it means.
-fn push_told(out: &mut Vec<u8>, kind: &[u8], number: u8, meaning: &[u8]) -> Result<(), AllocError>
-    ensures { OnOk result (out.new.items ≡ out.old.items ++ kind.now ++ decimal number ++ codes ": " ++ meaning.now ++ codes "\n") }
+// Why it is one, and how it is mended.
+fn cause_of(severity: Severity, text: &[u8], finding: &Finding) -> Cause
+    ensures { cause_in result ≡ cause_of severity text.now finding.now }
 {
-    out.extend_from_slice(kind)?;
-    push_number(out, u64::from(number))?;
+    match severity {
+        Severity::Error => fault_cause(text, finding),
+        Severity::Warning => Cause::said(warning_meaning(finding.number)),
+    }
+}
+
+// Appends what a finding is, and why.
+fn push_message(
+    out: &mut Vec<u8>,
+    text: &[u8],
+    severity: Severity,
+    finding: &Finding,
+    cause: &Cause,
+) -> Result<(), AllocError>
+    ensures { OnOk result (out.new.items ≡ out.old.items ++ message_text text.now severity finding.now (cause_in cause.now)) }
+{
+    out.extend_from_slice(kind_text(severity))?;
+    push_number(out, u64::from(finding.number))?;
     out.extend_from_slice(b": ")?;
-    out.extend_from_slice(meaning)?;
+    push_filled(out, &parts_of(text), cause.other, cause.words)?;
     out.extend_from_slice(b"\n")?;
+    Ok(())
+}
+
+// Appends how a finding is mended, where that is sure.
+fn push_cure(out: &mut Vec<u8>, text: &[u8], cause: &Cause) -> Result<(), AllocError>
+    ensures { OnOk result (out.new.items ≡ out.old.items ++ cure_text text.now (cause_in cause.now)) }
+{
+    if !cause.cure.is_empty() {
+        out.extend_from_slice(b"      = ")?;
+        push_filled(out, &parts_of(text), cause.other, cause.cure)?;
+        out.extend_from_slice(b"\n")?;
+    }
+    Ok(())
+}
+
+// Appends a text with all that its marks stand for.
+fn push_filled(
+    out: &mut Vec<u8>,
+    parts: &Line<'_>,
+    other: &[u8],
+    text: &[u8],
+) -> Result<(), AllocError>
+    ensures { OnOk result (out.new.items ≡ out.old.items ++ filled (parts_in parts.now) other.now text.now) }
+{
+    for byte in text {
+        push_filled_byte(out, parts, other, *byte)?;
+    }
+    Ok(())
+}
+
+// Appends what a byte of a text stands for.
+fn push_filled_byte(
+    out: &mut Vec<u8>,
+    parts: &Line<'_>,
+    other: &[u8],
+    byte: u8,
+) -> Result<(), AllocError>
+    ensures { OnOk result (out.new.items ≡ out.old.items ++ filled_byte (parts_in parts.now) other.now byte) }
+{
+    match byte {
+        b'&' => push_shown(out, text_of(parts.label))?,
+        b'%' => push_shown(out, text_of(parts.operator))?,
+        b'@' => push_shown(out, text_of(parts.operand))?,
+        b'!' => out.extend_from_slice(other)?,
+        _ => out.push(byte)?,
+    }
     Ok(())
 }
 
@@ -202,10 +268,12 @@ fn push_finding(
 ) -> Result<(), AllocError>
     ensures { OnOk result (out.new.items ≡ out.old.items ++ finding_text name.now text.now severity finding.now) }
 {
+    let cause = cause_of(severity, text, finding);
     push_place(out, name, text, finding)?;
-    push_message(out, severity, finding.number)?;
+    push_message(out, text, severity, finding, &cause)?;
     push_row(out, text, finding)?;
-    push_marks(out, text, finding)
+    push_marks(out, text, finding)?;
+    push_cure(out, text, &cause)
 }
 
 // Appends the number of a line, in five columns.

@@ -1,7 +1,7 @@
-use Rattle.std.proofs.Common.{Ok}
+use Rattle.std.proofs.Common.{Ok, ◌++◌, ◌∙◌, ap}
 use Rattle.std.proofs.lemmas.Result.{on_ok_weaker}
-use Rattle.faults.specs.Report.{place_text, message_text, row_text, marks_text}
-use Rattle.faults.proofs.Merging.{four_appended}
+use Rattle.faults.specs.Report.{caused_text}
+use Rattle.faults.proofs.Merging.{five_appended}
 use Rattle.faults.proofs.findings.push_finding.Goals as goal
 
 pub returns : goal.returns
@@ -9,4 +9,8 @@ returns c =
     let place = c.in_ok-push_place.ensures in
     let message = c.in_ok-push_message.ensures in
     let row = c.in_ok-push_row.ensures in
-    on_ok_weaker c.push_marks.result (λ marks. four_appended c.args.out.now.items _ _ _ _ _ _ _ _ place message row marks) c.push_marks.ensures
+    let marks = c.in_ok-push_marks.ensures in
+    on_ok_weaker c.push_cure.result
+        (λ cure. five_appended c.args.out.now.items _ _ _ _ _ _ _ _ _ _ place message row marks cure
+            ∙ ap (λ k. c.args.out.now.items ++ caused_text c.args.name.now c.args.text.now c.args.severity c.args.finding.now k) c.cause_of-cause.ensures)
+        c.push_cure.ensures
