@@ -34,18 +34,19 @@ text_of field = option_map_or (λ p. p.text) field []
 abbrev pub shown_field : Option Piece → List ℕ
 shown_field field = map shown_byte (text_of field)
 
--- what a byte of a text stands for: `&` for the label, `%` for the operator, `@` for the operand, `!` for another text
-abbrev pub filled_byte : Parts → List ℕ → ℕ → List ℕ
-filled_byte parts other byte =
+-- what a byte of a text stands for: `&` for the label, `%` for the operator, `@` for the operand, `!` for another text, `~` for a label
+abbrev pub filled_byte : Parts → List ℕ → List ℕ → ℕ → List ℕ
+filled_byte parts other label byte =
     if byte == 0o46 then shown_field parts.label
     else if byte == 0o45 then shown_field parts.operator
     else if byte == 0o100 then shown_field parts.operand
     else if byte == 0o41 then other
+    else if byte == 0o176 then label
     else byte ∷ []
 
 -- a text with all that its marks stand for
-abbrev pub filled : Parts → List ℕ → List ℕ → List ℕ
-filled parts other text = flat_map (filled_byte parts other) text
+abbrev pub filled : Parts → List ℕ → List ℕ → List ℕ → List ℕ
+filled parts other label text = flat_map (filled_byte parts other label) text
 
 -- ## Fields
 -- a text holds a byte
@@ -101,10 +102,10 @@ is_near (a ∷ rest) (b ∷ others) =
     if a == b then is_near rest others
     else same_name rest others || same_name rest (b ∷ others) || same_name (a ∷ rest) others || is_exchanged (a ∷ rest) (b ∷ others)
 
--- the first operator that is a text in capitals, or is near to a text of three bytes or more
-abbrev pub near_operator : List ℕ → Option (List ℕ)
-near_operator text =
-    option_or (find (is_in_capitals text) operator_names) (if nat_le 3 (length text) then find (is_near text) operator_names else None)
+-- the first of some names that is a text in capitals, or is near to a text of three bytes or more
+abbrev pub near_name : List (List ℕ) → List ℕ → Option (List ℕ)
+near_name names text =
+    option_or (find (is_in_capitals text) names) (if nat_le 3 (length text) then find (is_near text) names else None)
 
 -- operators of other machines, and what stands for them
 abbrev pub foreign_operators : List (List ℕ × List ℕ)
@@ -269,7 +270,7 @@ operator_cause parts =
     else if is_foreign_comment (text_of parts.operator) then cured (codes "% is no operator") (codes "a comment begins with #")
     else if not (is_some parts.label) && is_operator (text_of parts.operand) then cured (codes "% is no operator") (codes "a label begins in the first column: no blank before %")
     else if is_some (value_in foreign_operators (text_of parts.operator)) then cured_by (codes "% is no operator of this assembler") (codes "!") (unwrap_or (value_in foreign_operators (text_of parts.operator)) [])
-    else if is_some (near_operator (text_of parts.operator)) then cured_by (codes "% is no operator") (codes "did you mean !?") (unwrap_or (near_operator (text_of parts.operator)) [])
+    else if is_some (near_name operator_names (text_of parts.operator)) then cured_by (codes "% is no operator") (codes "did you mean !?") (unwrap_or (near_name operator_names (text_of parts.operator)) [])
     else said (codes "% is no operator")
 
 -- E16, of an operator that takes digits, or a bank
@@ -302,20 +303,21 @@ operand_cause more parts =
     else if has_operator octal_operators parts || has_operator decimal_operators parts || has_operator bank_operators parts then digits_cause parts
     else place_cause more parts
 
--- E17 and E18: a symbol that no line, or no earlier one, defines
-abbrev pub symbol_cause : List ℕ → Parts → Cause
-symbol_cause words parts =
+-- E17 and E18: a symbol that no line, or no earlier one, defines, where a label is near to it or none is
+abbrev pub symbol_cause : List ℕ → Bool → Parts → Cause
+symbol_cause words near parts =
     if is_some (value_in registers (text_of parts.operand)) then cured_by words (codes "no register has a name beforehand; this line gives it one: @ EQUALS !") (unwrap_or (value_in registers (text_of parts.operand)) [])
     else if holds 0o54 (text_of parts.operand) then cured words (codes "@ is one name; INDEX on the line before adds to an address")
     else if begins 0o75 (text_of parts.operand) then cured words (codes "a constant has a line of its own, whose label is the operand")
     else if holds 0o53 (text_of parts.operand) || holds 0o55 (text_of parts.operand) then cured words (codes "@ is one name; a blank stands before an offset")
+    else if near then cured words (codes "did you mean ~?")
     else said words
 
-abbrev pub undefined_cause : Parts → Cause
-undefined_cause parts = symbol_cause (codes "no line defines @") parts
+abbrev pub undefined_cause : Bool → Parts → Cause
+undefined_cause near parts = symbol_cause (codes "no line defines @") near parts
 
-abbrev pub early_cause : Parts → Cause
-early_cause parts = symbol_cause (codes "% needs the value of @ here, and no earlier line defines it") parts
+abbrev pub early_cause : Bool → Parts → Cause
+early_cause near parts = symbol_cause (codes "% needs the value of @ here, and no earlier line defines it") near parts
 
 -- E19: a bank that the operator does not take
 abbrev pub bank_cause : Parts → Cause
@@ -352,17 +354,21 @@ range_cause parts =
     else if is_some parts.offset || is_signed (text_of parts.operand) then said (codes "this leads out of its bank, or of the numbers")
     else said (codes "@ is past the last address or number")
 
--- a fault of a line in words
-abbrev pub fault_cause : List ℕ → Finding → Cause
-fault_cause text f =
+-- the label that is near to the symbol of a fault which no line, or no earlier one, defines
+abbrev pub near_label : List (List ℕ) → List ℕ → Finding → Option (List ℕ)
+near_label labels text f = if f.number == 17 || f.number == 18 then near_name labels (text_of (parts_of text).operand) else None
+
+-- a fault of a line in words, where a label is near to its symbol or none is
+abbrev pub fault_cause : Bool → List ℕ → Finding → Cause
+fault_cause near text f =
     if f.number == 10 then byte_cause text f.span.start
     else if f.number == 11 then cured (meaning 11) (codes "part the comment into two lines")
     else if f.number == 13 then label_cause (parts_of text)
     else if f.number == 14 then said (codes "an earlier line has the label &")
     else if f.number == 15 then operator_cause (parts_of text)
     else if f.number == 16 then operand_cause (goes_on text) (parts_of text)
-    else if f.number == 17 then undefined_cause (parts_of text)
-    else if f.number == 18 then early_cause (parts_of text)
+    else if f.number == 17 then undefined_cause near (parts_of text)
+    else if f.number == 18 then early_cause near (parts_of text)
     else if f.number == 19 then bank_cause (parts_of text)
     else if f.number == 20 then room_cause (parts_of text)
     else if f.number == 21 then said (codes "an earlier line has a word at this place")

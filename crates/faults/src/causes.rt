@@ -5,17 +5,17 @@ ghost use Rattle.std.specs.Option.{option_map};
 ghost use Rattle.agc_text.specs.Tables.{value_in};
 ghost use Rattle.agc_text.specs.Views.{piece};
 ghost use Rattle.faults.specs.Warnings.{parts_in, operator_names};
-ghost use Rattle.faults.specs.Causes.{byte_cause, label_cause, operator_cause, digits_cause, place_cause, operand_cause, symbol_cause, undefined_cause, early_cause, bank_cause, room_cause, kind_cause, range_cause, fault_cause, said, cured, cured_by, text_of, holds, begins, is_signed, is_foreign_comment, has_foreign_comment, is_beyond_octal, near_operator, is_in_capitals, capital, is_near, is_exchanged, foreign_operators, registers, label_refusers, octal_operators, decimal_operators, bank_operators, block_operators, plain_operators, channel_operators, erasable_operators, fixed_operators, jump_operators, writers, erasable_readers};
+ghost use Rattle.faults.specs.Causes.{byte_cause, label_cause, operator_cause, digits_cause, place_cause, operand_cause, symbol_cause, undefined_cause, early_cause, bank_cause, room_cause, kind_cause, range_cause, fault_cause, near_label, said, cured, cured_by, text_of, holds, begins, is_signed, is_foreign_comment, has_foreign_comment, is_beyond_octal, near_name, is_in_capitals, capital, is_near, is_exchanged, foreign_operators, registers, label_refusers, octal_operators, decimal_operators, bank_operators, block_operators, plain_operators, channel_operators, erasable_operators, fixed_operators, jump_operators, writers, erasable_readers};
 ghost use Rattle.faults.specs.Views.{cause_in, entries};
 
 use crate::mistakes::{erase_operators, has_operator, is_operator, operator_names};
-use crate::names::is_short;
+use crate::names::{NameSet, is_short};
 use crate::refusals::meaning;
 use agc_text::{Field, Line, decimal_value, octal_value};
 use yayul::Finding;
 
 /// What is wrong, how it is mended or nothing, and a text that stands in either. Marks stand for the fields of the line:
-/// `&` for the label, `%` for the operator, `@` for the operand, `!` for the other text.
+/// `&` for the label, `%` for the operator, `@` for the operand, `!` for the other text, `~` for the label that is near.
 #[derive(Clone, Copy, Drop)]
 pub(crate) struct Cause {
     /// What is wrong.
@@ -49,9 +49,9 @@ impl Cause {
     }
 }
 
-/// A fault of a line in words.
-pub(crate) fn fault_cause(text: &[u8], finding: &Finding) -> Cause
-    ensures { cause_in result ≡ fault_cause text.now finding.now }
+/// A fault of a line in words, where a label is near to its symbol or none is.
+pub(crate) fn fault_cause(text: &[u8], near: bool, finding: &Finding) -> Cause
+    ensures { cause_in result ≡ fault_cause near text.now finding.now }
 {
     let parts = &Line::of(text);
     match finding.number {
@@ -61,8 +61,8 @@ pub(crate) fn fault_cause(text: &[u8], finding: &Finding) -> Cause
         14 => Cause::said(b"an earlier line has the label &"),
         15 => operator_cause(parts),
         16 => operand_cause(parts.more, parts),
-        17 => undefined_cause(parts),
-        18 => early_cause(parts),
+        17 => undefined_cause(near, parts),
+        18 => early_cause(near, parts),
         19 => bank_cause(parts),
         20 => room_cause(parts),
         21 => Cause::said(b"an earlier line has a word at this place"),
@@ -78,6 +78,20 @@ pub(crate) fn fault_cause(text: &[u8], finding: &Finding) -> Cause
         25 => kind_cause(parts),
         26 => range_cause(parts),
         number => Cause::said(meaning(number)),
+    }
+}
+
+/// The label that is near to the symbol of a fault which no line, or no earlier one, defines.
+pub(crate) fn near_label<'a>(
+    labels: &'a NameSet,
+    text: &[u8],
+    finding: &Finding,
+) -> Option<&'a [u8]>
+    ensures { option_map (λ name. name.now) result ≡ near_label labels.now text.now finding.now }
+{
+    match finding.number {
+        17 | 18 => labels.near(text_of(Line::of(text).operand)),
+        _ => None,
     }
 }
 
@@ -238,25 +252,26 @@ fn operand_cause(more: bool, parts: &Line<'_>) -> Cause
 }
 
 // E17: a symbol that no line defines.
-fn undefined_cause(parts: &Line<'_>) -> Cause
-    ensures { cause_in result ≡ undefined_cause (parts_in parts.now) }
+fn undefined_cause(near: bool, parts: &Line<'_>) -> Cause
+    ensures { cause_in result ≡ undefined_cause near (parts_in parts.now) }
 {
-    symbol_cause(b"no line defines @", parts)
+    symbol_cause(b"no line defines @", near, parts)
 }
 
 // E18: a symbol that no earlier line defines.
-fn early_cause(parts: &Line<'_>) -> Cause
-    ensures { cause_in result ≡ early_cause (parts_in parts.now) }
+fn early_cause(near: bool, parts: &Line<'_>) -> Cause
+    ensures { cause_in result ≡ early_cause near (parts_in parts.now) }
 {
     symbol_cause(
         b"% needs the value of @ here, and no earlier line defines it",
+        near,
         parts,
     )
 }
 
 // E17 and E18: a symbol that no line, or no earlier one, defines.
-fn symbol_cause(words: &'static [u8], parts: &Line<'_>) -> Cause
-    ensures { cause_in result ≡ symbol_cause words.now (parts_in parts.now) }
+fn symbol_cause(words: &'static [u8], near: bool, parts: &Line<'_>) -> Cause
+    ensures { cause_in result ≡ symbol_cause words.now near (parts_in parts.now) }
 {
     if let Some(place) = value_in(registers(), text_of(parts.operand)) {
         let cure = b"no register has a name beforehand; this line gives it one: @ EQUALS !";
@@ -273,6 +288,8 @@ fn symbol_cause(words: &'static [u8], parts: &Line<'_>) -> Cause
         )
     } else if holds(b'+', text_of(parts.operand)) || holds(b'-', text_of(parts.operand)) {
         Cause::cured(words, b"@ is one name; a blank stands before an offset")
+    } else if near {
+        Cause::cured(words, b"did you mean ~?")
     } else {
         Cause::said(words)
     }
@@ -425,7 +442,7 @@ fn value_in(table: &'static [(&'static str, &'static str)], text: &[u8]) -> Opti
 
 // The first operator that is a text in capitals, or is near to a text of three bytes or more.
 fn near_operator(text: &[u8]) -> Option<&'static [u8]>
-    ensures { option_map (λ name. name.now) result ≡ near_operator text.now }
+    ensures { option_map (λ name. name.now) result ≡ near_name operator_names text.now }
 {
     match operator_in_capitals(text) {
         Some(name) => Some(name),
@@ -458,8 +475,8 @@ fn operator_near(text: &[u8]) -> Option<&'static [u8]>
     None
 }
 
-// Whether a text in capitals is a name.
-fn is_in_capitals(text: &[u8], name: &[u8]) -> bool
+/// Whether a text in capitals is a name.
+pub(crate) fn is_in_capitals(text: &[u8], name: &[u8]) -> bool
     ensures { result ≡ is_in_capitals text.now name.now }
 {
     match (text.split_first(), name.split_first()) {
@@ -481,8 +498,8 @@ fn capital(byte: u8) -> u8
     }
 }
 
-// Whether one byte of a text differs from a name, or is one too many in either; or two beside one another are exchanged.
-fn is_near(text: &[u8], name: &[u8]) -> bool
+/// Whether one byte of a text differs from a name, or is one too many in either; or two beside one another are exchanged.
+pub(crate) fn is_near(text: &[u8], name: &[u8]) -> bool
     ensures { result ≡ is_near text.now name.now }
 {
     match (text.split_first(), name.split_first()) {

@@ -130,8 +130,8 @@ pub(crate) fn parts_of(text: &[u8]) -> Line<'_>
     Line::of(text)
 }
 
-// Adds a field to some names, where it stands.
-fn add_field(names: &mut NameSet, field: Option<Field<'_>>) -> Result<(), AllocError>
+/// Adds a field to some names, where it stands.
+pub(crate) fn add_field(names: &mut NameSet, field: Option<Field<'_>>) -> Result<(), AllocError>
     ensures { OnOk result (names.new ≡ with_field names.old (option_map piece field.entry)) }
 {
     match field {
