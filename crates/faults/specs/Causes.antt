@@ -7,6 +7,8 @@ use Rattle.agc_text.specs.Fields.{Piece, fields, others_of}
 use Rattle.agc_text.specs.Tables.{same_name, value_in}
 use Rattle.yayul.specs.declared.finding.Finding.{Finding}
 use Rattle.faults.specs.Refusals.{meaning}
+use Rattle.faults.specs.declared.causes.Closeness.{Closeness}
+use Rattle.faults.specs.declared.causes.Closeness.TheVariants.{AsLong, InCapitals, Near}
 use Rattle.faults.specs.Shown.{shown_byte}
 use Rattle.faults.specs.Warnings.{Parts, erase_operators, has_operator, is_among, is_short, operator_names, parts_of}
 
@@ -102,10 +104,17 @@ is_near (a ∷ rest) (b ∷ others) =
     if a == b then is_near rest others
     else same_name rest others || same_name rest (b ∷ others) || same_name (a ∷ rest) others || is_exchanged (a ∷ rest) (b ∷ others)
 
--- the first of some names that is a text in capitals, or is near to a text of three bytes or more
+-- a text that a name is in capitals; one that is near and as long; or one that is near
+abbrev pub is_close : Closeness → List ℕ → List ℕ → Bool
+is_close InCapitals text name = is_in_capitals text name
+is_close AsLong text name = length text == length name && is_near text name
+is_close Near text name = is_near text name
+
+-- the first of some names that is a text in capitals; else, for a text of three bytes or more, one that is near, as long where there is one
 abbrev pub near_name : List (List ℕ) → List ℕ → Option (List ℕ)
 near_name names text =
-    option_or (find (is_in_capitals text) names) (if nat_le 3 (length text) then find (is_near text) names else None)
+    option_or (find (is_close InCapitals text) names)
+    (if nat_le 3 (length text) then option_or (find (is_close AsLong text) names) (find (is_close Near text) names) else None)
 
 -- operators of other machines, and what stands for them
 abbrev pub foreign_operators : List (List ℕ × List ℕ)

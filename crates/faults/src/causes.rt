@@ -5,7 +5,7 @@ ghost use Rattle.std.specs.Option.{option_map};
 ghost use Rattle.agc_text.specs.Tables.{value_in};
 ghost use Rattle.agc_text.specs.Views.{piece};
 ghost use Rattle.faults.specs.Warnings.{parts_in, operator_names};
-ghost use Rattle.faults.specs.Causes.{byte_cause, label_cause, operator_cause, digits_cause, place_cause, operand_cause, symbol_cause, undefined_cause, early_cause, bank_cause, room_cause, kind_cause, range_cause, fault_cause, near_label, said, cured, cured_by, text_of, holds, begins, is_signed, is_foreign_comment, has_foreign_comment, is_beyond_octal, near_name, is_in_capitals, capital, is_near, is_exchanged, foreign_operators, registers, label_refusers, octal_operators, decimal_operators, bank_operators, block_operators, plain_operators, channel_operators, erasable_operators, fixed_operators, jump_operators, writers, erasable_readers};
+ghost use Rattle.faults.specs.Causes.{byte_cause, label_cause, operator_cause, digits_cause, place_cause, operand_cause, symbol_cause, undefined_cause, early_cause, bank_cause, room_cause, kind_cause, range_cause, fault_cause, near_label, said, cured, cured_by, text_of, holds, begins, is_signed, is_foreign_comment, has_foreign_comment, is_beyond_octal, near_name, is_close, is_in_capitals, capital, is_near, is_exchanged, foreign_operators, registers, label_refusers, octal_operators, decimal_operators, bank_operators, block_operators, plain_operators, channel_operators, erasable_operators, fixed_operators, jump_operators, writers, erasable_readers};
 ghost use Rattle.faults.specs.Views.{cause_in, entries};
 
 use crate::mistakes::{erase_operators, has_operator, is_operator, operator_names};
@@ -25,6 +25,20 @@ pub(crate) struct Cause {
     /// The other text.
     pub(crate) other: &'static [u8],
 }
+
+/// How close a name is to a text.
+#[derive(Clone, Copy, Drop)]
+pub(crate) enum Closeness {
+    /// It is the text in capitals.
+    InCapitals,
+    /// It is near, and as long.
+    AsLong,
+    /// It is near.
+    Near,
+}
+
+/// The fewest bytes of a text for which names that are near are sought.
+pub(crate) const SHORTEST: usize = 3;
 
 impl Cause {
     /// A cause without a cure.
@@ -440,43 +454,45 @@ fn value_in(table: &'static [(&'static str, &'static str)], text: &[u8]) -> Opti
     None
 }
 
-// The first operator that is a text in capitals, or is near to a text of three bytes or more.
+// The first operator that is a text in capitals; else, for a text of three bytes or more, one that is near.
 fn near_operator(text: &[u8]) -> Option<&'static [u8]>
     ensures { option_map (λ name. name.now) result ≡ near_name operator_names text.now }
 {
-    match operator_in_capitals(text) {
+    match close_operator(Closeness::InCapitals, text) {
         Some(name) => Some(name),
-        None if text.len() >= 3 => operator_near(text),
+        None if text.len() >= SHORTEST => match close_operator(Closeness::AsLong, text) {
+            Some(name) => Some(name),
+            None => close_operator(Closeness::Near, text),
+        },
         None => None,
     }
 }
 
-// The first operator that is a text in capitals.
-fn operator_in_capitals(text: &[u8]) -> Option<&'static [u8]>
-    ensures { option_map (λ name. name.now) result ≡ find (is_in_capitals text.now) operator_names }
+// The first operator that is close to a text.
+fn close_operator(closeness: Closeness, text: &[u8]) -> Option<&'static [u8]>
+    ensures { option_map (λ name. name.now) result ≡ find (is_close closeness text.now) operator_names }
 {
     for name in operator_names() {
-        if is_in_capitals(text, name.as_bytes()) {
+        if is_close(closeness, text, name.as_bytes()) {
             return Some(name.as_bytes());
         }
     }
     None
 }
 
-// The first operator that is near to a text.
-fn operator_near(text: &[u8]) -> Option<&'static [u8]>
-    ensures { option_map (λ name. name.now) result ≡ find (is_near text.now) operator_names }
+/// Whether a name is close to a text.
+pub(crate) fn is_close(closeness: Closeness, text: &[u8], name: &[u8]) -> bool
+    ensures { result ≡ is_close closeness text.now name.now }
 {
-    for name in operator_names() {
-        if is_near(text, name.as_bytes()) {
-            return Some(name.as_bytes());
-        }
+    match closeness {
+        Closeness::InCapitals => is_in_capitals(text, name),
+        Closeness::AsLong => text.len() == name.len() && is_near(text, name),
+        Closeness::Near => is_near(text, name),
     }
-    None
 }
 
-/// Whether a text in capitals is a name.
-pub(crate) fn is_in_capitals(text: &[u8], name: &[u8]) -> bool
+// Whether a text in capitals is a name.
+fn is_in_capitals(text: &[u8], name: &[u8]) -> bool
     ensures { result ≡ is_in_capitals text.now name.now }
 {
     match (text.split_first(), name.split_first()) {
@@ -498,8 +514,8 @@ fn capital(byte: u8) -> u8
     }
 }
 
-/// Whether one byte of a text differs from a name, or is one too many in either; or two beside one another are exchanged.
-pub(crate) fn is_near(text: &[u8], name: &[u8]) -> bool
+// Whether one byte of a text differs from a name, or is one too many in either; or two beside one another are exchanged.
+fn is_near(text: &[u8], name: &[u8]) -> bool
     ensures { result ≡ is_near text.now name.now }
 {
     match (text.split_first(), name.split_first()) {

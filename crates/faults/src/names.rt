@@ -2,12 +2,12 @@
 
 ghost use Rattle.std.specs.Prelude.{◌≡◌, ◌<◌, [], Some, length, map, find, slice_get, OnOk};
 ghost use Rattle.std.specs.Option.{option_map};
-ghost use Rattle.faults.specs.Causes.{near_name, is_in_capitals, is_near};
+ghost use Rattle.faults.specs.Causes.{near_name, is_close};
 ghost use Rattle.std.specs.List.{list_any};
 ghost use Rattle.agc_text.specs.Tables.{same_name};
 ghost use Rattle.faults.specs.Warnings.{is_among, is_short, with_name};
 
-use crate::causes::{is_in_capitals, is_near};
+use crate::causes::{Closeness, SHORTEST, is_close};
 use std::alloc::{AllocError, Global};
 use std::marker::Model;
 use symbols::{NAME_LENGTH, Name, Symbols};
@@ -48,7 +48,7 @@ impl NameSet {
         Ok(())
     }
 
-    /// The first that is a text in capitals, or is near to a text of three bytes or more.
+    /// The first that is a text in capitals; else, for a text of three bytes or more, one that is near.
     pub(crate) fn near(&self, text: &[u8]) -> Option<&[u8]>
         ensures { option_map (λ name. name.now) result ≡ near_name self.now text.now }
     {
@@ -63,39 +63,28 @@ impl NameSet {
     }
 }
 
-// The first of some names that is a text in capitals, or is near to a text of three bytes or more.
+// The first of some names that is a text in capitals; else, for a text of three bytes or more, one that is near.
 fn near_name<'a>(symbols: &'a Symbols, text: &[u8]) -> Option<&'a [u8]>
     ensures { option_map (λ name. name.now) result ≡ near_name (map (λ e. e.0) symbols.now) text.now }
 {
-    match name_in_capitals(symbols, text) {
+    match close_name(symbols, Closeness::InCapitals, text) {
         Some(name) => Some(name),
-        None if text.len() >= 3 => name_nearby(symbols, text),
+        None if text.len() >= SHORTEST => match close_name(symbols, Closeness::AsLong, text) {
+            Some(name) => Some(name),
+            None => close_name(symbols, Closeness::Near, text),
+        },
         None => None,
     }
 }
 
-// The first of some names that is a text in capitals.
+// The first of some names that is close to a text.
 #[tactic(auto, using(crate::proofs::Pushed::find_here, crate::proofs::Pushed::find_on))]
-fn name_in_capitals<'a>(symbols: &'a Symbols, text: &[u8]) -> Option<&'a [u8]>
-    ensures { option_map (λ name. name.now) result ≡ find (is_in_capitals text.now) (map (λ e. e.0) symbols.now) }
+fn close_name<'a>(symbols: &'a Symbols, closeness: Closeness, text: &[u8]) -> Option<&'a [u8]>
+    ensures { option_map (λ name. name.now) result ≡ find (is_close closeness text.now) (map (λ e. e.0) symbols.now) }
 {
     for index in 0..symbols.len() {
         let name = name_at(symbols, index);
-        if is_in_capitals(text, name) {
-            return Some(name);
-        }
-    }
-    None
-}
-
-// The first of some names that is near to a text.
-#[tactic(auto, using(crate::proofs::Pushed::find_here, crate::proofs::Pushed::find_on))]
-fn name_nearby<'a>(symbols: &'a Symbols, text: &[u8]) -> Option<&'a [u8]>
-    ensures { option_map (λ name. name.now) result ≡ find (is_near text.now) (map (λ e. e.0) symbols.now) }
-{
-    for index in 0..symbols.len() {
-        let name = name_at(symbols, index);
-        if is_near(text, name) {
+        if is_close(closeness, text, name) {
             return Some(name);
         }
     }
