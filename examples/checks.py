@@ -29,6 +29,38 @@ MISTAKES = [
     (" SETLOC NOWHERE;X ERASE; CA 5", [(1, 9, 18)]),
     ("X EQUALS 10 11 12;LONGNAMES TS X", [(1, 10, 16), (2, 1, 13)]),
 ]
+# What people write, a stroke between two lines, and what is said of each fault: line and column, the number with its words, and the cure where one is sure.
+SAID = [
+    ("START CA FIV| AD SIKS| TFC START|FIVE OCT 5|SIX OCT 6", [
+        (1, 10, "E17: no line defines FIV", "did you mean FIVE?"), (2, 5, "E17: no line defines SIKS", ""), (3, 2, "E15: TFC is no operator", "did you mean TCF?")]),
+    (" ca five|five oct 5", [(1, 2, "E15: ca is no operator", "did you mean CA?"), (2, 6, "E15: oct is no operator", "did you mean OCT?")]),
+    (" CA TAB,1|TAB OCT 1", [(1, 5, "E17: no line defines TAB,1", "TAB,1 is one name; INDEX on the line before adds to an address")]),
+    (" OCT 9", [(1, 6, "E16: OCT takes octal digits, 0 to 7, and 9 is no such number", "DEC takes decimal digits")]),
+    (" CA A| TS L", [
+        (1, 5, "E17: no line defines A", "no register has a name beforehand; this line gives it one: A EQUALS 0"),
+        (2, 5, "E17: no line defines L", "no register has a name beforehand; this line gives it one: L EQUALS 1")]),
+    (" MP X|X OCT 1", [(1, 2, "E23: MP is an extracode, and EXTEND does not stand before it", "EXTEND on the line before, behind a blank")]),
+    ("CA FIVE|FIVE OCT 5", [(1, 4, "E15: CA stands in the first column, so it is a label, and FIVE is taken for the operator", "put a blank before CA")]),
+    (" ; adds| OCT 1", [(1, 2, "E15: ; is no operator", "a comment begins with #")]),
+    (" CA X ; it|X OCT 1", [(1, 5, "E16: the operand does not end where a comment was meant to begin", "a comment begins with #")]),
+    (" OCT 1\r| OCT 2\r", [(1, 7, "E10: a carriage return ends the line; only a line feed may", "")]),
+    ("LONGLABEL OCT 1", [(1, 1, "E13: LONGLABEL has more than 8 characters, the most of a label", "")]),
+    (" TS SUM|SUM OCT 0", [(1, 5, "E25: TS writes to erasable memory, and SUM is not there", "reserve the word there: SETLOC and a place below 4000, and ERASE")]),
+    (" SETLOC 4024| TC 0| TC 0| TC 0| TC 0| TC 0| SETLOC 4030| TC 0", [(8, 2, "E21: an earlier line has a word at this place", "")]),
+    (" TC START|START: OCT 1", [(1, 5, "E17: no line defines START", "did you mean START:?")]),
+    (" OCT 0x1F", [(1, 6, "E16: OCT takes octal digits, 0 to 7, and 0x1F is no such number", "DEC takes decimal digits")]),
+    (" OCT -1", [(1, 6, "E16: OCT takes no sign", "DEC takes one; a minus complements the word")]),
+    (" CA =5", [(1, 5, "E17: no line defines =5", "a constant has a line of its own, whose label is the operand")]),
+    (" LDA X| JMP X|X OCT 1", [(1, 2, "E15: LDA is no operator of this assembler", "CA loads A"), (2, 2, "E15: JMP is no operator of this assembler", "TCF goes on in fixed memory, TC anywhere")]),
+    ("X OCT 1|X OCT 2", [(2, 1, "E14: an earlier line has the label X", "")]),
+    (" BANK 18| OCT 1", [(1, 7, "E16: banks are octal, and 18 has a digit 8 or 9", "BANK 18D takes it as decimal")]),
+    (" SETLOC 100|X ERASE| CA X", [(3, 2, "E22: words stand in fixed memory, and the location is in erasable memory", "SETLOC and a fixed place, or BANK, before it")]),
+    (" CCS FIVE|FIVE OCT 5", [(1, 6, "E25: CCS takes a word of erasable memory, and FIVE is not there", "copy the word to erasable memory first")]),
+    (" EXTEND| CA X|X OCT 1", [(2, 2, "E24: EXTEND stands before CA, which is no extracode", "take EXTEND out")]),
+    ("X EQU 5| ORG 4000", [(1, 3, "E15: EQU is no operator of this assembler", "EQUALS gives a name its value"), (2, 2, "E15: ORG is no operator of this assembler", "SETLOC sets the location")]),
+    (" 2DEC 1.5", [(1, 2, "E15: 2DEC is no operator of this assembler", "two words: a DEC for each")]),
+    (" OCT 1 # \xdc", [(1, 10, "E10: this byte is not ASCII, and a line holds ASCII alone, its comment too", "")]),
+]
 # Sources with what is likely a mistake, and the warnings that are told of each with --unused, in order. START, DONE and what is reserved last are named by a line of their own.
 WARNINGS = [
     (" OCT 1", []),
@@ -108,14 +140,35 @@ def check_mistakes(program, room, told):
         told(f"check of {shown}", (status, found, errors) == (int(bool(wanted)), wanted, b"") and end[0].startswith(count + b", "), f"wanted {wanted}, got {found} {end}")
 
 
+def said_by(program, path):
+    """What a check says of each fault: line and column, the number with its words, and the cure."""
+    ran = subprocess.run([program, "check", path], capture_output=True, timeout=60)
+    found = []
+    for row in ran.stdout.decode("latin-1").split("\n"):
+        if fault := re.match(re.escape(path) + r":(\d+):(\d+): error (E\d+: .+)$", row):
+            found.append((int(fault[1]), int(fault[2]), fault[3], ""))
+        elif row.startswith("      = "):
+            found[-1] = *found[-1][:3], row[8:]
+    return found
+
+
+def check_said(program, room, told):
+    path = f"{room}/said.agc"
+    for shown, wanted in SAID:
+        with open(path, "wb") as file:
+            file.write(shown.replace("|", "\n").encode("latin-1") + b"\n")
+        got = said_by(program, path)
+        told(f"what check says of {shown}", got == wanted, f"wanted {wanted}, got {got}")
+
+
 def check_excerpt(program, room, told):
     path = f"{room}/excerpt.agc"
     with open(path, "wb") as file:
         file.write(b"X OCT 1\n\tCA\tFIV # \xb5\n CA FIV +1\n")
-    wanted = f"""{path}:2:11: error E10: a byte stands here that a line may not hold
+    wanted = f"""{path}:2:11: error E10: this byte is not ASCII, and a line holds ASCII alone, its comment too
     2 | \tCA\tFIV # ?
       | \t  \t      ^
-{path}:3:5: error E17: no line defines this symbol
+{path}:3:5: error E17: no line defines FIV
     3 |  CA FIV +1
       |     ^^^
 2 errors, 0 warnings
@@ -182,6 +235,7 @@ def check_agreement(program, room, told, count=400, seed="agreement"):
 
 def check_checks(program, room, told, manual):
     check_mistakes(program, room, told)
+    check_said(program, room, told)
     check_excerpt(program, room, told)
     check_warnings(program, room, told)
     check_examples_quiet(program, told, os.path.dirname(os.path.abspath(__file__)))

@@ -469,10 +469,12 @@ const CHECK_HELP: &str = "Files:
   SRC  a source, as agcws asm takes it
 
 Output: for each fault, in the order of lines and columns,
-  my.agc:2:17: error E17: no line defines this symbol
+  my.agc:2:17: error E17: no line defines FIV
       2 | START   CA      FIV
         |                 ^^^
-with the file, the line and the column, and then how many there are. A fault
+        = did you mean FIVE?
+with the file, the line and the column, what is wrong and how it is mended,
+where that is sure, and then how many there are. A fault
 that follows from another, as that of a symbol whose own line is refused, is
 left out. agcws explain E17 tells what draws E17, and its cures.
 

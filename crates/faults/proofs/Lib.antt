@@ -1,3 +1,4 @@
 pub mod Merging
 mod Pushed
 mod WarningRows
+mod CauseRows

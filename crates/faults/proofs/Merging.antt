@@ -52,11 +52,12 @@ name_added table after text added value short says is =
           ∙ map-append (λ e. e.0) table ((text, value) ∷ [])))
     ]
 
--- four texts appended
-pub four_appended :
-    (out a b c d o1 o2 o3 o4 : List ℕ) → o1 ≡ out ++ a → o2 ≡ o1 ++ b → o3 ≡ o2 ++ c → o4 ≡ o3 ++ d → o4 ≡ out ++ (a ++ b ++ c ++ d)
-four_appended out a b c d o1 o2 o3 o4 e1 e2 e3 e4 =
-    e4 ∙ ap (λ o. o ++ d) (e3 ∙ ap (λ o. o ++ c) (e2 ∙ ap (λ o. o ++ b) e1 ∙ append_assoc out a b) ∙ append_assoc out (a ++ b) c) ∙ append_assoc out (a ++ b ++ c) d
+-- five texts appended
+pub five_appended :
+    (out a b c d e o1 o2 o3 o4 o5 : List ℕ) → o1 ≡ out ++ a → o2 ≡ o1 ++ b → o3 ≡ o2 ++ c → o4 ≡ o3 ++ d → o5 ≡ o4 ++ e → o5 ≡ out ++ (a ++ b ++ c ++ d ++ e)
+five_appended out a b c d e o1 o2 o3 o4 o5 e1 e2 e3 e4 e5 =
+    e5 ∙ ap (λ o. o ++ e) (e4 ∙ ap (λ o. o ++ d) (e3 ∙ ap (λ o. o ++ c) (e2 ∙ ap (λ o. o ++ b) e1 ∙ append_assoc out a b) ∙ append_assoc out (a ++ b) c)
+    ∙ append_assoc out (a ++ b ++ c) d) ∙ append_assoc out (a ++ b ++ c ++ d) e
 
 -- a name that is a text which is no longer than a label
 pub short_name : (name text : List ℕ) → length text ≤ 8 → name ≡ text → is_short name ≡ true

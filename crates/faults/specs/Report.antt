@@ -1,17 +1,14 @@
 -- The faults and the warnings of a source as lines of text.
-use Rattle.std.specs.Prelude.{ℕ, ◌+◌, ◌-◌, ◌==◌, List, [], ◌∷◌, ◌++◌, length, map, take, drop, max, min, replicate, codes, decimal, flat_map, nat_le, slice_get, unwrap_or, if◌then◌else◌}
-use Rattle.std.specs.List.{position_or_len}
-use Rattle.agc_text.specs.Bytes.{is_text_byte, space, tab}
+use Rattle.std.specs.Prelude.{ℕ, ◌+◌, ◌-◌, ◌==◌, List, [], ◌∷◌, ◌++◌, length, map, take, drop, max, min, replicate, codes, decimal, flat_map, nat_le, Bool, Option, is_some, slice_get, unwrap_or, if◌then◌else◌}
+use Rattle.std.specs.List.{fold, position_or_len}
+use Rattle.agc_text.specs.Bytes.{space, tab}
 use Rattle.agc_text.specs.Lines.{lines}
 use Rattle.yayul.specs.declared.finding.Finding.{Finding}
-use Rattle.faults.specs.Refusals.{meaning}
-use Rattle.faults.specs.Warnings.{warning_meaning}
+use Rattle.faults.specs.Causes.{Cause, fault_cause, filled, near_label, said}
+use Rattle.faults.specs.Shown.{shown_byte}
+use Rattle.faults.specs.Warnings.{parts_of, warning_meaning, with_field}
 use Rattle.faults.specs.declared.findings.Severity.{Severity}
 use Rattle.faults.specs.declared.findings.Severity.TheVariants.{Error, Warning}
-
--- a byte as it is shown: a question mark for one that a line may not hold
-abbrev pub shown_byte : ℕ → ℕ
-shown_byte byte = if is_text_byte byte then byte else 0o77
 
 -- what stands under a byte, so that what follows stands under what follows it
 abbrev pub margin_byte : ℕ → ℕ
@@ -34,20 +31,46 @@ abbrev pub place_text : List ℕ → List ℕ → Finding → List ℕ
 place_text name text f = name ++ codes ":" ++ decimal f.line ++ codes ":" ++ decimal (min f.span.start (length text) + 1)
 
 -- what it is
-abbrev pub message_text : Severity → ℕ → List ℕ
-message_text Error number = codes ": error E" ++ decimal number ++ codes ": " ++ meaning number ++ codes "\n"
-message_text Warning number = codes ": warning W" ++ decimal number ++ codes ": " ++ warning_meaning number ++ codes "\n"
+abbrev pub kind_text : Severity → List ℕ
+kind_text Error = codes ": error E"
+kind_text Warning = codes ": warning W"
 
-abbrev pub finding_text : List ℕ → List ℕ → Severity → Finding → List ℕ
-finding_text name text severity f = place_text name text f ++ message_text severity f.number ++ row_text text f ++ marks_text text f
+-- why it is one, and how it is mended
+abbrev pub cause_of : Severity → Bool → List ℕ → Finding → Cause
+cause_of Error near text f = fault_cause near text f
+cause_of Warning near text f = said (warning_meaning f.number)
+
+abbrev pub message_text : List ℕ → List ℕ → Severity → Finding → Cause → List ℕ
+message_text text label severity f c =
+    kind_text severity ++ decimal f.number ++ codes ": " ++ filled (parts_of text) c.other label c.words ++ codes "\n"
+
+-- its cure, in a row of its own, where there is one
+abbrev pub cure_text : List ℕ → List ℕ → Cause → List ℕ
+cure_text text label c = if length c.cure == 0 then [] else codes "      = " ++ filled (parts_of text) c.other label c.cure ++ codes "\n"
+
+-- a finding with why it is one, and the label that is near to its symbol
+abbrev pub caused_text : List ℕ → List ℕ → List ℕ → Severity → Finding → Cause → List ℕ
+caused_text name text label severity f c = place_text name text f ++ message_text text label severity f c ++ row_text text f ++ marks_text text f ++ cure_text text label c
+
+-- a finding, where a label is near to its symbol or none is
+abbrev pub finding_text : List ℕ → List ℕ → Option (List ℕ) → Severity → Finding → List ℕ
+finding_text name text near severity f = caused_text name text (unwrap_or near []) severity f (cause_of severity (is_some near) text f)
 
 -- the line of a number, of some lines
 abbrev pub text_at : List (List ℕ) → ℕ → List ℕ
 text_at texts line = unwrap_or (slice_get texts (line - 1)) []
 
 -- the lines of a finding of a source
-abbrev pub shown_finding : List ℕ → List (List ℕ) → Severity × Finding → List ℕ
-shown_finding name texts f = finding_text name (text_at texts f.1.line) f.0 f.1
+abbrev pub shown_finding : List ℕ → List (List ℕ) → List (List ℕ) → Severity × Finding → List ℕ
+shown_finding name labels texts f = finding_text name (text_at texts f.1.line) (near_label labels (text_at texts f.1.line) f.1) f.0 f.1
+
+-- the labels of some lines, each once
+abbrev pub labels_of : List (List ℕ) → List (List ℕ)
+labels_of texts = fold (λ labels text. with_field labels (parts_of text).label) [] texts
+
+-- the labels among which one is sought that is near to a symbol: those of all lines, where at most 100 faults are told
+abbrev pub sought_labels : List (List ℕ) → List Finding → List (List ℕ)
+sought_labels texts faults = if nat_le (length faults) 100 then labels_of texts else []
 
 -- how many of some findings in order stand before a line
 abbrev pub count_before : ℕ → List Finding → ℕ
@@ -78,4 +101,4 @@ count_text errors warnings = counted errors (codes "error") ++ codes ", " ++ cou
 -- the lines of the faults and the warnings of a source, and how many there are
 unfoldable pub report : List ℕ → List ℕ → List Finding → List Finding → List ℕ
 report name source faults warnings =
-    flat_map (shown_finding name (lines source)) (merged faults warnings) ++ count_text (length faults) (length warnings)
+    flat_map (shown_finding name (sought_labels (lines source) faults) (lines source)) (merged faults warnings) ++ count_text (length faults) (length warnings)

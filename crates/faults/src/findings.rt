@@ -1,13 +1,19 @@
 //! The faults and the warnings of a source as lines of text.
 
-ghost use Rattle.std.specs.Prelude.{◌≡◌, ◌<◌, ◌≤◌, ◌++◌, ◌+◌, ◌-◌, map, take, length, replicate, codes, decimal, flat_map, max, OnOk, IfOk};
+ghost use Rattle.std.specs.Prelude.{◌≡◌, ◌<◌, ◌≤◌, ◌++◌, ◌+◌, ◌-◌, map, take, length, replicate, codes, decimal, flat_map, max, unwrap_or, [], OnOk, IfOk};
+ghost use Rattle.std.specs.Option.{option_map};
 ghost use Rattle.agc_text.specs.Lines.{lines};
 ghost use Rattle.agc_text.specs.Bytes.{space};
-ghost use Rattle.faults.specs.Report.{shown_byte, margin_byte, numbered, row_text, marks_text, place_text, message_text, finding_text, text_at, shown_finding, count_before, as_error, as_warning, merged, counted, count_text, report};
+ghost use Rattle.faults.specs.Warnings.{parts_in};
+ghost use Rattle.faults.specs.Shown.{shown_byte};
+ghost use Rattle.faults.specs.Causes.{filled, filled_byte};
+ghost use Rattle.faults.specs.Views.{cause_in};
+ghost use Rattle.faults.specs.Report.{margin_byte, numbered, row_text, marks_text, place_text, kind_text, cause_of, caused_text, message_text, cure_text, finding_text, text_at, shown_finding, labels_of, sought_labels, count_before, as_error, as_warning, merged, counted, count_text, report};
 
-use crate::mistakes::warning_meaning;
-use crate::refusals::meaning;
-use agc_text::{is_text, next_line};
+use crate::causes::{Cause, fault_cause, near_label, text_of};
+use crate::mistakes::{add_field, parts_of, warning_meaning};
+use crate::names::NameSet;
+use agc_text::{Line, is_text, next_line};
 use arrayvec::ArrayVec;
 use std::alloc::{AllocError, Global};
 use words::push_decimal;
@@ -15,6 +21,9 @@ use yayul::{Finding, Span};
 
 /// How many digits a number has at most.
 const DIGITS: usize = 20;
+
+/// The most faults of a source where labels are sought that are near to a symbol.
+const MOST_FAULTS: usize = 100;
 
 /// How many columns the number of a line has.
 const NUMBER_WIDTH: usize = 5;
@@ -40,10 +49,33 @@ pub fn report(
     ensures { IfOk result (λ text. text.items ≡ report name.now source.now faults.now warnings.now) }
 {
     let texts = line_texts(alloc, source)?;
+    let labels = sought_labels(alloc, &texts, faults)?;
     let mut out = Vec::new(alloc);
-    push_merged(&mut out, name, &texts, faults, warnings)?;
+    push_merged(&mut out, name, &labels, &texts, faults, warnings)?;
     push_counts(&mut out, faults.len(), warnings.len())?;
     Ok(out)
+}
+
+// The labels among which one is sought that is near to a symbol: those of all lines, where few faults are told.
+fn sought_labels(alloc: Global, texts: &[&[u8]], faults: &[Finding]) -> Result<NameSet, AllocError>
+    ensures { IfOk result (λ labels. labels ≡ sought_labels (map (λ t. t.now) texts.now) faults.now) }
+{
+    if faults.len() <= MOST_FAULTS {
+        labels_of(alloc, texts)
+    } else {
+        Ok(NameSet::new(alloc))
+    }
+}
+
+// The labels of some lines, each once.
+fn labels_of(alloc: Global, texts: &[&[u8]]) -> Result<NameSet, AllocError>
+    ensures { IfOk result (λ labels. labels ≡ labels_of (map (λ t. t.now) texts.now)) }
+{
+    let mut labels = NameSet::new(alloc);
+    for text in texts {
+        add_field(&mut labels, parts_of(text).label)?;
+    }
+    Ok(labels)
 }
 
 // The lines of a source.
@@ -63,20 +95,21 @@ pub(crate) fn line_texts(alloc: Global, source: &[u8]) -> Result<Vec<&[u8]>, All
 fn push_merged(
     out: &mut Vec<u8>,
     name: &[u8],
+    labels: &NameSet,
     texts: &[&[u8]],
     faults: &[Finding],
     warnings: &[Finding],
 ) -> Result<(), AllocError>
-    ensures { OnOk result (out.new.items ≡ out.old.items ++ flat_map (shown_finding name.now (map (λ t. t.now) texts.now)) (merged faults.now warnings.now)) }
+    ensures { OnOk result (out.new.items ≡ out.old.items ++ flat_map (shown_finding name.now labels.now (map (λ t. t.now) texts.now)) (merged faults.now warnings.now)) }
 {
     let mut rest = warnings;
     for fault in faults {
         let (earlier, later) = rest.split_at(count_before(fault.line, rest));
-        push_warnings(out, name, texts, earlier)?;
-        push_shown_finding(out, name, texts, Severity::Error, fault)?;
+        push_warnings(out, name, labels, texts, earlier)?;
+        push_shown_finding(out, name, labels, texts, Severity::Error, fault)?;
         rest = later;
     }
-    push_warnings(out, name, texts, rest)
+    push_warnings(out, name, labels, texts, rest)
 }
 
 // How many of some findings in order stand before a line.
@@ -96,13 +129,14 @@ fn count_before(line: u32, findings: &[Finding]) -> usize
 fn push_warnings(
     out: &mut Vec<u8>,
     name: &[u8],
+    labels: &NameSet,
     texts: &[&[u8]],
     warnings: &[Finding],
 ) -> Result<(), AllocError>
-    ensures { OnOk result (out.new.items ≡ out.old.items ++ flat_map (shown_finding name.now (map (λ t. t.now) texts.now)) (map as_warning warnings.now)) }
+    ensures { OnOk result (out.new.items ≡ out.old.items ++ flat_map (shown_finding name.now labels.now (map (λ t. t.now) texts.now)) (map as_warning warnings.now)) }
 {
     for warning in warnings {
-        push_shown_finding(out, name, texts, Severity::Warning, warning)?;
+        push_shown_finding(out, name, labels, texts, Severity::Warning, warning)?;
     }
     Ok(())
 }
@@ -111,13 +145,22 @@ fn push_warnings(
 fn push_shown_finding(
     out: &mut Vec<u8>,
     name: &[u8],
+    labels: &NameSet,
     texts: &[&[u8]],
     severity: Severity,
     finding: &Finding,
 ) -> Result<(), AllocError>
-    ensures { OnOk result (out.new.items ≡ out.old.items ++ shown_finding name.now (map (λ t. t.now) texts.now) (severity, finding.now)) }
+    ensures { OnOk result (out.new.items ≡ out.old.items ++ shown_finding name.now labels.now (map (λ t. t.now) texts.now) (severity, finding.now)) }
 {
-    push_finding(out, name, text_at(texts, finding.line), severity, finding)
+    let text = text_at(texts, finding.line);
+    push_finding(
+        out,
+        name,
+        text,
+        near_label(labels, text, finding),
+        severity,
+        finding,
+    )
 }
 
 // The line of a number; one that does not stand is empty.
@@ -147,25 +190,91 @@ fn push_place(
     push_number(out, column as u64)
 }
 
-// Appends what a finding is.
-fn push_message(out: &mut Vec<u8>, severity: Severity, number: u8) -> Result<(), AllocError>
-    ensures { OnOk result (out.new.items ≡ out.old.items ++ message_text severity number) }
+// What a finding is.
+fn kind_text(severity: Severity) -> &'static [u8]
+    ensures { result.now ≡ kind_text severity }
 {
     match severity {
-        Severity::Error => push_told(out, b": error E", number, meaning(number)),
-        Severity::Warning => push_told(out, b": warning W", number, warning_meaning(number)),
+        Severity::Error => b": error E",
+        Severity::Warning => b": warning W",
     }
 }
 
-// Appends what kind of a finding a number is of, the number, and what it means.
-fn push_told(out: &mut Vec<u8>, kind: &[u8], number: u8, meaning: &[u8]) -> Result<(), AllocError>
-    ensures { OnOk result (out.new.items ≡ out.old.items ++ kind.now ++ decimal number ++ codes ": " ++ meaning.now ++ codes "\n") }
+// Why it is one, and how it is mended.
+fn cause_of(severity: Severity, near: bool, text: &[u8], finding: &Finding) -> Cause
+    ensures { cause_in result ≡ cause_of severity near text.now finding.now }
 {
-    out.extend_from_slice(kind)?;
-    push_number(out, u64::from(number))?;
+    match severity {
+        Severity::Error => fault_cause(text, near, finding),
+        Severity::Warning => Cause::said(warning_meaning(finding.number)),
+    }
+}
+
+// Appends what a finding is, and why.
+fn push_message(
+    out: &mut Vec<u8>,
+    text: &[u8],
+    label: &[u8],
+    severity: Severity,
+    finding: &Finding,
+    cause: &Cause,
+) -> Result<(), AllocError>
+    ensures { OnOk result (out.new.items ≡ out.old.items ++ message_text text.now label.now severity finding.now (cause_in cause.now)) }
+{
+    out.extend_from_slice(kind_text(severity))?;
+    push_number(out, u64::from(finding.number))?;
     out.extend_from_slice(b": ")?;
-    out.extend_from_slice(meaning)?;
+    push_filled(out, &parts_of(text), cause.other, label, cause.words)?;
     out.extend_from_slice(b"\n")?;
+    Ok(())
+}
+
+// Appends how a finding is mended, where that is sure.
+fn push_cure(out: &mut Vec<u8>, text: &[u8], label: &[u8], cause: &Cause) -> Result<(), AllocError>
+    ensures { OnOk result (out.new.items ≡ out.old.items ++ cure_text text.now label.now (cause_in cause.now)) }
+{
+    if !cause.cure.is_empty() {
+        out.extend_from_slice(b"      = ")?;
+        push_filled(out, &parts_of(text), cause.other, label, cause.cure)?;
+        out.extend_from_slice(b"\n")?;
+    }
+    Ok(())
+}
+
+// Appends a text with all that its marks stand for.
+fn push_filled(
+    out: &mut Vec<u8>,
+    parts: &Line<'_>,
+    other: &[u8],
+    label: &[u8],
+    text: &[u8],
+) -> Result<(), AllocError>
+    ensures { OnOk result (out.new.items ≡ out.old.items ++ filled (parts_in parts.now) other.now label.now text.now) }
+{
+    for byte in text {
+        push_filled_byte(out, parts, other, label, *byte)?;
+    }
+    Ok(())
+}
+
+// Appends what a byte of a text stands for.
+fn push_filled_byte(
+    out: &mut Vec<u8>,
+    parts: &Line<'_>,
+    other: &[u8],
+    label: &[u8],
+    byte: u8,
+) -> Result<(), AllocError>
+    ensures { OnOk result (out.new.items ≡ out.old.items ++ filled_byte (parts_in parts.now) other.now label.now byte) }
+{
+    match byte {
+        b'&' => push_shown(out, text_of(parts.label))?,
+        b'%' => push_shown(out, text_of(parts.operator))?,
+        b'@' => push_shown(out, text_of(parts.operand))?,
+        b'!' => out.extend_from_slice(other)?,
+        b'~' => out.extend_from_slice(label)?,
+        _ => out.push(byte)?,
+    }
     Ok(())
 }
 
@@ -197,15 +306,43 @@ fn push_finding(
     out: &mut Vec<u8>,
     name: &[u8],
     text: &[u8],
+    near: Option<&[u8]>,
     severity: Severity,
     finding: &Finding,
 ) -> Result<(), AllocError>
-    ensures { OnOk result (out.new.items ≡ out.old.items ++ finding_text name.now text.now severity finding.now) }
+    ensures { OnOk result (out.new.items ≡ out.old.items ++ finding_text name.now text.now (option_map (λ label. label.now) near.entry) severity finding.now) }
+{
+    let cause = cause_of(severity, near.is_some(), text, finding);
+    push_caused(out, name, text, label_of(near), severity, finding, &cause)
+}
+
+// A label that is near, or nothing.
+fn label_of(near: Option<&[u8]>) -> &[u8]
+    ensures { result.now ≡ unwrap_or (option_map (λ label. label.now) near.entry) [] }
+{
+    match near {
+        Some(label) => label,
+        None => b"",
+    }
+}
+
+// Appends the lines of a fault with why it is one, and the label that is near to its symbol.
+fn push_caused(
+    out: &mut Vec<u8>,
+    name: &[u8],
+    text: &[u8],
+    label: &[u8],
+    severity: Severity,
+    finding: &Finding,
+    cause: &Cause,
+) -> Result<(), AllocError>
+    ensures { OnOk result (out.new.items ≡ out.old.items ++ caused_text name.now text.now label.now severity finding.now (cause_in cause.now)) }
 {
     push_place(out, name, text, finding)?;
-    push_message(out, severity, finding.number)?;
+    push_message(out, text, label, severity, finding, cause)?;
     push_row(out, text, finding)?;
-    push_marks(out, text, finding)
+    push_marks(out, text, finding)?;
+    push_cure(out, text, label, cause)
 }
 
 // Appends the number of a line, in five columns.

@@ -1,6 +1,7 @@
 //! Faults in words: what their numbers mean, and those of a source with the lines that they stand on, beside its warnings.
 #![tactic(auto)]
 
+mod causes;
 mod explaining;
 mod findings;
 mod mistakes;

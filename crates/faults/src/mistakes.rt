@@ -123,15 +123,15 @@ impl Names {
     }
 }
 
-// A line taken apart.
-fn parts_of(text: &[u8]) -> Line<'_>
+/// A line taken apart.
+pub(crate) fn parts_of(text: &[u8]) -> Line<'_>
     ensures { parts_in result ≡ parts_of text.now }
 {
     Line::of(text)
 }
 
-// Adds a field to some names, where it stands.
-fn add_field(names: &mut NameSet, field: Option<Field<'_>>) -> Result<(), AllocError>
+/// Adds a field to some names, where it stands.
+pub(crate) fn add_field(names: &mut NameSet, field: Option<Field<'_>>) -> Result<(), AllocError>
     ensures { OnOk result (names.new ≡ with_field names.old (option_map piece field.entry)) }
 {
     match field {
@@ -160,8 +160,8 @@ fn warn_if(
     Ok(())
 }
 
-// Whether the operator is one of some.
-fn has_operator(names: &[&str], parts: &Line<'_>) -> bool
+/// Whether the operator is one of some.
+pub(crate) fn has_operator(names: &[&str], parts: &Line<'_>) -> bool
     ensures { result ≡ has_operator (map (λ name. name.now) names.now) (parts_in parts.now) }
 {
     match parts.operator {
@@ -250,8 +250,8 @@ fn is_register_number(text: &[u8]) -> bool
     matches!(octal_value(text), Some(Number::Small(number)) if number < 0o61)
 }
 
-// An operator's name.
-fn is_operator(text: &[u8]) -> bool
+/// An operator's name.
+pub(crate) fn is_operator(text: &[u8]) -> bool
     ensures { result ≡ is_among operator_names text.now }
 {
     is_among(operator_names(), text)
@@ -286,14 +286,14 @@ fn pair_operators() -> &'static [&'static str]
     &PAIR_OPERATORS
 }
 
-fn erase_operators() -> &'static [&'static str]
+pub(crate) fn erase_operators() -> &'static [&'static str]
     ensures { map (λ name. name.now) result.now ≡ erase_operators }
 {
     &ERASE_OPERATORS
 }
 
 #[tactic(auto, unfolding(yayul::specs::Operators::operators))]
-fn operator_names() -> &'static [&'static str]
+pub(crate) fn operator_names() -> &'static [&'static str]
     ensures { map (λ name. name.now) result.now ≡ operator_names }
 {
     &OPERATOR_NAMES

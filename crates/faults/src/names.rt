@@ -1,10 +1,13 @@
 //! Sets of names.
 
-ghost use Rattle.std.specs.Prelude.{◌≡◌, ◌<◌, [], map, OnOk};
+ghost use Rattle.std.specs.Prelude.{◌≡◌, ◌<◌, [], Some, length, map, find, slice_get, OnOk};
+ghost use Rattle.std.specs.Option.{option_map};
+ghost use Rattle.faults.specs.Causes.{near_name, is_close};
 ghost use Rattle.std.specs.List.{list_any};
 ghost use Rattle.agc_text.specs.Tables.{same_name};
 ghost use Rattle.faults.specs.Warnings.{is_among, is_short, with_name};
 
+use crate::causes::{Closeness, SHORTEST, is_close};
 use std::alloc::{AllocError, Global};
 use std::marker::Model;
 use symbols::{NAME_LENGTH, Name, Symbols};
@@ -45,11 +48,57 @@ impl NameSet {
         Ok(())
     }
 
+    /// The first that is a text in capitals; else, for a text of three bytes or more, one that is near.
+    pub(crate) fn near(&self, text: &[u8]) -> Option<&[u8]>
+        ensures { option_map (λ name. name.now) result ≡ near_name self.now text.now }
+    {
+        near_name(&self.symbols, text)
+    }
+
     /// Whether a text is one of them.
     pub(crate) fn has(&self, text: &[u8]) -> bool
         ensures { result ≡ is_among self.now text.now }
     {
         self.symbols.symbol(text).is_some()
+    }
+}
+
+// The first of some names that is a text in capitals; else, for a text of three bytes or more, one that is near.
+fn near_name<'a>(symbols: &'a Symbols, text: &[u8]) -> Option<&'a [u8]>
+    ensures { option_map (λ name. name.now) result ≡ near_name (map (λ e. e.0) symbols.now) text.now }
+{
+    match close_name(symbols, Closeness::InCapitals, text) {
+        Some(name) => Some(name),
+        None if text.len() >= SHORTEST => match close_name(symbols, Closeness::AsLong, text) {
+            Some(name) => Some(name),
+            None => close_name(symbols, Closeness::Near, text),
+        },
+        None => None,
+    }
+}
+
+// The first of some names that is close to a text.
+#[tactic(auto, using(crate::proofs::Pushed::find_here, crate::proofs::Pushed::find_on))]
+fn close_name<'a>(symbols: &'a Symbols, closeness: Closeness, text: &[u8]) -> Option<&'a [u8]>
+    ensures { option_map (λ name. name.now) result ≡ find (is_close closeness text.now) (map (λ e. e.0) symbols.now) }
+{
+    for index in 0..symbols.len() {
+        let name = name_at(symbols, index);
+        if is_close(closeness, text, name) {
+            return Some(name);
+        }
+    }
+    None
+}
+
+// The name that was defined after so many others.
+fn name_at(symbols: &Symbols, index: usize) -> &[u8]
+    requires { index < length symbols.now }
+    ensures { Some result.now ≡ slice_get (map (λ e. e.0) symbols.now) index }
+{
+    match symbols.entry(index) {
+        Some((name, _)) => name,
+        None => b"",
     }
 }
 

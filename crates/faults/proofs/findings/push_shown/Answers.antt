@@ -1,5 +1,5 @@
 use Rattle.std.proofs.Common.{◌∙◌, ◌∷◌, [], ◌++◌, ap, get_or, arith}
-use Rattle.faults.specs.Report.{shown_byte}
+use Rattle.faults.specs.Shown.{shown_byte}
 use Rattle.faults.proofs.Pushed.{grown}
 use Rattle.faults.proofs.findings.push_shown.Goals as goal
 

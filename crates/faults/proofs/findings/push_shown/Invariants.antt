@@ -1,5 +1,5 @@
 use Rattle.std.proofs.Common.{◌≡◌, ◌++◌, take, map}
-use Rattle.faults.specs.Report.{shown_byte}
+use Rattle.faults.specs.Shown.{shown_byte}
 use Rattle.faults.proofs.findings.push_shown.Given as goal
 
 abbrev pub invariant-loop-byte : goal.invariant-loop-byte

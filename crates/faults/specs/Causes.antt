@@ -1,0 +1,389 @@
+-- What a fault is in words, by its cause: a text with marks for the fields of its line, and its cure where one is sure.
+use Rattle.std.specs.Prelude.{ℕ, ◌+◌, ◌-◌, ◌==◌, ◌&&◌, ◌||◌, not, Bool, false, nat_le, nat_lt, List, [], ◌∷◌, length, map, Option, None, is_some, unwrap_or, codes, flat_map, slice_get, if◌then◌else◌}
+use Rattle.std.specs.List.{find, list_any}
+use Rattle.std.specs.Option.{option_map_or, option_or}
+use Rattle.agc_text.specs.Digits.{digits_value}
+use Rattle.agc_text.specs.Fields.{Piece, fields, others_of}
+use Rattle.agc_text.specs.Tables.{same_name, value_in}
+use Rattle.yayul.specs.declared.finding.Finding.{Finding}
+use Rattle.faults.specs.Refusals.{meaning}
+use Rattle.faults.specs.declared.causes.Closeness.{Closeness}
+use Rattle.faults.specs.declared.causes.Closeness.TheVariants.{AsLong, InCapitals, Near}
+use Rattle.faults.specs.Shown.{shown_byte}
+use Rattle.faults.specs.Warnings.{Parts, erase_operators, has_operator, is_among, is_short, operator_names, parts_of}
+
+-- what is wrong, how it is mended or nothing, and a text that stands in either
+pub record Cause : Type 0 where
+  pub words : List ℕ
+  pub cure : List ℕ
+  pub other : List ℕ
+
+abbrev pub said : List ℕ → Cause
+said words = record { words = words; cure = []; other = [] }
+
+abbrev pub cured : List ℕ → List ℕ → Cause
+cured words cure = record { words = words; cure = cure; other = [] }
+
+abbrev pub cured_by : List ℕ → List ℕ → List ℕ → Cause
+cured_by words cure other = record { words = words; cure = cure; other = other }
+
+-- ## Marks
+-- the bytes of a field, none where it does not stand
+abbrev pub text_of : Option Piece → List ℕ
+text_of field = option_map_or (λ p. p.text) field []
+
+-- a field as it is shown, where it stands
+abbrev pub shown_field : Option Piece → List ℕ
+shown_field field = map shown_byte (text_of field)
+
+-- what a byte of a text stands for: `&` for the label, `%` for the operator, `@` for the operand, `!` for another text, `~` for a label
+abbrev pub filled_byte : Parts → List ℕ → List ℕ → ℕ → List ℕ
+filled_byte parts other label byte =
+    if byte == 0o46 then shown_field parts.label
+    else if byte == 0o45 then shown_field parts.operator
+    else if byte == 0o100 then shown_field parts.operand
+    else if byte == 0o41 then other
+    else if byte == 0o176 then label
+    else byte ∷ []
+
+-- a text with all that its marks stand for
+abbrev pub filled : Parts → List ℕ → List ℕ → List ℕ → List ℕ
+filled parts other label text = flat_map (filled_byte parts other label) text
+
+-- ## Fields
+-- a text holds a byte
+abbrev pub holds : ℕ → List ℕ → Bool
+holds byte text = list_any (λ other. other == byte) text
+
+-- a text begins with a byte
+abbrev pub begins : ℕ → List ℕ → Bool
+begins byte text = option_map_or (λ first. first == byte) (slice_get text 0) false
+
+-- a plus or a minus sign stands first
+abbrev pub is_signed : List ℕ → Bool
+is_signed text = begins 0o53 text || begins 0o55 text
+
+-- what begins comments in other languages: a semicolon or a slash
+abbrev pub is_foreign_comment : List ℕ → Bool
+is_foreign_comment text = begins 0o73 text || begins 0o57 text
+
+-- an operator's name
+abbrev pub is_operator : List ℕ → Bool
+is_operator text = is_among operator_names text
+
+-- decimal digits, one of them 8 or 9
+abbrev pub is_beyond_octal : List ℕ → Bool
+is_beyond_octal text = is_some (digits_value 10 text) && not (is_some (digits_value 8 text))
+
+-- a field stands after an offset
+abbrev pub goes_on : List ℕ → Bool
+goes_on text = nat_lt 3 (length (others_of (fields text)))
+
+-- a comment as other languages have it stands for the operand or the offset
+abbrev pub has_foreign_comment : Parts → Bool
+has_foreign_comment parts = is_foreign_comment (text_of parts.operand) || is_foreign_comment (text_of parts.offset)
+
+-- ## Names that are near
+abbrev pub capital : ℕ → ℕ
+capital byte = if nat_le 0o141 byte && nat_le byte 0o172 then byte - 0o40 else byte
+
+-- a text in capitals is a name
+abbrev pub is_in_capitals : List ℕ → List ℕ → Bool
+is_in_capitals text name = same_name (map capital text) name
+
+-- the first two bytes of two texts are exchanged, and the others the same
+abbrev pub is_exchanged : List ℕ → List ℕ → Bool
+is_exchanged (a ∷ b ∷ rest) (c ∷ d ∷ others) = a == d && b == c && same_name rest others
+is_exchanged _ _ = false
+
+-- one byte differs, or is one too many in either; or two beside one another are exchanged
+abbrev pub is_near : List ℕ → List ℕ → Bool
+is_near [] others = length others == 1
+is_near (a ∷ rest) [] = length rest == 0
+is_near (a ∷ rest) (b ∷ others) =
+    if a == b then is_near rest others
+    else same_name rest others || same_name rest (b ∷ others) || same_name (a ∷ rest) others || is_exchanged (a ∷ rest) (b ∷ others)
+
+-- a text that a name is in capitals; one that is near and as long; or one that is near
+abbrev pub is_close : Closeness → List ℕ → List ℕ → Bool
+is_close InCapitals text name = is_in_capitals text name
+is_close AsLong text name = length text == length name && is_near text name
+is_close Near text name = is_near text name
+
+-- the first of some names that is a text in capitals; else, for a text of three bytes or more, one that is near, as long where there is one
+abbrev pub near_name : List (List ℕ) → List ℕ → Option (List ℕ)
+near_name names text =
+    option_or (find (is_close InCapitals text) names)
+    (if nat_le 3 (length text) then option_or (find (is_close AsLong text) names) (find (is_close Near text) names) else None)
+
+-- operators of other machines, and what stands for them
+abbrev pub foreign_operators : List (List ℕ × List ℕ)
+foreign_operators =
+    (codes "ORG", codes "SETLOC sets the location")
+    ∷ (codes "EQU", codes "EQUALS gives a name its value")
+    ∷ (codes "LDA", codes "CA loads A")
+    ∷ (codes "LOAD", codes "CA loads A")
+    ∷ (codes "LD", codes "CA loads A")
+    ∷ (codes "MOV", codes "CA loads A, and TS stores it")
+    ∷ (codes "STA", codes "TS stores A")
+    ∷ (codes "STORE", codes "TS stores A")
+    ∷ (codes "ST", codes "TS stores A")
+    ∷ (codes "JMP", codes "TCF goes on in fixed memory, TC anywhere")
+    ∷ (codes "GOTO", codes "TCF goes on in fixed memory, TC anywhere")
+    ∷ (codes "BRA", codes "TCF goes on in fixed memory, TC anywhere")
+    ∷ (codes "JSR", codes "TC calls a routine")
+    ∷ (codes "CALL", codes "TC calls a routine")
+    ∷ (codes "RTS", codes "RETURN goes back")
+    ∷ (codes "RET", codes "RETURN goes back")
+    ∷ (codes "NOP", codes "NOOP does nothing")
+    ∷ (codes "ADD", codes "AD adds a word to A")
+    ∷ (codes "SUB", codes "SU, an extracode, subtracts a word of erasable memory; CS and AD subtract any")
+    ∷ (codes "MUL", codes "MP, an extracode, multiplies")
+    ∷ (codes "DIV", codes "DV, an extracode, divides")
+    ∷ (codes "AND", codes "MASK leaves the bits that both words have")
+    ∷ (codes "DC", codes "OCT or DEC makes a word")
+    ∷ (codes "DW", codes "OCT or DEC makes a word")
+    ∷ (codes "DS", codes "ERASE reserves a word")
+    ∷ (codes "2DEC", codes "two words: a DEC for each")
+    ∷ (codes "2OCT", codes "two words: an OCT for each")
+    ∷ []
+
+-- the registers and the counters of the machine, and their places
+abbrev pub registers : List (List ℕ × List ℕ)
+registers =
+    (codes "A", codes "0")
+    ∷ (codes "L", codes "1")
+    ∷ (codes "Q", codes "2")
+    ∷ (codes "EBANK", codes "3")
+    ∷ (codes "EB", codes "3")
+    ∷ (codes "FBANK", codes "4")
+    ∷ (codes "FB", codes "4")
+    ∷ (codes "Z", codes "5")
+    ∷ (codes "BBANK", codes "6")
+    ∷ (codes "BB", codes "6")
+    ∷ (codes "ZERO", codes "7")
+    ∷ (codes "ARUPT", codes "10")
+    ∷ (codes "LRUPT", codes "11")
+    ∷ (codes "QRUPT", codes "12")
+    ∷ (codes "ZRUPT", codes "15")
+    ∷ (codes "BBRUPT", codes "16")
+    ∷ (codes "BRUPT", codes "17")
+    ∷ (codes "CYR", codes "20")
+    ∷ (codes "SR", codes "21")
+    ∷ (codes "CYL", codes "22")
+    ∷ (codes "EDOP", codes "23")
+    ∷ (codes "TIME2", codes "24")
+    ∷ (codes "TIME1", codes "25")
+    ∷ (codes "TIME3", codes "26")
+    ∷ (codes "TIME4", codes "27")
+    ∷ (codes "TIME5", codes "30")
+    ∷ (codes "TIME6", codes "31")
+    ∷ (codes "CDUX", codes "32")
+    ∷ (codes "CDUY", codes "33")
+    ∷ (codes "CDUZ", codes "34")
+    ∷ (codes "OPTY", codes "35")
+    ∷ (codes "OPTX", codes "36")
+    ∷ (codes "PIPAX", codes "37")
+    ∷ (codes "PIPAY", codes "40")
+    ∷ (codes "PIPAZ", codes "41")
+    ∷ (codes "INLINK", codes "45")
+    ∷ []
+
+-- ## Classes of operators
+-- operators that take no label
+abbrev pub label_refusers : List (List ℕ)
+label_refusers =
+    codes "SETLOC" ∷ codes "BANK" ∷ codes "BLOCK" ∷ codes "EBANK=" ∷ []
+
+-- OCT
+abbrev pub octal_operators : List (List ℕ)
+octal_operators =
+    codes "OCT" ∷ []
+
+-- DEC
+abbrev pub decimal_operators : List (List ℕ)
+decimal_operators =
+    codes "DEC" ∷ []
+
+-- those that take a bank
+abbrev pub bank_operators : List (List ℕ)
+bank_operators =
+    codes "BANK" ∷ codes "BLOCK" ∷ []
+
+-- BLOCK
+abbrev pub block_operators : List (List ℕ)
+block_operators =
+    codes "BLOCK" ∷ []
+
+-- those that take no operand
+abbrev pub plain_operators : List (List ℕ)
+plain_operators =
+    codes "RELINT" ∷ codes "INHINT" ∷ codes "EXTEND" ∷ codes "RESUME" ∷ codes "XXALQ" ∷ codes "XLQ" ∷ codes "RETURN" ∷ codes "DDOUBL" ∷ codes "ZL" ∷
+    codes "COM" ∷ codes "DTCF" ∷ codes "DTCB" ∷ codes "OVSK" ∷ codes "TCAA" ∷ codes "DOUBLE" ∷ codes "ZQ" ∷ codes "DCOM" ∷ codes "SQUARE" ∷
+    codes "NOOP" ∷ []
+
+-- those that take a channel
+abbrev pub channel_operators : List (List ℕ)
+channel_operators =
+    codes "READ" ∷ codes "WRITE" ∷ codes "RAND" ∷ codes "WAND" ∷ codes "ROR" ∷ codes "WOR" ∷ codes "RXOR" ∷ []
+
+-- those that take an erasable place
+abbrev pub erasable_operators : List (List ℕ)
+erasable_operators =
+    codes "EBANK=" ∷ codes "ECADR" ∷ []
+
+-- those that take a fixed place
+abbrev pub fixed_operators : List (List ℕ)
+fixed_operators =
+    codes "CADR" ∷ codes "FCADR" ∷ codes "2CADR" ∷ codes "CAF" ∷ []
+
+-- those that take an address of fixed memory
+abbrev pub jump_operators : List (List ℕ)
+jump_operators =
+    codes "TCF" ∷ codes "BZF" ∷ codes "BZMF" ∷ []
+
+-- those that write a word of erasable memory
+abbrev pub writers : List (List ℕ)
+writers =
+    codes "TS" ∷ codes "XCH" ∷ codes "LXCH" ∷ codes "QXCH" ∷ codes "DXCH" ∷ codes "INCR" ∷ codes "ADS" ∷ codes "DAS" ∷ codes "AUG" ∷ codes "DIM" ∷ []
+
+-- those that read a word of erasable memory alone
+abbrev pub erasable_readers : List (List ℕ)
+erasable_readers =
+    codes "CCS" ∷ codes "INDEX" ∷ codes "NDX" ∷ codes "CAE" ∷ codes "SU" ∷ codes "DV" ∷ codes "MSU" ∷ []
+
+-- ## Causes
+-- E10: the byte at a place of a line
+abbrev pub byte_cause : List ℕ → ℕ → Cause
+byte_cause text place =
+    if option_map_or (λ byte. byte == 0o15) (slice_get text place) false then
+    (if place + 1 == length text then said (codes "a carriage return ends the line; only a line feed may") else said (codes "a carriage return stands in the line"))
+    else if option_map_or (λ byte. byte == 0o14) (slice_get text place) false then said (codes "a form feed stands in the line")
+    else if option_map_or (λ byte. nat_le 0o200 byte) (slice_get text place) false then said (codes "this byte is not ASCII, and a line holds ASCII alone, its comment too")
+    else said (codes "this byte is no character that prints, no blank and no tab")
+
+-- E13: a label that is missing, is not taken or has no label's form
+abbrev pub label_cause : Parts → Cause
+label_cause parts =
+    if not (is_some parts.label) then cured (codes "% gives a name its value, and no name stands in the first column") (codes "NAME % @")
+    else if has_operator label_refusers parts then cured (codes "% takes no label") (codes "put & on the next line")
+    else if holds 0o44 (text_of parts.label) then said (codes "& has a $, which no label may have")
+    else if is_signed (text_of parts.label) then said (codes "& begins with a sign, as no label may")
+    else if is_short (text_of parts.label) then said (codes "& is a number, and no label")
+    else said (codes "& has more than 8 characters, the most of a label")
+
+-- E15: what is no operator
+abbrev pub operator_cause : Parts → Cause
+operator_cause parts =
+    if is_operator (text_of parts.label) then cured (codes "& stands in the first column, so it is a label, and % is taken for the operator") (codes "put a blank before &")
+    else if is_foreign_comment (text_of parts.operator) then cured (codes "% is no operator") (codes "a comment begins with #")
+    else if not (is_some parts.label) && is_operator (text_of parts.operand) then cured (codes "% is no operator") (codes "a label begins in the first column: no blank before %")
+    else if is_some (value_in foreign_operators (text_of parts.operator)) then cured_by (codes "% is no operator of this assembler") (codes "!") (unwrap_or (value_in foreign_operators (text_of parts.operator)) [])
+    else if is_some (near_name operator_names (text_of parts.operator)) then cured_by (codes "% is no operator") (codes "did you mean !?") (unwrap_or (near_name operator_names (text_of parts.operator)) [])
+    else said (codes "% is no operator")
+
+-- E16, of an operator that takes digits, or a bank
+abbrev pub digits_cause : Parts → Cause
+digits_cause parts =
+    if is_some parts.offset then cured (codes "% takes one number, and nothing after it") (codes "a comment begins with #")
+    else if has_operator octal_operators parts && is_signed (text_of parts.operand) then cured (codes "OCT takes no sign") (codes "DEC takes one; a minus complements the word")
+    else if has_operator octal_operators parts then cured (codes "OCT takes octal digits, 0 to 7, and @ is no such number") (codes "DEC takes decimal digits")
+    else if has_operator decimal_operators parts then said (codes "DEC takes a whole number, or a fraction of 1 to 9 decimals as .75, and @ is neither")
+    else if is_beyond_octal (text_of parts.operand) then cured (codes "banks are octal, and @ has a digit 8 or 9") (codes "% @D takes it as decimal")
+    else said (codes "% takes a bank's number, and @ is none")
+
+-- E16, of an operator that takes a place or a value
+abbrev pub place_cause : Bool → Parts → Cause
+place_cause more parts =
+    if more then cured (codes "after the operand only one offset may stand") (codes "a comment begins with #")
+    else if is_beyond_octal (text_of parts.operand) then cured (codes "numbers are octal, and @ has a digit 8 or 9") (codes "@D is decimal")
+    else if is_signed (text_of parts.operand) then cured (codes "@ is no sign with a number, which stands alone and moves on from this line") (codes "NAME +1 is the word after NAME; CS loads a complement")
+    else if is_some parts.offset then cured (codes "after @ only an offset may stand, a sign and an octal number") (codes "NAME +1; a comment begins with #")
+    else if holds 0o44 (text_of parts.operand) then said (codes "@ has a $, which no symbol may have")
+    else said (codes "@ is no symbol, which has 8 characters at most, and no number")
+
+-- E16: an operand that is missing, is not taken or has no operand's form
+abbrev pub operand_cause : Bool → Parts → Cause
+operand_cause more parts =
+    if has_foreign_comment parts then cured (codes "the operand does not end where a comment was meant to begin") (codes "a comment begins with #")
+    else if has_operator plain_operators parts then cured (codes "% takes no operand") (codes "a comment begins with #")
+    else if has_operator erase_operators parts then cured (codes "ERASE takes nothing, or a plus sign and a number") (codes "ERASE reserves one word, ERASE +1 two")
+    else if not (is_some parts.operand) then said (codes "% needs an operand")
+    else if has_operator octal_operators parts || has_operator decimal_operators parts || has_operator bank_operators parts then digits_cause parts
+    else place_cause more parts
+
+-- E17 and E18: a symbol that no line, or no earlier one, defines, where a label is near to it or none is
+abbrev pub symbol_cause : List ℕ → Bool → Parts → Cause
+symbol_cause words near parts =
+    if is_some (value_in registers (text_of parts.operand)) then cured_by words (codes "no register has a name beforehand; this line gives it one: @ EQUALS !") (unwrap_or (value_in registers (text_of parts.operand)) [])
+    else if holds 0o54 (text_of parts.operand) then cured words (codes "@ is one name; INDEX on the line before adds to an address")
+    else if begins 0o75 (text_of parts.operand) then cured words (codes "a constant has a line of its own, whose label is the operand")
+    else if holds 0o53 (text_of parts.operand) || holds 0o55 (text_of parts.operand) then cured words (codes "@ is one name; a blank stands before an offset")
+    else if near then cured words (codes "did you mean ~?")
+    else said words
+
+abbrev pub undefined_cause : Bool → Parts → Cause
+undefined_cause near parts = symbol_cause (codes "no line defines @") near parts
+
+abbrev pub early_cause : Bool → Parts → Cause
+early_cause near parts = symbol_cause (codes "% needs the value of @ here, and no earlier line defines it") near parts
+
+-- E19: a bank that the operator does not take
+abbrev pub bank_cause : Parts → Cause
+bank_cause parts =
+    if has_operator block_operators parts then cured (codes "BLOCK takes 2 and 3, and @ is neither") (codes "BANK @")
+    else said (codes "banks are 0 to 43 in octal, and @ is none")
+
+-- E20: past the end
+abbrev pub room_cause : Parts → Cause
+room_cause parts =
+    if has_operator erase_operators parts then said (codes "ERASE passes the end of erasable memory, 3777")
+    else if not (is_some parts.operator) then said (codes "& stands past the end of its bank, or of erasable memory")
+    else cured (codes "this stands past the last word of its bank") (codes "go on in another bank: BANK or SETLOC")
+
+-- E25: another kind of place, or a channel
+abbrev pub kind_cause : Parts → Cause
+kind_cause parts =
+    if has_operator erase_operators parts then cured (codes "ERASE reserves erasable words, and the location is in fixed memory") (codes "SETLOC and a place below 4000 before it")
+    else if has_operator channel_operators parts then said (codes "% takes a channel, 0 to 777, and @ is none")
+    else if has_operator erasable_operators parts then said (codes "% takes an erasable place, and @ is none")
+    else if has_operator fixed_operators parts then said (codes "% takes a fixed place, and @ is none")
+    else if has_operator jump_operators parts then said (codes "% leads to fixed memory, 2000 and up, and @ is not there")
+    else if has_operator writers parts then cured (codes "% writes to erasable memory, and @ is not there") (codes "reserve the word there: SETLOC and a place below 4000, and ERASE")
+    else if has_operator erasable_readers parts then cured (codes "% takes a word of erasable memory, and @ is not there") (codes "copy the word to erasable memory first")
+    else said (meaning 25)
+
+-- E26: a number out of its range
+abbrev pub range_cause : Parts → Cause
+range_cause parts =
+    if has_operator octal_operators parts then said (codes "a word holds 77777 at most, and @ is more")
+    else if has_operator decimal_operators parts && holds 0o56 (text_of parts.operand) then said (codes "a fraction is below 1 in a word, and @ is not")
+    else if has_operator decimal_operators parts then said (codes "a word holds 16383 at most, and @ is more")
+    else if has_operator plain_operators parts then said (codes "% goes to the next word, and this is the last of its bank")
+    else if is_some parts.offset || is_signed (text_of parts.operand) then said (codes "this leads out of its bank, or of the numbers")
+    else said (codes "@ is past the last address or number")
+
+-- the label that is near to the symbol of a fault which no line, or no earlier one, defines
+abbrev pub near_label : List (List ℕ) → List ℕ → Finding → Option (List ℕ)
+near_label labels text f = if f.number == 17 || f.number == 18 then near_name labels (text_of (parts_of text).operand) else None
+
+-- a fault of a line in words, where a label is near to its symbol or none is
+abbrev pub fault_cause : Bool → List ℕ → Finding → Cause
+fault_cause near text f =
+    if f.number == 10 then byte_cause text f.span.start
+    else if f.number == 11 then cured (meaning 11) (codes "part the comment into two lines")
+    else if f.number == 13 then label_cause (parts_of text)
+    else if f.number == 14 then said (codes "an earlier line has the label &")
+    else if f.number == 15 then operator_cause (parts_of text)
+    else if f.number == 16 then operand_cause (goes_on text) (parts_of text)
+    else if f.number == 17 then undefined_cause near (parts_of text)
+    else if f.number == 18 then early_cause near (parts_of text)
+    else if f.number == 19 then bank_cause (parts_of text)
+    else if f.number == 20 then room_cause (parts_of text)
+    else if f.number == 21 then said (codes "an earlier line has a word at this place")
+    else if f.number == 22 then cured (meaning 22) (codes "SETLOC and a fixed place, or BANK, before it")
+    else if f.number == 23 then cured (codes "% is an extracode, and EXTEND does not stand before it") (codes "EXTEND on the line before, behind a blank")
+    else if f.number == 24 then cured (codes "EXTEND stands before %, which is no extracode") (codes "take EXTEND out")
+    else if f.number == 25 then kind_cause (parts_of text)
+    else if f.number == 26 then range_cause (parts_of text)
+    else said (meaning f.number)

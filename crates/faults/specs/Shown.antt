@@ -1,0 +1,7 @@
+-- Bytes of a source as they are shown.
+use Rattle.std.specs.Prelude.{ℕ, if◌then◌else◌}
+use Rattle.agc_text.specs.Bytes.{is_text_byte}
+
+-- a byte as it is shown: a question mark for one that a line may not hold
+abbrev pub shown_byte : ℕ → ℕ
+shown_byte byte = if is_text_byte byte then byte else 0o77

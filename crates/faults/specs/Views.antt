@@ -1,0 +1,13 @@
+-- Causes and tables as the code hands them out.
+use Rattle.std.specs.Prelude.{ℕ, List, map}
+use Rattle.std.specs.Borrow.{Bor}
+use Rattle.faults.specs.Causes.{Cause}
+use Rattle.faults.specs.declared.causes.Cause.{Cause as Told}
+
+-- a cause without where its texts lie in memory
+abbrev pub cause_in : Told → Cause
+cause_in c = record { words = c.words.now; cure = c.cure.now; other = c.other.now }
+
+-- a table of texts without where they lie in memory
+abbrev pub entries : List (Bor (List ℕ) × Bor (List ℕ)) → List (List ℕ × List ℕ)
+entries table = map (λ e. (e.0.now, e.1.now)) table

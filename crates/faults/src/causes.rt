@@ -1,0 +1,724 @@
+//! What a fault is in words, by its cause.
+
+ghost use Rattle.std.specs.Prelude.{◌≡◌, map, find};
+ghost use Rattle.std.specs.Option.{option_map};
+ghost use Rattle.agc_text.specs.Tables.{value_in};
+ghost use Rattle.agc_text.specs.Views.{piece};
+ghost use Rattle.faults.specs.Warnings.{parts_in, operator_names};
+ghost use Rattle.faults.specs.Causes.{byte_cause, label_cause, operator_cause, digits_cause, place_cause, operand_cause, symbol_cause, undefined_cause, early_cause, bank_cause, room_cause, kind_cause, range_cause, fault_cause, near_label, said, cured, cured_by, text_of, holds, begins, is_signed, is_foreign_comment, has_foreign_comment, is_beyond_octal, near_name, is_close, is_in_capitals, capital, is_near, is_exchanged, foreign_operators, registers, label_refusers, octal_operators, decimal_operators, bank_operators, block_operators, plain_operators, channel_operators, erasable_operators, fixed_operators, jump_operators, writers, erasable_readers};
+ghost use Rattle.faults.specs.Views.{cause_in, entries};
+
+use crate::mistakes::{erase_operators, has_operator, is_operator, operator_names};
+use crate::names::{NameSet, is_short};
+use crate::refusals::meaning;
+use agc_text::{Field, Line, decimal_value, octal_value};
+use yayul::Finding;
+
+/// What is wrong, how it is mended or nothing, and a text that stands in either. Marks stand for the fields of the line:
+/// `&` for the label, `%` for the operator, `@` for the operand, `!` for the other text, `~` for the label that is near.
+#[derive(Clone, Copy, Drop)]
+pub(crate) struct Cause {
+    /// What is wrong.
+    pub(crate) words: &'static [u8],
+    /// How it is mended; empty where that is not sure.
+    pub(crate) cure: &'static [u8],
+    /// The other text.
+    pub(crate) other: &'static [u8],
+}
+
+/// How close a name is to a text.
+#[derive(Clone, Copy, Drop)]
+pub(crate) enum Closeness {
+    /// It is the text in capitals.
+    InCapitals,
+    /// It is near, and as long.
+    AsLong,
+    /// It is near.
+    Near,
+}
+
+/// The fewest bytes of a text for which names that are near are sought.
+pub(crate) const SHORTEST: usize = 3;
+
+impl Cause {
+    /// A cause without a cure.
+    pub(crate) fn said(words: &'static [u8]) -> Cause
+        ensures { cause_in result ≡ said words.now }
+    {
+        Cause::cured(words, b"")
+    }
+
+    // A cause with a cure.
+    fn cured(words: &'static [u8], cure: &'static [u8]) -> Cause
+        ensures { cause_in result ≡ cured words.now cure.now }
+    {
+        Cause::cured_by(words, cure, b"")
+    }
+
+    // A cause with a cure in which another text stands.
+    fn cured_by(words: &'static [u8], cure: &'static [u8], other: &'static [u8]) -> Cause
+        ensures { cause_in result ≡ cured_by words.now cure.now other.now }
+    {
+        Cause { words, cure, other }
+    }
+}
+
+/// A fault of a line in words, where a label is near to its symbol or none is.
+pub(crate) fn fault_cause(text: &[u8], near: bool, finding: &Finding) -> Cause
+    ensures { cause_in result ≡ fault_cause near text.now finding.now }
+{
+    let parts = &Line::of(text);
+    match finding.number {
+        10 => byte_cause(text, finding.span.start),
+        11 => Cause::cured(meaning(11), b"part the comment into two lines"),
+        13 => label_cause(parts),
+        14 => Cause::said(b"an earlier line has the label &"),
+        15 => operator_cause(parts),
+        16 => operand_cause(parts.more, parts),
+        17 => undefined_cause(near, parts),
+        18 => early_cause(near, parts),
+        19 => bank_cause(parts),
+        20 => room_cause(parts),
+        21 => Cause::said(b"an earlier line has a word at this place"),
+        22 => Cause::cured(meaning(22), b"SETLOC and a fixed place, or BANK, before it"),
+        23 => Cause::cured(
+            b"% is an extracode, and EXTEND does not stand before it",
+            b"EXTEND on the line before, behind a blank",
+        ),
+        24 => Cause::cured(
+            b"EXTEND stands before %, which is no extracode",
+            b"take EXTEND out",
+        ),
+        25 => kind_cause(parts),
+        26 => range_cause(parts),
+        number => Cause::said(meaning(number)),
+    }
+}
+
+/// The label that is near to the symbol of a fault which no line, or no earlier one, defines.
+pub(crate) fn near_label<'a>(
+    labels: &'a NameSet,
+    text: &[u8],
+    finding: &Finding,
+) -> Option<&'a [u8]>
+    ensures { option_map (λ name. name.now) result ≡ near_label labels.now text.now finding.now }
+{
+    match finding.number {
+        17 | 18 => labels.near(text_of(Line::of(text).operand)),
+        _ => None,
+    }
+}
+
+// E10: the byte at a place of a line.
+fn byte_cause(text: &[u8], place: usize) -> Cause
+    ensures { cause_in result ≡ byte_cause text.now place }
+{
+    match text.get(place) {
+        Some(b'\r') if place + 1 == text.len() => {
+            Cause::said(b"a carriage return ends the line; only a line feed may")
+        }
+        Some(b'\r') => Cause::said(b"a carriage return stands in the line"),
+        Some(0o14) => Cause::said(b"a form feed stands in the line"),
+        Some(0o200..=0o377) => {
+            Cause::said(b"this byte is not ASCII, and a line holds ASCII alone, its comment too")
+        }
+        _ => Cause::said(b"this byte is no character that prints, no blank and no tab"),
+    }
+}
+
+// E13: a label that is missing, is not taken or has no label's form.
+fn label_cause(parts: &Line<'_>) -> Cause
+    ensures { cause_in result ≡ label_cause (parts_in parts.now) }
+{
+    if parts.label.is_none() {
+        Cause::cured(
+            b"% gives a name its value, and no name stands in the first column",
+            b"NAME % @",
+        )
+    } else if has_operator(label_refusers(), parts) {
+        Cause::cured(b"% takes no label", b"put & on the next line")
+    } else if holds(b'$', text_of(parts.label)) {
+        Cause::said(b"& has a $, which no label may have")
+    } else if is_signed(text_of(parts.label)) {
+        Cause::said(b"& begins with a sign, as no label may")
+    } else if is_short(text_of(parts.label)) {
+        Cause::said(b"& is a number, and no label")
+    } else {
+        Cause::said(b"& has more than 8 characters, the most of a label")
+    }
+}
+
+// E15: what is no operator.
+fn operator_cause(parts: &Line<'_>) -> Cause
+    ensures { cause_in result ≡ operator_cause (parts_in parts.now) }
+{
+    if is_operator(text_of(parts.label)) {
+        Cause::cured(
+            b"& stands in the first column, so it is a label, and % is taken for the operator",
+            b"put a blank before &",
+        )
+    } else if is_foreign_comment(text_of(parts.operator)) {
+        Cause::cured(b"% is no operator", b"a comment begins with #")
+    } else if parts.label.is_none() && is_operator(text_of(parts.operand)) {
+        Cause::cured(
+            b"% is no operator",
+            b"a label begins in the first column: no blank before %",
+        )
+    } else if let Some(meant) = value_in(foreign_operators(), text_of(parts.operator)) {
+        Cause::cured_by(b"% is no operator of this assembler", b"!", meant)
+    } else if let Some(near) = near_operator(text_of(parts.operator)) {
+        Cause::cured_by(b"% is no operator", b"did you mean !?", near)
+    } else {
+        Cause::said(b"% is no operator")
+    }
+}
+
+// E16, of an operator that takes digits, or a bank.
+fn digits_cause(parts: &Line<'_>) -> Cause
+    ensures { cause_in result ≡ digits_cause (parts_in parts.now) }
+{
+    if parts.offset.is_some() {
+        Cause::cured(
+            b"% takes one number, and nothing after it",
+            b"a comment begins with #",
+        )
+    } else if has_operator(octal_operators(), parts) && is_signed(text_of(parts.operand)) {
+        Cause::cured(
+            b"OCT takes no sign",
+            b"DEC takes one; a minus complements the word",
+        )
+    } else if has_operator(octal_operators(), parts) {
+        Cause::cured(
+            b"OCT takes octal digits, 0 to 7, and @ is no such number",
+            b"DEC takes decimal digits",
+        )
+    } else if has_operator(decimal_operators(), parts) {
+        Cause::said(
+            b"DEC takes a whole number, or a fraction of 1 to 9 decimals as .75, and @ is neither",
+        )
+    } else if is_beyond_octal(text_of(parts.operand)) {
+        Cause::cured(
+            b"banks are octal, and @ has a digit 8 or 9",
+            b"% @D takes it as decimal",
+        )
+    } else {
+        Cause::said(b"% takes a bank's number, and @ is none")
+    }
+}
+
+// E16, of an operator that takes a place or a value.
+fn place_cause(more: bool, parts: &Line<'_>) -> Cause
+    ensures { cause_in result ≡ place_cause more (parts_in parts.now) }
+{
+    if more {
+        Cause::cured(
+            b"after the operand only one offset may stand",
+            b"a comment begins with #",
+        )
+    } else if is_beyond_octal(text_of(parts.operand)) {
+        Cause::cured(
+            b"numbers are octal, and @ has a digit 8 or 9",
+            b"@D is decimal",
+        )
+    } else if is_signed(text_of(parts.operand)) {
+        Cause::cured(
+            b"@ is no sign with a number, which stands alone and moves on from this line",
+            b"NAME +1 is the word after NAME; CS loads a complement",
+        )
+    } else if parts.offset.is_some() {
+        Cause::cured(
+            b"after @ only an offset may stand, a sign and an octal number",
+            b"NAME +1; a comment begins with #",
+        )
+    } else if holds(b'$', text_of(parts.operand)) {
+        Cause::said(b"@ has a $, which no symbol may have")
+    } else {
+        Cause::said(b"@ is no symbol, which has 8 characters at most, and no number")
+    }
+}
+
+// E16: an operand that is missing, is not taken or has no operand's form.
+fn operand_cause(more: bool, parts: &Line<'_>) -> Cause
+    ensures { cause_in result ≡ operand_cause more (parts_in parts.now) }
+{
+    if has_foreign_comment(parts) {
+        Cause::cured(
+            b"the operand does not end where a comment was meant to begin",
+            b"a comment begins with #",
+        )
+    } else if has_operator(plain_operators(), parts) {
+        Cause::cured(b"% takes no operand", b"a comment begins with #")
+    } else if has_operator(erase_operators(), parts) {
+        Cause::cured(
+            b"ERASE takes nothing, or a plus sign and a number",
+            b"ERASE reserves one word, ERASE +1 two",
+        )
+    } else if parts.operand.is_none() {
+        Cause::said(b"% needs an operand")
+    } else if has_operator(octal_operators(), parts)
+        || has_operator(decimal_operators(), parts)
+        || has_operator(bank_operators(), parts)
+    {
+        digits_cause(parts)
+    } else {
+        place_cause(more, parts)
+    }
+}
+
+// E17: a symbol that no line defines.
+fn undefined_cause(near: bool, parts: &Line<'_>) -> Cause
+    ensures { cause_in result ≡ undefined_cause near (parts_in parts.now) }
+{
+    symbol_cause(b"no line defines @", near, parts)
+}
+
+// E18: a symbol that no earlier line defines.
+fn early_cause(near: bool, parts: &Line<'_>) -> Cause
+    ensures { cause_in result ≡ early_cause near (parts_in parts.now) }
+{
+    symbol_cause(
+        b"% needs the value of @ here, and no earlier line defines it",
+        near,
+        parts,
+    )
+}
+
+// E17 and E18: a symbol that no line, or no earlier one, defines.
+fn symbol_cause(words: &'static [u8], near: bool, parts: &Line<'_>) -> Cause
+    ensures { cause_in result ≡ symbol_cause words.now near (parts_in parts.now) }
+{
+    if let Some(place) = value_in(registers(), text_of(parts.operand)) {
+        let cure = b"no register has a name beforehand; this line gives it one: @ EQUALS !";
+        Cause::cured_by(words, cure, place)
+    } else if holds(b',', text_of(parts.operand)) {
+        Cause::cured(
+            words,
+            b"@ is one name; INDEX on the line before adds to an address",
+        )
+    } else if begins(b'=', text_of(parts.operand)) {
+        Cause::cured(
+            words,
+            b"a constant has a line of its own, whose label is the operand",
+        )
+    } else if holds(b'+', text_of(parts.operand)) || holds(b'-', text_of(parts.operand)) {
+        Cause::cured(words, b"@ is one name; a blank stands before an offset")
+    } else if near {
+        Cause::cured(words, b"did you mean ~?")
+    } else {
+        Cause::said(words)
+    }
+}
+
+// E19: a bank that the operator does not take.
+fn bank_cause(parts: &Line<'_>) -> Cause
+    ensures { cause_in result ≡ bank_cause (parts_in parts.now) }
+{
+    if has_operator(block_operators(), parts) {
+        Cause::cured(b"BLOCK takes 2 and 3, and @ is neither", b"BANK @")
+    } else {
+        Cause::said(b"banks are 0 to 43 in octal, and @ is none")
+    }
+}
+
+// E20: past the end.
+fn room_cause(parts: &Line<'_>) -> Cause
+    ensures { cause_in result ≡ room_cause (parts_in parts.now) }
+{
+    if has_operator(erase_operators(), parts) {
+        Cause::said(b"ERASE passes the end of erasable memory, 3777")
+    } else if parts.operator.is_none() {
+        Cause::said(b"& stands past the end of its bank, or of erasable memory")
+    } else {
+        Cause::cured(
+            b"this stands past the last word of its bank",
+            b"go on in another bank: BANK or SETLOC",
+        )
+    }
+}
+
+// E25: another kind of place, or a channel.
+fn kind_cause(parts: &Line<'_>) -> Cause
+    ensures { cause_in result ≡ kind_cause (parts_in parts.now) }
+{
+    if has_operator(erase_operators(), parts) {
+        Cause::cured(
+            b"ERASE reserves erasable words, and the location is in fixed memory",
+            b"SETLOC and a place below 4000 before it",
+        )
+    } else if has_operator(channel_operators(), parts) {
+        Cause::said(b"% takes a channel, 0 to 777, and @ is none")
+    } else if has_operator(erasable_operators(), parts) {
+        Cause::said(b"% takes an erasable place, and @ is none")
+    } else if has_operator(fixed_operators(), parts) {
+        Cause::said(b"% takes a fixed place, and @ is none")
+    } else if has_operator(jump_operators(), parts) {
+        Cause::said(b"% leads to fixed memory, 2000 and up, and @ is not there")
+    } else if has_operator(writers(), parts) {
+        Cause::cured(
+            b"% writes to erasable memory, and @ is not there",
+            b"reserve the word there: SETLOC and a place below 4000, and ERASE",
+        )
+    } else if has_operator(erasable_readers(), parts) {
+        Cause::cured(
+            b"% takes a word of erasable memory, and @ is not there",
+            b"copy the word to erasable memory first",
+        )
+    } else {
+        Cause::said(meaning(25))
+    }
+}
+
+// E26: a number out of its range.
+fn range_cause(parts: &Line<'_>) -> Cause
+    ensures { cause_in result ≡ range_cause (parts_in parts.now) }
+{
+    if has_operator(octal_operators(), parts) {
+        Cause::said(b"a word holds 77777 at most, and @ is more")
+    } else if has_operator(decimal_operators(), parts) && holds(b'.', text_of(parts.operand)) {
+        Cause::said(b"a fraction is below 1 in a word, and @ is not")
+    } else if has_operator(decimal_operators(), parts) {
+        Cause::said(b"a word holds 16383 at most, and @ is more")
+    } else if has_operator(plain_operators(), parts) {
+        Cause::said(b"% goes to the next word, and this is the last of its bank")
+    } else if parts.offset.is_some() || is_signed(text_of(parts.operand)) {
+        Cause::said(b"this leads out of its bank, or of the numbers")
+    } else {
+        Cause::said(b"@ is past the last address or number")
+    }
+}
+
+/// The bytes of a field, none where it does not stand.
+pub(crate) fn text_of(field: Option<Field<'_>>) -> &[u8]
+    ensures { result.now ≡ text_of (option_map piece field.entry) }
+{
+    match field {
+        Some(field) => field.text,
+        None => b"",
+    }
+}
+
+// Whether a text holds a byte.
+fn holds(byte: u8, text: &[u8]) -> bool
+    ensures { result ≡ holds byte text.now }
+{
+    text.contains(&byte)
+}
+
+// Whether a text begins with a byte.
+fn begins(byte: u8, text: &[u8]) -> bool
+    ensures { result ≡ begins byte text.now }
+{
+    match text.first() {
+        Some(first) => *first == byte,
+        None => false,
+    }
+}
+
+// Whether a plus or a minus sign stands first.
+fn is_signed(text: &[u8]) -> bool
+    ensures { result ≡ is_signed text.now }
+{
+    begins(b'+', text) || begins(b'-', text)
+}
+
+// Whether a text begins as comments in other languages do.
+fn is_foreign_comment(text: &[u8]) -> bool
+    ensures { result ≡ is_foreign_comment text.now }
+{
+    begins(b';', text) || begins(b'/', text)
+}
+
+// Whether such a comment stands for the operand or the offset.
+fn has_foreign_comment(parts: &Line<'_>) -> bool
+    ensures { result ≡ has_foreign_comment (parts_in parts.now) }
+{
+    is_foreign_comment(text_of(parts.operand)) || is_foreign_comment(text_of(parts.offset))
+}
+
+// Whether a text is decimal digits, one of them 8 or 9.
+fn is_beyond_octal(text: &[u8]) -> bool
+    ensures { result ≡ is_beyond_octal text.now }
+{
+    decimal_value(text).is_some() && octal_value(text).is_none()
+}
+
+// What stands for a text in a table.
+fn value_in(table: &'static [(&'static str, &'static str)], text: &[u8]) -> Option<&'static [u8]>
+    ensures { option_map (λ value. value.now) result ≡ value_in (entries table.now) text.now }
+{
+    for (name, value) in table {
+        if text == name.as_bytes() {
+            return Some(value.as_bytes());
+        }
+    }
+    None
+}
+
+// The first operator that is a text in capitals; else, for a text of three bytes or more, one that is near.
+fn near_operator(text: &[u8]) -> Option<&'static [u8]>
+    ensures { option_map (λ name. name.now) result ≡ near_name operator_names text.now }
+{
+    match close_operator(Closeness::InCapitals, text) {
+        Some(name) => Some(name),
+        None if text.len() >= SHORTEST => match close_operator(Closeness::AsLong, text) {
+            Some(name) => Some(name),
+            None => close_operator(Closeness::Near, text),
+        },
+        None => None,
+    }
+}
+
+// The first operator that is close to a text.
+fn close_operator(closeness: Closeness, text: &[u8]) -> Option<&'static [u8]>
+    ensures { option_map (λ name. name.now) result ≡ find (is_close closeness text.now) operator_names }
+{
+    for name in operator_names() {
+        if is_close(closeness, text, name.as_bytes()) {
+            return Some(name.as_bytes());
+        }
+    }
+    None
+}
+
+/// Whether a name is close to a text.
+pub(crate) fn is_close(closeness: Closeness, text: &[u8], name: &[u8]) -> bool
+    ensures { result ≡ is_close closeness text.now name.now }
+{
+    match closeness {
+        Closeness::InCapitals => is_in_capitals(text, name),
+        Closeness::AsLong => text.len() == name.len() && is_near(text, name),
+        Closeness::Near => is_near(text, name),
+    }
+}
+
+// Whether a text in capitals is a name.
+fn is_in_capitals(text: &[u8], name: &[u8]) -> bool
+    ensures { result ≡ is_in_capitals text.now name.now }
+{
+    match (text.split_first(), name.split_first()) {
+        (None, None) => true,
+        (Some((byte, rest)), Some((other, others))) if capital(*byte) == *other => {
+            is_in_capitals(rest, others)
+        }
+        _ => false,
+    }
+}
+
+fn capital(byte: u8) -> u8
+    ensures { result ≡ capital byte }
+{
+    if byte.is_ascii_lowercase() {
+        byte - 0o40
+    } else {
+        byte
+    }
+}
+
+// Whether one byte of a text differs from a name, or is one too many in either; or two beside one another are exchanged.
+fn is_near(text: &[u8], name: &[u8]) -> bool
+    ensures { result ≡ is_near text.now name.now }
+{
+    match (text.split_first(), name.split_first()) {
+        (None, _) => name.len() == 1,
+        (_, None) => text.len() == 1,
+        (Some((a, rest)), Some((b, others))) if a == b => is_near(rest, others),
+        (Some((_, rest)), Some((_, others))) => {
+            rest == others || rest == name || text == others || is_exchanged(text, name)
+        }
+    }
+}
+
+// Whether the first two bytes of two texts are exchanged, and the others the same.
+fn is_exchanged(text: &[u8], name: &[u8]) -> bool
+    ensures { result ≡ is_exchanged text.now name.now }
+{
+    match (text, name) {
+        ([a, b, rest @ ..], [c, d, others @ ..]) => a == d && b == c && rest == others,
+        _ => false,
+    }
+}
+
+const LABEL_REFUSERS: [&str; 4] = ["SETLOC", "BANK", "BLOCK", "EBANK="];
+
+const OCTAL_OPERATORS: [&str; 1] = ["OCT"];
+
+const DECIMAL_OPERATORS: [&str; 1] = ["DEC"];
+
+const BANK_OPERATORS: [&str; 2] = ["BANK", "BLOCK"];
+
+const BLOCK_OPERATORS: [&str; 1] = ["BLOCK"];
+
+const PLAIN_OPERATORS: [&str; 19] = [
+    "RELINT", "INHINT", "EXTEND", "RESUME", "XXALQ", "XLQ", "RETURN", "DDOUBL", "ZL", "COM",
+    "DTCF", "DTCB", "OVSK", "TCAA", "DOUBLE", "ZQ", "DCOM", "SQUARE", "NOOP",
+];
+
+const CHANNEL_OPERATORS: [&str; 7] = ["READ", "WRITE", "RAND", "WAND", "ROR", "WOR", "RXOR"];
+
+const ERASABLE_OPERATORS: [&str; 2] = ["EBANK=", "ECADR"];
+
+const FIXED_OPERATORS: [&str; 4] = ["CADR", "FCADR", "2CADR", "CAF"];
+
+const JUMP_OPERATORS: [&str; 3] = ["TCF", "BZF", "BZMF"];
+
+const WRITERS: [&str; 10] = [
+    "TS", "XCH", "LXCH", "QXCH", "DXCH", "INCR", "ADS", "DAS", "AUG", "DIM",
+];
+
+const ERASABLE_READERS: [&str; 7] = ["CCS", "INDEX", "NDX", "CAE", "SU", "DV", "MSU"];
+
+const FOREIGN_OPERATORS: [(&str, &str); 27] = [
+    ("ORG", "SETLOC sets the location"),
+    ("EQU", "EQUALS gives a name its value"),
+    ("LDA", "CA loads A"),
+    ("LOAD", "CA loads A"),
+    ("LD", "CA loads A"),
+    ("MOV", "CA loads A, and TS stores it"),
+    ("STA", "TS stores A"),
+    ("STORE", "TS stores A"),
+    ("ST", "TS stores A"),
+    ("JMP", "TCF goes on in fixed memory, TC anywhere"),
+    ("GOTO", "TCF goes on in fixed memory, TC anywhere"),
+    ("BRA", "TCF goes on in fixed memory, TC anywhere"),
+    ("JSR", "TC calls a routine"),
+    ("CALL", "TC calls a routine"),
+    ("RTS", "RETURN goes back"),
+    ("RET", "RETURN goes back"),
+    ("NOP", "NOOP does nothing"),
+    ("ADD", "AD adds a word to A"),
+    (
+        "SUB",
+        "SU, an extracode, subtracts a word of erasable memory; CS and AD subtract any",
+    ),
+    ("MUL", "MP, an extracode, multiplies"),
+    ("DIV", "DV, an extracode, divides"),
+    ("AND", "MASK leaves the bits that both words have"),
+    ("DC", "OCT or DEC makes a word"),
+    ("DW", "OCT or DEC makes a word"),
+    ("DS", "ERASE reserves a word"),
+    ("2DEC", "two words: a DEC for each"),
+    ("2OCT", "two words: an OCT for each"),
+];
+
+const REGISTERS: [(&str, &str); 36] = [
+    ("A", "0"),
+    ("L", "1"),
+    ("Q", "2"),
+    ("EBANK", "3"),
+    ("EB", "3"),
+    ("FBANK", "4"),
+    ("FB", "4"),
+    ("Z", "5"),
+    ("BBANK", "6"),
+    ("BB", "6"),
+    ("ZERO", "7"),
+    ("ARUPT", "10"),
+    ("LRUPT", "11"),
+    ("QRUPT", "12"),
+    ("ZRUPT", "15"),
+    ("BBRUPT", "16"),
+    ("BRUPT", "17"),
+    ("CYR", "20"),
+    ("SR", "21"),
+    ("CYL", "22"),
+    ("EDOP", "23"),
+    ("TIME2", "24"),
+    ("TIME1", "25"),
+    ("TIME3", "26"),
+    ("TIME4", "27"),
+    ("TIME5", "30"),
+    ("TIME6", "31"),
+    ("CDUX", "32"),
+    ("CDUY", "33"),
+    ("CDUZ", "34"),
+    ("OPTY", "35"),
+    ("OPTX", "36"),
+    ("PIPAX", "37"),
+    ("PIPAY", "40"),
+    ("PIPAZ", "41"),
+    ("INLINK", "45"),
+];
+
+fn label_refusers() -> &'static [&'static str]
+    ensures { map (λ name. name.now) result.now ≡ label_refusers }
+{
+    &LABEL_REFUSERS
+}
+
+fn octal_operators() -> &'static [&'static str]
+    ensures { map (λ name. name.now) result.now ≡ octal_operators }
+{
+    &OCTAL_OPERATORS
+}
+
+fn decimal_operators() -> &'static [&'static str]
+    ensures { map (λ name. name.now) result.now ≡ decimal_operators }
+{
+    &DECIMAL_OPERATORS
+}
+
+fn bank_operators() -> &'static [&'static str]
+    ensures { map (λ name. name.now) result.now ≡ bank_operators }
+{
+    &BANK_OPERATORS
+}
+
+fn block_operators() -> &'static [&'static str]
+    ensures { map (λ name. name.now) result.now ≡ block_operators }
+{
+    &BLOCK_OPERATORS
+}
+
+fn plain_operators() -> &'static [&'static str]
+    ensures { map (λ name. name.now) result.now ≡ plain_operators }
+{
+    &PLAIN_OPERATORS
+}
+
+fn channel_operators() -> &'static [&'static str]
+    ensures { map (λ name. name.now) result.now ≡ channel_operators }
+{
+    &CHANNEL_OPERATORS
+}
+
+fn erasable_operators() -> &'static [&'static str]
+    ensures { map (λ name. name.now) result.now ≡ erasable_operators }
+{
+    &ERASABLE_OPERATORS
+}
+
+fn fixed_operators() -> &'static [&'static str]
+    ensures { map (λ name. name.now) result.now ≡ fixed_operators }
+{
+    &FIXED_OPERATORS
+}
+
+fn jump_operators() -> &'static [&'static str]
+    ensures { map (λ name. name.now) result.now ≡ jump_operators }
+{
+    &JUMP_OPERATORS
+}
+
+fn writers() -> &'static [&'static str]
+    ensures { map (λ name. name.now) result.now ≡ writers }
+{
+    &WRITERS
+}
+
+fn erasable_readers() -> &'static [&'static str]
+    ensures { map (λ name. name.now) result.now ≡ erasable_readers }
+{
+    &ERASABLE_READERS
+}
+
+fn foreign_operators() -> &'static [(&'static str, &'static str)]
+    ensures { entries result.now ≡ foreign_operators }
+{
+    &FOREIGN_OPERATORS
+}
+
+fn registers() -> &'static [(&'static str, &'static str)]
+    ensures { entries result.now ≡ registers }
+{
+    &REGISTERS
+}
