@@ -52,7 +52,7 @@ SAID = [
     (" OCT -1", [(1, 6, "E16: OCT takes no sign", "DEC takes one; a minus complements the word")]),
     (" CA =5", [(1, 5, "E17: no line defines =5", "a constant has a line of its own, whose label is the operand")]),
     (" LDA X| JMP X|X OCT 1", [(1, 2, "E15: LDA is no operator of this assembler", "CA loads A"), (2, 2, "E15: JMP is no operator of this assembler", "TCF goes on in fixed memory, TC anywhere")]),
-    ("X OCT 1|X OCT 2", [(2, 1, "E14: an earlier line has the label X", "")]),
+    ("X OCT 1|X OCT 2", [(2, 1, "E14: line 1 has the label X already", "")]),
     (" BANK 18| OCT 1", [(1, 7, "E16: banks are octal, and 18 has a digit 8 or 9", "BANK 18D takes it as decimal")]),
     (" SETLOC 100|X ERASE| CA X", [(3, 2, "E22: words stand in fixed memory, and the location is in erasable memory", "SETLOC and a fixed place, or BANK, before it")]),
     (" CCS FIVE|FIVE OCT 5", [(1, 6, "E25: CCS takes a word of erasable memory, and FIVE is not there", "copy the word to erasable memory first")]),

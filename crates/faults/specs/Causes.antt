@@ -36,19 +36,19 @@ text_of field = option_map_or (λ p. p.text) field []
 abbrev pub shown_field : Option Piece → List ℕ
 shown_field field = map shown_byte (text_of field)
 
--- what a byte of a text stands for: `&` for the label, `%` for the operator, `@` for the operand, `!` for another text, `~` for a label
+-- what a byte of a text stands for: `&` for the label, `%` for the operator, `@` for the operand, `!` for another text, `~` for a text from other lines
 abbrev pub filled_byte : Parts → List ℕ → List ℕ → ℕ → List ℕ
-filled_byte parts other label byte =
+filled_byte parts other beside byte =
     if byte == 0o46 then shown_field parts.label
     else if byte == 0o45 then shown_field parts.operator
     else if byte == 0o100 then shown_field parts.operand
     else if byte == 0o41 then other
-    else if byte == 0o176 then label
+    else if byte == 0o176 then beside
     else byte ∷ []
 
 -- a text with all that its marks stand for
 abbrev pub filled : Parts → List ℕ → List ℕ → List ℕ → List ℕ
-filled parts other label text = flat_map (filled_byte parts other label) text
+filled parts other beside text = flat_map (filled_byte parts other beside) text
 
 -- ## Fields
 -- a text holds a byte
@@ -367,13 +367,13 @@ range_cause parts =
 abbrev pub near_label : List (List ℕ) → List ℕ → Finding → Option (List ℕ)
 near_label labels text f = if f.number == 17 || f.number == 18 then near_name labels (text_of (parts_of text).operand) else None
 
--- a fault of a line in words, where a label is near to its symbol or none is
+-- a fault of a line in words, where a text from other lines stands for `~` or none does
 abbrev pub fault_cause : Bool → List ℕ → Finding → Cause
 fault_cause near text f =
     if f.number == 10 then byte_cause text f.span.start
     else if f.number == 11 then cured (meaning 11) (codes "part the comment into two lines")
     else if f.number == 13 then label_cause (parts_of text)
-    else if f.number == 14 then said (codes "an earlier line has the label &")
+    else if f.number == 14 then (if near then said (codes "line ~ has the label & already") else said (codes "an earlier line has the label &"))
     else if f.number == 15 then operator_cause (parts_of text)
     else if f.number == 16 then operand_cause (goes_on text) (parts_of text)
     else if f.number == 17 then undefined_cause near (parts_of text)

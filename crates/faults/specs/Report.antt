@@ -1,12 +1,13 @@
 -- The faults and the warnings of a source as lines of text.
-use Rattle.std.specs.Prelude.{ℕ, ◌+◌, ◌-◌, ◌==◌, List, [], ◌∷◌, ◌++◌, length, map, take, drop, max, min, replicate, codes, decimal, flat_map, nat_le, Bool, Option, is_some, slice_get, unwrap_or, if◌then◌else◌}
+use Rattle.std.specs.Prelude.{ℕ, ◌+◌, ◌-◌, ◌==◌, ◌&&◌, List, [], ◌∷◌, ◌++◌, length, map, take, drop, max, min, replicate, codes, decimal, flat_map, nat_le, Bool, Option, Some, is_some, slice_get, unwrap_or, if◌then◌else◌}
 use Rattle.std.specs.List.{fold, position_or_len}
 use Rattle.agc_text.specs.Bytes.{space, tab}
 use Rattle.agc_text.specs.Lines.{lines}
+use Rattle.agc_text.specs.Tables.{same_name}
 use Rattle.yayul.specs.declared.finding.Finding.{Finding}
-use Rattle.faults.specs.Causes.{Cause, fault_cause, filled, near_label, said}
+use Rattle.faults.specs.Causes.{Cause, fault_cause, filled, near_label, said, text_of}
 use Rattle.faults.specs.Shown.{shown_byte}
-use Rattle.faults.specs.Warnings.{parts_of, warning_meaning, with_field}
+use Rattle.faults.specs.Warnings.{is_among, parts_of, warning_meaning, with_field}
 use Rattle.faults.specs.declared.findings.Severity.{Severity}
 use Rattle.faults.specs.declared.findings.Severity.TheVariants.{Error, Warning}
 
@@ -48,11 +49,11 @@ message_text text label severity f c =
 abbrev pub cure_text : List ℕ → List ℕ → Cause → List ℕ
 cure_text text label c = if length c.cure == 0 then [] else codes "      = " ++ filled (parts_of text) c.other label c.cure ++ codes "\n"
 
--- a finding with why it is one, and the label that is near to its symbol
+-- a finding with why it is one, and a text from other lines
 abbrev pub caused_text : List ℕ → List ℕ → List ℕ → Severity → Finding → Cause → List ℕ
 caused_text name text label severity f c = place_text name text f ++ message_text text label severity f c ++ row_text text f ++ marks_text text f ++ cure_text text label c
 
--- a finding, where a label is near to its symbol or none is
+-- a finding, with a text from other lines or none
 abbrev pub finding_text : List ℕ → List ℕ → Option (List ℕ) → Severity → Finding → List ℕ
 finding_text name text near severity f = caused_text name text (unwrap_or near []) severity f (cause_of severity (is_some near) text f)
 
@@ -60,15 +61,29 @@ finding_text name text near severity f = caused_text name text (unwrap_or near [
 abbrev pub text_at : List (List ℕ) → ℕ → List ℕ
 text_at texts line = unwrap_or (slice_get texts (line - 1)) []
 
+-- a line has a label
+abbrev pub has_label : List ℕ → List ℕ → Bool
+has_label label text = same_name (text_of (parts_of text).label) label
+
+-- the number of the first line that has a label
+abbrev pub first_line : List (List ℕ) → List ℕ → ℕ
+first_line texts label = position_or_len (has_label label) texts + 1
+
+-- a text from other lines that a fault is told with: the number of the first line that has its label, or the label that is near to its symbol
+abbrev pub beside : List (List ℕ) → List (List ℕ) → List ℕ → Finding → Option (List ℕ)
+beside labels texts text f =
+    if f.number == 14 && is_among labels (text_of (parts_of text).label) then Some (decimal (first_line texts (text_of (parts_of text).label)))
+    else near_label labels text f
+
 -- the lines of a finding of a source
 abbrev pub shown_finding : List ℕ → List (List ℕ) → List (List ℕ) → Severity × Finding → List ℕ
-shown_finding name labels texts f = finding_text name (text_at texts f.1.line) (near_label labels (text_at texts f.1.line) f.1) f.0 f.1
+shown_finding name labels texts f = finding_text name (text_at texts f.1.line) (beside labels texts (text_at texts f.1.line) f.1) f.0 f.1
 
 -- the labels of some lines, each once
 abbrev pub labels_of : List (List ℕ) → List (List ℕ)
 labels_of texts = fold (λ labels text. with_field labels (parts_of text).label) [] texts
 
--- the labels among which one is sought that is near to a symbol: those of all lines, where at most 100 faults are told
+-- the labels that faults are told with: those of all lines, where at most 100 faults are told
 abbrev pub sought_labels : List (List ℕ) → List Finding → List (List ℕ)
 sought_labels texts faults = if nat_le (length faults) 100 then labels_of texts else []
 

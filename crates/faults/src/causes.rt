@@ -15,7 +15,7 @@ use agc_text::{Field, Line, decimal_value, octal_value};
 use yayul::Finding;
 
 /// What is wrong, how it is mended or nothing, and a text that stands in either. Marks stand for the fields of the line:
-/// `&` for the label, `%` for the operator, `@` for the operand, `!` for the other text, `~` for the label that is near.
+/// `&` for the label, `%` for the operator, `@` for the operand, `!` for the other text, `~` for a text from other lines.
 #[derive(Clone, Copy, Drop)]
 pub(crate) struct Cause {
     /// What is wrong.
@@ -63,7 +63,7 @@ impl Cause {
     }
 }
 
-/// A fault of a line in words, where a label is near to its symbol or none is.
+/// A fault of a line in words, where a text from other lines stands for `~` or none does.
 pub(crate) fn fault_cause(text: &[u8], near: bool, finding: &Finding) -> Cause
     ensures { cause_in result ≡ fault_cause near text.now finding.now }
 {
@@ -72,6 +72,7 @@ pub(crate) fn fault_cause(text: &[u8], near: bool, finding: &Finding) -> Cause
         10 => byte_cause(text, finding.span.start),
         11 => Cause::cured(meaning(11), b"part the comment into two lines"),
         13 => label_cause(parts),
+        14 if near => Cause::said(b"line ~ has the label & already"),
         14 => Cause::said(b"an earlier line has the label &"),
         15 => operator_cause(parts),
         16 => operand_cause(parts.more, parts),

@@ -8,7 +8,7 @@ ghost use Rattle.faults.specs.Warnings.{parts_in};
 ghost use Rattle.faults.specs.Shown.{shown_byte};
 ghost use Rattle.faults.specs.Causes.{filled, filled_byte};
 ghost use Rattle.faults.specs.Views.{cause_in};
-ghost use Rattle.faults.specs.Report.{margin_byte, numbered, row_text, marks_text, place_text, kind_text, cause_of, caused_text, message_text, cure_text, finding_text, text_at, shown_finding, labels_of, sought_labels, count_before, as_error, as_warning, merged, counted, count_text, report};
+ghost use Rattle.faults.specs.Report.{margin_byte, numbered, row_text, marks_text, place_text, kind_text, cause_of, caused_text, message_text, cure_text, finding_text, text_at, shown_finding, labels_of, sought_labels, has_label, first_line, count_before, as_error, as_warning, merged, counted, count_text, report};
 
 use crate::causes::{Cause, fault_cause, near_label, text_of};
 use crate::mistakes::{add_field, parts_of, warning_meaning};
@@ -22,7 +22,10 @@ use yayul::{Finding, Span};
 /// How many digits a number has at most.
 const DIGITS: usize = 20;
 
-/// The most faults of a source where labels are sought that are near to a symbol.
+/// The number of the fault that a label stands twice.
+const TWICE_DEFINED: u8 = 14;
+
+/// The most faults of a source that are told with labels of other lines.
 const MOST_FAULTS: usize = 100;
 
 /// How many columns the number of a line has.
@@ -56,7 +59,7 @@ pub fn report(
     Ok(out)
 }
 
-// The labels among which one is sought that is near to a symbol: those of all lines, where few faults are told.
+// The labels that faults are told with: those of all lines, where few faults are told.
 fn sought_labels(alloc: Global, texts: &[&[u8]], faults: &[Finding]) -> Result<NameSet, AllocError>
     ensures { IfOk result (λ labels. labels ≡ sought_labels (map (λ t. t.now) texts.now) faults.now) }
 {
@@ -142,6 +145,7 @@ fn push_warnings(
 }
 
 // Appends the lines of a finding.
+#[tactic(auto, using(words::proofs::Digits::short_decimal))]
 fn push_shown_finding(
     out: &mut Vec<u8>,
     name: &[u8],
@@ -153,14 +157,40 @@ fn push_shown_finding(
     ensures { OnOk result (out.new.items ≡ out.old.items ++ shown_finding name.now labels.now (map (λ t. t.now) texts.now) (severity, finding.now)) }
 {
     let text = text_at(texts, finding.line);
-    push_finding(
-        out,
-        name,
-        text,
-        near_label(labels, text, finding),
-        severity,
-        finding,
-    )
+    let label = text_of(parts_of(text).label);
+    if finding.number == TWICE_DEFINED && labels.has(label) {
+        let mut digits = ArrayVec::<u8, DIGITS>::new();
+        push_decimal(&mut digits, first_line(texts, label));
+        push_finding(out, name, text, Some(digits.as_slice()), severity, finding)
+    } else {
+        push_finding(
+            out,
+            name,
+            text,
+            near_label(labels, text, finding),
+            severity,
+            finding,
+        )
+    }
+}
+
+// The number of the first line that has a label.
+fn first_line(texts: &[&[u8]], label: &[u8]) -> u64
+    ensures { result ≡ first_line (map (λ t. t.now) texts.now) label.now }
+{
+    for (index, text) in texts.iter().enumerate() {
+        if has_label(text, label) {
+            return index as u64 + 1;
+        }
+    }
+    texts.len() as u64 + 1
+}
+
+// Whether a line has a label.
+fn has_label(text: &[u8], label: &[u8]) -> bool
+    ensures { result ≡ has_label label.now text.now }
+{
+    text_of(parts_of(text).label) == label
 }
 
 // The line of a number; one that does not stand is empty.
@@ -316,7 +346,7 @@ fn push_finding(
     push_caused(out, name, text, label_of(near), severity, finding, &cause)
 }
 
-// A label that is near, or nothing.
+// A text from other lines, or nothing.
 fn label_of(near: Option<&[u8]>) -> &[u8]
     ensures { result.now ≡ unwrap_or (option_map (λ label. label.now) near.entry) [] }
 {
@@ -326,7 +356,7 @@ fn label_of(near: Option<&[u8]>) -> &[u8]
     }
 }
 
-// Appends the lines of a fault with why it is one, and the label that is near to its symbol.
+// Appends the lines of a fault with why it is one, and a text from other lines.
 fn push_caused(
     out: &mut Vec<u8>,
     name: &[u8],
