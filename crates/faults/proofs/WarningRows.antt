@@ -39,13 +39,14 @@ abbrev placed : ℕ → ℕ → Finding
 placed line number = record { line = line; number = number; span = record { start = 1; width = 2 } }
 
 -- the faults of a line stand before its warnings, and the warnings of earlier lines before both
-shown_in_order : report (codes "a") (source (codes " CA 5; TS FIV;Z")) (placed 2 17 ∷ placed 2 25 ∷ []) (placed 1 2 ∷ placed 2 1 ∷ placed 3 8 ∷ [])
-    ≡ source (codes "a:1:2: warning W2: this is the register or the counter of that number, and not the number;    1 |  CA 5;      |  ^^;"
+shown_in_order : report (codes "a") (source (codes " CA 5; TS FIV;Z")) (placed 2 17 ∷ placed 2 25 ∷ []) (placed 1 2 ∷ placed 2 3 ∷ placed 3 8 ∷ [])
+    ≡ source (codes "a:1:2: warning W2: 5 is the register or the counter of that number, and not the number;    1 |  CA 5;      |  ^^;"
+    ++ codes "      = a number has a line of its own: NAME OCT 5, and CA NAME;"
     ++ codes "a:2:2: error E17: no line defines FIV;    2 |  TS FIV;      |  ^^;"
     ++ codes "a:2:2: error E25: TS writes to erasable memory, and FIV is not there;    2 |  TS FIV;      |  ^^;"
     ++ codes "      = reserve the word there: SETLOC and a place below 4000, and ERASE;"
-    ++ codes "a:2:2: warning W1: this is an operator's name, and in the first column it is a label;    2 |  TS FIV;      |  ^^;"
-    ++ codes "a:3:2: warning W8: no operand names this label;    3 | Z;      |  ^^;"
+    ++ codes "a:2:2: warning W3: TS takes two words, and ERASE reserves one for FIV;    2 |  TS FIV;      |  ^^;      = FIV ERASE +1 reserves two;"
+    ++ codes "a:3:2: warning W8: no operand names Z;    3 | Z;      |  ^^;"
     ++ codes "2 errors, 3 warnings;")
 unfolding report lines digits runs operators
 shown_in_order = refl

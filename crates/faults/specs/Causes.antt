@@ -387,3 +387,12 @@ fault_cause near text f =
     else if f.number == 25 then kind_cause (parts_of text)
     else if f.number == 26 then range_cause (parts_of text)
     else said (meaning f.number)
+
+-- a warning in words
+abbrev pub warning_cause : ℕ → Cause
+warning_cause number =
+    if number == 1 then cured (codes "& is an operator's name, and in the first column it is a label") (codes "put a blank before &")
+    else if number == 2 then cured (codes "@ is the register or the counter of that number, and not the number") (codes "a number has a line of its own: NAME OCT @, and % NAME")
+    else if number == 3 then cured (codes "% takes two words, and ERASE reserves one for @") (codes "@ ERASE +1 reserves two")
+    else if number == 8 then said (codes "no operand names &")
+    else said []

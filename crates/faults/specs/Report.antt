@@ -5,9 +5,9 @@ use Rattle.agc_text.specs.Bytes.{space, tab}
 use Rattle.agc_text.specs.Lines.{lines}
 use Rattle.agc_text.specs.Tables.{same_name}
 use Rattle.yayul.specs.declared.finding.Finding.{Finding}
-use Rattle.faults.specs.Causes.{Cause, fault_cause, filled, near_label, said, text_of}
+use Rattle.faults.specs.Causes.{Cause, fault_cause, filled, near_label, text_of, warning_cause}
 use Rattle.faults.specs.Shown.{shown_byte}
-use Rattle.faults.specs.Warnings.{is_among, parts_of, warning_meaning, with_field}
+use Rattle.faults.specs.Warnings.{is_among, parts_of, with_field}
 use Rattle.faults.specs.declared.findings.Severity.{Severity}
 use Rattle.faults.specs.declared.findings.Severity.TheVariants.{Error, Warning}
 
@@ -39,7 +39,7 @@ kind_text Warning = codes ": warning W"
 -- why it is one, and how it is mended
 abbrev pub cause_of : Severity → Bool → List ℕ → Finding → Cause
 cause_of Error near text f = fault_cause near text f
-cause_of Warning near text f = said (warning_meaning f.number)
+cause_of Warning near text f = warning_cause f.number
 
 abbrev pub message_text : List ℕ → List ℕ → Severity → Finding → Cause → List ℕ
 message_text text label severity f c =

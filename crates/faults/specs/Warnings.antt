@@ -12,15 +12,6 @@ use Rattle.yayul.specs.Survey.{field_at, looked_at, span_of}
 use Rattle.yayul.specs.declared.finding.Finding.{Finding}
 use Rattle.faults.specs.declared.mistakes.Names.{Names}
 
--- what the number of a warning means, in a line
-abbrev pub warning_meaning : ℕ → List ℕ
-warning_meaning number =
-    if number == 1 then codes "this is an operator's name, and in the first column it is a label"
-    else if number == 2 then codes "this is the register or the counter of that number, and not the number"
-    else if number == 3 then codes "the operator takes two words, and ERASE reserves one for this name; ERASE +1 reserves two"
-    else if number == 8 then codes "no operand names this label"
-    else []
-
 -- ## Names
 -- a text is one of some names
 abbrev pub is_among : List (List ℕ) → List ℕ → Bool

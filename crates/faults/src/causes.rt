@@ -5,7 +5,7 @@ ghost use Rattle.std.specs.Option.{option_map};
 ghost use Rattle.agc_text.specs.Tables.{value_in};
 ghost use Rattle.agc_text.specs.Views.{piece};
 ghost use Rattle.faults.specs.Warnings.{parts_in, operator_names};
-ghost use Rattle.faults.specs.Causes.{byte_cause, label_cause, operator_cause, digits_cause, place_cause, operand_cause, symbol_cause, undefined_cause, early_cause, bank_cause, room_cause, kind_cause, range_cause, fault_cause, near_label, said, cured, cured_by, text_of, holds, begins, is_signed, is_foreign_comment, has_foreign_comment, is_beyond_octal, near_name, is_close, is_in_capitals, capital, is_near, is_exchanged, foreign_operators, registers, label_refusers, octal_operators, decimal_operators, bank_operators, block_operators, plain_operators, channel_operators, erasable_operators, fixed_operators, jump_operators, writers, erasable_readers};
+ghost use Rattle.faults.specs.Causes.{byte_cause, label_cause, operator_cause, digits_cause, place_cause, operand_cause, symbol_cause, undefined_cause, early_cause, bank_cause, room_cause, kind_cause, range_cause, fault_cause, warning_cause, near_label, said, cured, cured_by, text_of, holds, begins, is_signed, is_foreign_comment, has_foreign_comment, is_beyond_octal, near_name, is_close, is_in_capitals, capital, is_near, is_exchanged, foreign_operators, registers, label_refusers, octal_operators, decimal_operators, bank_operators, block_operators, plain_operators, channel_operators, erasable_operators, fixed_operators, jump_operators, writers, erasable_readers};
 ghost use Rattle.faults.specs.Views.{cause_in, entries};
 
 use crate::mistakes::{erase_operators, has_operator, is_operator, operator_names};
@@ -93,6 +93,28 @@ pub(crate) fn fault_cause(text: &[u8], near: bool, finding: &Finding) -> Cause
         25 => kind_cause(parts),
         26 => range_cause(parts),
         number => Cause::said(meaning(number)),
+    }
+}
+
+/// A warning in words.
+pub(crate) fn warning_cause(number: u8) -> Cause
+    ensures { cause_in result ≡ warning_cause number }
+{
+    match number {
+        1 => Cause::cured(
+            b"& is an operator's name, and in the first column it is a label",
+            b"put a blank before &",
+        ),
+        2 => Cause::cured(
+            b"@ is the register or the counter of that number, and not the number",
+            b"a number has a line of its own: NAME OCT @, and % NAME",
+        ),
+        3 => Cause::cured(
+            b"% takes two words, and ERASE reserves one for @",
+            b"@ ERASE +1 reserves two",
+        ),
+        8 => Cause::said(b"no operand names &"),
+        _ => Cause::said(b""),
     }
 }
 

@@ -10,8 +10,8 @@ ghost use Rattle.faults.specs.Causes.{filled, filled_byte};
 ghost use Rattle.faults.specs.Views.{cause_in};
 ghost use Rattle.faults.specs.Report.{margin_byte, numbered, row_text, marks_text, place_text, kind_text, cause_of, caused_text, message_text, cure_text, finding_text, text_at, shown_finding, labels_of, sought_labels, has_label, first_line, count_before, as_error, as_warning, merged, counted, count_text, report};
 
-use crate::causes::{Cause, fault_cause, near_label, text_of};
-use crate::mistakes::{add_field, parts_of, warning_meaning};
+use crate::causes::{Cause, fault_cause, near_label, text_of, warning_cause};
+use crate::mistakes::{add_field, parts_of};
 use crate::names::NameSet;
 use agc_text::{Line, is_text, next_line};
 use arrayvec::ArrayVec;
@@ -236,7 +236,7 @@ fn cause_of(severity: Severity, near: bool, text: &[u8], finding: &Finding) -> C
 {
     match severity {
         Severity::Error => fault_cause(text, near, finding),
-        Severity::Warning => Cause::said(warning_meaning(finding.number)),
+        Severity::Warning => warning_cause(finding.number),
     }
 }
 

@@ -10,5 +10,5 @@ mod refusals;
 
 pub use explaining::{all_headings, explanation};
 pub use findings::{Severity, report};
-pub use mistakes::{warning_meaning, warnings};
+pub use mistakes::warnings;
 pub use refusals::{NUMBERS, Refusal, meaning, refusal_of};

@@ -6,7 +6,7 @@ ghost use Rattle.std.specs.Option.{option_map};
 ghost use Rattle.agc_text.specs.Fields.{fields, label_of};
 ghost use Rattle.agc_text.specs.Views.{piece};
 ghost use Rattle.yayul.specs.Survey.{field_at, looked_at, span_of};
-ghost use Rattle.faults.specs.Warnings.{warning_meaning, parts_of, parts_in, is_among, has_operator, has_alone, warned_if, at_field, operator_names, label_warnings, readers, is_register_number, number_warnings, pair_operators, erase_operators, reserves_one, with_field, with_single, pair_warnings, unused_warnings, names_of, line_warnings, warned_lines, warnings};
+ghost use Rattle.faults.specs.Warnings.{parts_of, parts_in, is_among, has_operator, has_alone, warned_if, at_field, operator_names, label_warnings, readers, is_register_number, number_warnings, pair_operators, erase_operators, reserves_one, with_field, with_single, pair_warnings, unused_warnings, names_of, line_warnings, warned_lines, warnings};
 
 use crate::findings::line_texts;
 use crate::names::{NameSet, is_among, is_short};
@@ -16,20 +16,6 @@ use yayul::{Finding, Span};
 
 /// How many lines are looked at: as many as a source may have, and one.
 const LINES: usize = 65_537;
-
-/// What the number of a warning means, in a line.
-pub fn warning_meaning(number: u8) -> &'static [u8]
-    ensures { result.now ≡ warning_meaning number }
-{
-    match number {
-        1 => b"this is an operator's name, and in the first column it is a label",
-        2 => b"this is the register or the counter of that number, and not the number",
-        3 =>
-            b"the operator takes two words, and ERASE reserves one for this name; ERASE +1 reserves two",
-        8 => b"no operand names this label",
-        _ => b"",
-    }
-}
 
 /// The warnings of a source, in the order of lines; those of labels that no operand names where they are asked for.
 #[tactic(auto, unfolding(crate::specs::Warnings::warnings))]
