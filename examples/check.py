@@ -832,6 +832,7 @@ def check_notes(room):
     lines = [b"NOTE WAITING T3RUPT STEP 7 CYCLES 5\n", b"NOTE WAITING RUPT10 STEP 6 CYCLES 5\n"]
     compare("interrupts that wait long", agcws("run", "--notes", waiting, asked, "862"), 0, b"", b"".join(lines))
     compare("interrupts that do not wait long", agcws("run", "--notes", waiting, asked, "861"), 0, b"")
+    check_other_bank(room, empty)
     rope = f"{room}/noted.rope"
     agcws("asm", five, rope)
     compare("notes of an image", agcws("run", "--image", "--notes", rope, empty, "10"), 0, b"", note.replace(b"DV D   ", b"DV 0100"))
@@ -848,6 +849,27 @@ def check_notes(room):
             told(f"the lines of {name} with notes", out == agcws("run", source, f"{EXAMPLES}/{feed}", steps)[1])
             noted |= {name} if notes else set()
     told("the examples that draw notes", noted == {"division", "bank_sum", "instructions"}, " ".join(sorted(noted)))
+
+
+def check_other_bank(room, empty):
+    """An erasable symbol that is reached under another bank: TABLE stands in E3, and EB holds 4 or 3."""
+
+    def notes(name, bank, code, steps):
+        text = f" SETLOC 1400\nTABLE ERASE +3\nN EQUALS 1403\n SETLOC 4000\n CA BANK\n TS 3\n{code}BANK OCT {bank}\n"
+        return agcws("run", "--notes", write(f"{room}/{name}.agc", text.encode()), empty, steps)
+
+    line = b"NOTE OTHERBANK  02,4002  31403  CA 1403            STEP 3 CYCLES 6 TIMES %d\n"
+    loop = "AGAIN CA TABLE +3\n TCF AGAIN\n"
+    told("another bank, once and again", [notes("other", 2000, loop, n) for n in ("3", "6", "7")] == [(0, b"", line % n) for n in (1, 2, 3)])
+    told("no other bank", notes("own", 1400, loop, "7") == (0, b"", b""))
+    next_bank = loop.replace("+3", "+400")
+    told("an offset into the next bank", notes("next", 2000, next_bank, "7") == (0, b"", b""))
+    told("an offset into the next bank, under the first", notes("first", 1400, next_bank, "3") == (0, b"", (line % 1).replace(b"31403  CA 1403 ", b"31400  CA TABLE")))
+    told("a number, which names no bank", [notes("number", 2000, loop.replace("TABLE +3", it), "7") for it in ("1403", "N")] == [(0, b"", b"")] * 2)
+    told("an index, which leads elsewhere", notes("index", 2000, loop.replace("AGAIN", "AGAIN INDEX 7\n", 1), "7") == (0, b"", b""))
+    image = f"{room}/other.rope"
+    agcws("asm", f"{room}/other.agc", image)
+    told("another bank, of an image", agcws("run", "--image", "--notes", image, empty, "7") == (0, b"", b""))
 
 
 def check_handed_on(room):

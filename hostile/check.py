@@ -630,7 +630,7 @@ def checks(made, count, seed):
 
 
 READ_STEPS = 300
-NOTES = re.compile(rb"(NOTE ((QUOTIENT|SKIP|NOWORD|ERASABLE|NOHANDLER) +\S.* STEP [1-9]\d* CYCLES \d+ TIMES [1-9]\d*|INSIDE STEP \d+|WAITING \w+ STEP [1-9]\d* CYCLES \d+)\n)*")
+NOTES = re.compile(rb"(NOTE ((QUOTIENT|SKIP|NOWORD|ERASABLE|NOHANDLER|OTHERBANK) +\S.* STEP [1-9]\d* CYCLES \d+ TIMES [1-9]\d*|INSIDE STEP \d+|WAITING \w+ STEP [1-9]\d* CYCLES \d+)\n)*")
 
 
 def is_read_alike(run, notes, trace, cover):

@@ -330,6 +330,8 @@ place in one, with its first step, the cycles after it, and how often, as
     NOWORD     a word is executed in fixed memory where none stands
     ERASABLE   a word is executed in erasable memory, but at Q
     NOHANDLER  an interrupt is entered where no word stands
+    OTHERBANK  another bank is reached than that of the erasable place that the
+               instruction's source names
   and NOTE INSIDE STEP 20 where the run ends within an interrupt, and
   NOTE WAITING T3RUPT STEP 7 CYCLES 5 where one is asked for since that step,
   and is not entered, for 853 cycles or more

@@ -10,10 +10,11 @@ use Rattle.cpu.specs.Profiles.{same_account}
 use Rattle.cpu.specs.Run.{run}
 use Rattle.cpu.specs.State.{State, Scenario}
 use Rattle.symbols.specs.Values.{SymbolTable}
+use Rattle.yayul.specs.Named.{Named}
 use Rattle.cover.specs.Tallies.{account_count, account_number, IsAccount}
 use Rattle.cover.proofs.Accounts.{other_account, same_is_one}
 use Rattle.notes.specs.declared.kind.Kind.{Kind}
-use Rattle.notes.specs.declared.kind.Kind.TheVariants.{Quotient, Skip, NoWord, InErasable, NoHandler}
+use Rattle.notes.specs.declared.kind.Kind.TheVariants.{Quotient, Skip, NoWord, InErasable, NoHandler, OtherBank}
 use Rattle.cpu.specs.NextStep.{next_step}
 use Rattle.cpu.specs.declared.next_step.NextStep.{NextStep}
 use Rattle.notes.specs.Notes.{happens, happens_in}
@@ -24,12 +25,13 @@ use Rattle.notes.specs.Waits.{Keeps, waits_after}
 use Rattle.notes.proofs.LongWaits.{keeps_more, keeps_none}
 
 -- what is so of each kind is so of all
-pub of_kinds : (P : Kind → Type 0) → P Quotient → P Skip → P NoWord → P InErasable → P NoHandler → (kind : Kind) → P kind
-of_kinds P a b c d e Quotient = a
-of_kinds P a b c d e Skip = b
-of_kinds P a b c d e NoWord = c
-of_kinds P a b c d e InErasable = d
-of_kinds P a b c d e NoHandler = e
+pub of_kinds : (P : Kind → Type 0) → P Quotient → P Skip → P NoWord → P InErasable → P NoHandler → P OtherBank → (kind : Kind) → P kind
+of_kinds P a b c d e f Quotient = a
+of_kinds P a b c d e f Skip = b
+of_kinds P a b c d e f NoWord = c
+of_kinds P a b c d e f InErasable = d
+of_kinds P a b c d e f NoHandler = e
+of_kinds P a b c d e f OtherBank = f
 
 number_within : (a : Account) → IsAccount a → account_number a < account_count
 number_within Input known = omega arith
@@ -47,9 +49,10 @@ none_held (suc n) zero = refl
 none_held (suc n) (suc k) = none_held n k
 
 -- before the first step
-pub none_counted : (scenario : Scenario) (book : Book) → ((kind : Kind) → counts_of book kind ≡ replicate account_count 0) → book.waits ≡ replicate 11 None → book.steps ≡ 0 → Counted scenario 0 book
+pub none_counted : (named : Named) (scenario : Scenario) (book : Book) → book.named ≡ named → ((kind : Kind) → counts_of book kind ≡ replicate account_count 0) → book.waits ≡ replicate 11 None → book.steps ≡ 0 → Counted named scenario 0 book
 unfolding times
-none_counted scenario book e waits steps = record {
+none_counted named scenario book words e waits steps = record {
+  same = words;
   each = λ kind. ap length (e kind) ∙ length-replicate account_count no_count;
   times = λ kind a known. rw (e kind) (none_held account_count (account_number a));
   waits = keeps_none scenario book.waits waits;
@@ -60,35 +63,35 @@ and_nothing : (k : ℕ) → k + 0 ≡ k
 and_nothing k = omega arith
 
 -- a step more
-times_more : (scenario : Scenario) (kind : Kind) (a : Account) (n : ℕ) → times scenario kind a (n + 1) ≡ times scenario kind a n + (if happens_at scenario kind a (run scenario n) then 1 else 0)
+times_more : (named : Named) (scenario : Scenario) (kind : Kind) (a : Account) (n : ℕ) → times named scenario kind a (n + 1) ≡ times named scenario kind a n + (if happens_at named scenario kind a (run scenario n) then 1 else 0)
 unfolding times
-times_more scenario kind a n = rw (add-one n) refl
+times_more named scenario kind a n = rw (add-one n) refl
 
-as_before : (scenario : Scenario) (kind : Kind) (a : Account) (n : ℕ) → happens_at scenario kind a (run scenario n) ≡ false → times scenario kind a (n + 1) ≡ times scenario kind a n
-as_before scenario kind a n none = times_more scenario kind a n ∙ ap (λ b. times scenario kind a n + (if b then 1 else 0)) none ∙ and_nothing (times scenario kind a n)
+as_before : (named : Named) (scenario : Scenario) (kind : Kind) (a : Account) (n : ℕ) → happens_at named scenario kind a (run scenario n) ≡ false → times named scenario kind a (n + 1) ≡ times named scenario kind a n
+as_before named scenario kind a n none = times_more named scenario kind a n ∙ ap (λ b. times named scenario kind a n + (if b then 1 else 0)) none ∙ and_nothing (times named scenario kind a n)
 
-once_more : (scenario : Scenario) (kind : Kind) (a : Account) (n : ℕ) → happens_at scenario kind a (run scenario n) ≡ true → times scenario kind a (n + 1) ≡ times scenario kind a n + 1
-once_more scenario kind a n hit = times_more scenario kind a n ∙ ap (λ b. times scenario kind a n + (if b then 1 else 0)) hit
+once_more : (named : Named) (scenario : Scenario) (kind : Kind) (a : Account) (n : ℕ) → happens_at named scenario kind a (run scenario n) ≡ true → times named scenario kind a (n + 1) ≡ times named scenario kind a n + 1
+once_more named scenario kind a n hit = times_more named scenario kind a n ∙ ap (λ b. times named scenario kind a n + (if b then 1 else 0)) hit
 
-pub few_times : (scenario : Scenario) (kind : Kind) (a : Account) (n : ℕ) → times scenario kind a n ≤ n
+pub few_times : (named : Named) (scenario : Scenario) (kind : Kind) (a : Account) (n : ℕ) → times named scenario kind a n ≤ n
 unfolding times
-few_times scenario kind a zero = omega arith
-few_times scenario kind a (suc n) =
-    let before = few_times scenario kind a n in
-    elim (cases_Bool (happens_at scenario kind a (run scenario n))) [
+few_times named scenario kind a zero = omega arith
+few_times named scenario kind a (suc n) =
+    let before = few_times named scenario kind a n in
+    elim (cases_Bool (happens_at named scenario kind a (run scenario n))) [
       | inl hit ↦ rw hit (omega (arith, before))
       | inr miss ↦ rw miss (omega (arith, before))
     ]
 
-pub small : (scenario : Scenario) (n : ℕ) (book : Book) → n < 2 ^ 40 → Counted scenario n book → AreSmall book
-small scenario n book few counted = record {
-  counts = λ kind a known. omega (arith, few, counted.times kind a known, few_times scenario kind a n);
+pub small : (named : Named) (scenario : Scenario) (n : ℕ) (book : Book) → n < 2 ^ 40 → Counted named scenario n book → AreSmall book
+small named scenario n book few counted = record {
+  counts = λ kind a known. omega (arith, few, counted.times kind a known, few_times named scenario kind a n);
   steps = omega (arith, few, counted.steps);
 }
 
 -- whether something happens at a place, by whether it happens and where
-both : (scenario : Scenario) (kind : Kind) (a : Account) (s : State) (h p : Bool) → happens scenario kind s ≡ h → same_account a (here scenario s) ≡ p → happens_at scenario kind a s ≡ (h && p)
-both scenario kind a s h p e f = rw (e, f) refl
+both : (named : Named) (scenario : Scenario) (kind : Kind) (a : Account) (s : State) (h p : Bool) → happens named scenario kind s ≡ h → same_account a (here scenario s) ≡ p → happens_at named scenario kind a s ≡ (h && p)
+both named scenario kind a s h p e f = rw (e, f) refl
 
 -- what is held after a step is counted
 held_more : (counts : List ℕ) (a b : Account) (h p : Bool) → length counts ≡ account_count → IsAccount a → IsAccount b → same_account a b ≡ p
@@ -107,26 +110,27 @@ length_counted : (counts : List ℕ) (number : ℕ) (h : Bool) → length (count
 length_counted counts number true = length-set counts number (get_or counts number 0 + 1)
 length_counted counts number false = refl
 
-times_by : (scenario : Scenario) (kind : Kind) (a : Account) (n : ℕ) → times scenario kind a (n + 1)
-    ≡ times scenario kind a n + (if happens scenario kind (run scenario n) && same_account a (here scenario (run scenario n)) then 1 else 0)
-times_by scenario kind a n = times_more scenario kind a n
+times_by : (named : Named) (scenario : Scenario) (kind : Kind) (a : Account) (n : ℕ) → times named scenario kind a (n + 1)
+    ≡ times named scenario kind a n + (if happens named scenario kind (run scenario n) && same_account a (here scenario (run scenario n)) then 1 else 0)
+times_by named scenario kind a n = times_more named scenario kind a n
 
-pub counted_after : (scenario : Scenario) (n : ℕ) (old new : Book) → Counted scenario n old → Notes scenario (run scenario n) old new → Counted scenario (n + 1) new
-counted_after scenario n old new before step = record {
+pub counted_after : (named : Named) (scenario : Scenario) (n : ℕ) (old new : Book) → Counted named scenario n old → Notes scenario (run scenario n) old new → Counted named scenario (n + 1) new
+counted_after named scenario n old new before step = record {
+  same = step.named ∙ before.same;
   each = λ kind. ap length (step.each kind) ∙ length_counted (counts_of old kind) _ _ ∙ before.each kind;
   times = λ kind a known.
       let s = run scenario n in
-      ap (λ counts. get_or counts (account_number a) 0) (step.each kind)
-      ∙ held_more (counts_of old kind) a (here scenario s) (happens scenario kind s) (same_account a (here scenario s)) (before.each kind) known step.known refl
-      ∙ ap (λ k. k + (if happens scenario kind s && same_account a (here scenario s) then 1 else 0)) (before.times kind a known)
-      ∙ sym (times_by scenario kind a n);
+      ap (λ counts. get_or counts (account_number a) 0) (step.each kind ∙ ap (λ m. counted_more (counts_of old kind) (account_number (here scenario s)) (happens m scenario kind s)) before.same)
+      ∙ held_more (counts_of old kind) a (here scenario s) (happens named scenario kind s) (same_account a (here scenario s)) (before.each kind) known step.known refl
+      ∙ ap (λ k. k + (if happens named scenario kind s && same_account a (here scenario s) then 1 else 0)) (before.times kind a known)
+      ∙ sym (times_by named scenario kind a n);
   waits = keeps_more scenario n old.waits new.waits before.waits (step.waits ∙ ap (λ m. waits_after (run scenario n) (next_step scenario (run scenario n)) (m + 1) old.waits) before.steps);
   steps = step.steps ∙ ap (λ m. m + 1) before.steps;
 }
 
-pub counted_next : (scenario now : Scenario) (n : ℕ) (s : State) (old new : Book) → now ≡ scenario → s ≡ run scenario n → Counted scenario n old → Notes now s old new → Counted scenario (n + 1) new
-counted_next scenario now n s old new same at before step =
-    counted_after scenario n old new before (subst (λ u. Notes u (run scenario n) old new) same (subst (λ t. Notes now t old new) at step))
+pub counted_next : (named : Named) (scenario now : Scenario) (n : ℕ) (s : State) (old new : Book) → now ≡ scenario → s ≡ run scenario n → Counted named scenario n old → Notes now s old new → Counted named scenario (n + 1) new
+counted_next named scenario now n s old new same at before step =
+    counted_after named scenario n old new before (subst (λ u. Notes u (run scenario n) old new) same (subst (λ t. Notes now t old new) at step))
 
 -- what is noted of the next step, kind by kind
 pub small_at : (counts : List ℕ) (book : Book) (number : ℕ) (a : Account) (kind : Kind) → counts ≡ counts_of book kind → AreSmall book → IsAccount a → number ≡ account_number a
@@ -137,53 +141,56 @@ same_here : (scenario : Scenario) (s : State) (step : NextStep) (a : Account) �
 same_here scenario s step a at is = is ∙ ap (λ t. where_of t) at
 
 pub noted : (scenario : Scenario) (s : State) (step : NextStep) (a : Account) (number : ℕ) (old new : Book) → step ≡ next_step scenario s → a ≡ where_of step → number ≡ account_number a → IsAccount a
-    → ((kind : Kind) → counts_of new kind ≡ counted_more (counts_of old kind) number (happens_in scenario.rope s kind step))
-    → new.waits ≡ waits_after s step new.steps old.waits → new.steps ≡ old.steps + 1 → Notes scenario s old new
+    → ((kind : Kind) → counts_of new kind ≡ counted_more (counts_of old kind) number (happens_in old.named scenario.rope s kind step))
+    → new.named ≡ old.named → new.waits ≡ waits_after s step new.steps old.waits → new.steps ≡ old.steps + 1 → Notes scenario s old new
 unfolding happens
-noted scenario s step a number old new at is e known each waits steps = record {
+noted scenario s step a number old new at is e known each words waits steps = record {
   known = subst (λ x. IsAccount x) (same_here scenario s step a at is) known;
   each = λ kind.
-      each kind ∙ ap (λ m. counted_more (counts_of old kind) m (happens_in scenario.rope s kind step)) (e ∙ ap (λ x. account_number x) (same_here scenario s step a at is))
-      ∙ ap (λ t. counted_more (counts_of old kind) (account_number (here scenario s)) (happens_in scenario.rope s kind t)) at;
+      each kind ∙ ap (λ m. counted_more (counts_of old kind) m (happens_in old.named scenario.rope s kind step)) (e ∙ ap (λ x. account_number x) (same_here scenario s step a at is))
+      ∙ ap (λ t. counted_more (counts_of old kind) (account_number (here scenario s)) (happens_in old.named scenario.rope s kind t)) at;
+  named = words;
   waits = waits ∙ ap (λ t. waits_after s t new.steps old.waits) at ∙ ap (λ m. waits_after s (next_step scenario s) m old.waits) steps;
   steps = steps;
 }
 
 pub takes : (scenario : Scenario) (s : State) (step : NextStep) (a : Account) (number : ℕ) (old new : Book) → step ≡ next_step scenario s → a ≡ where_of step → number ≡ account_number a → IsAccount a
-    → ((kind : Kind) → counts_of new kind ≡ left_after (counts_of old kind) number (happens_in scenario.rope s kind step)) → new.waits ≡ old.waits → Takes scenario s old new
+    → ((kind : Kind) → counts_of new kind ≡ left_after (counts_of old kind) number (happens_in old.named scenario.rope s kind step)) → new.named ≡ old.named → new.waits ≡ old.waits → Takes scenario s old new
 unfolding happens
-takes scenario s step a number old new at is e known each waits = record {
+takes scenario s step a number old new at is e known each words waits = record {
   known = subst (λ x. IsAccount x) (same_here scenario s step a at is) known;
   each = λ kind.
-      each kind ∙ ap (λ m. left_after (counts_of old kind) m (happens_in scenario.rope s kind step)) (e ∙ ap (λ x. account_number x) (same_here scenario s step a at is))
-      ∙ ap (λ t. left_after (counts_of old kind) (account_number (here scenario s)) (happens_in scenario.rope s kind t)) at;
+      each kind ∙ ap (λ m. left_after (counts_of old kind) m (happens_in old.named scenario.rope s kind step)) (e ∙ ap (λ x. account_number x) (same_here scenario s step a at is))
+      ∙ ap (λ t. left_after (counts_of old kind) (account_number (here scenario s)) (happens_in old.named scenario.rope s kind t)) at;
+  named = words;
   waits = waits;
 }
 
 pub told_at : (scenario : Scenario) (s : State) (step : NextStep) (a : Account) (number : ℕ) (old : Book) (out : Kind → ℕ) → step ≡ next_step scenario s → a ≡ where_of step → number ≡ account_number a
-    → ((kind : Kind) → out kind ≡ taken (counts_of old kind) number (happens_in scenario.rope s kind step)) → (kind : Kind) → out kind ≡ taken_at scenario s old kind
+    → ((kind : Kind) → out kind ≡ taken (counts_of old kind) number (happens_in old.named scenario.rope s kind step)) → (kind : Kind) → out kind ≡ taken_at scenario s old kind
 unfolding happens
 told_at scenario s step a number old out at is e each = λ kind.
-    each kind ∙ ap (λ m. taken (counts_of old kind) m (happens_in scenario.rope s kind step)) (e ∙ ap (λ x. account_number x) (same_here scenario s step a at is))
-    ∙ ap (λ t. taken (counts_of old kind) (account_number (here scenario s)) (happens_in scenario.rope s kind t)) at
+    each kind ∙ ap (λ m. taken (counts_of old kind) m (happens_in old.named scenario.rope s kind step)) (e ∙ ap (λ x. account_number x) (same_here scenario s step a at is))
+    ∙ ap (λ t. taken (counts_of old kind) (account_number (here scenario s)) (happens_in old.named scenario.rope s kind t)) at
 
 -- where nothing is told no line is written
 pub nothing_told : (what : List ℕ) (number cycles : ℕ) (count : Kind → ℕ) → ((kind : Kind) → count kind ≡ 0) → kinds_text what number cycles count ≡ []
-nothing_told what number cycles count none = rw (none Quotient, none Skip, none NoWord, none InErasable, none NoHandler) refl
+nothing_told what number cycles count none = rw (none Quotient, none Skip, none NoWord, none InErasable, none NoHandler, none OtherBank) refl
 
--- all five are 0
-pub all_zero : (t : Told) → (t.quotients == 0 && (t.skips == 0 && (t.no_words == 0 && (t.in_erasable == 0 && t.no_handlers == 0)))) ≡ true → (kind : Kind) → told_of t kind ≡ 0
+-- all six are 0
+pub all_zero : (t : Told) → (t.quotients == 0 && (t.skips == 0 && (t.no_words == 0 && (t.in_erasable == 0 && (t.no_handlers == 0 && t.other_banks == 0))))) ≡ true → (kind : Kind) → told_of t kind ≡ 0
 all_zero t e =
     let one = and_parts (t.quotients == 0) _ e in
     let two = and_parts (t.skips == 0) _ one.1 in
     let three = and_parts (t.no_words == 0) _ two.1 in
-    let four = and_parts (t.in_erasable == 0) (t.no_handlers == 0) three.1 in
-    of_kinds (λ kind. told_of t kind ≡ 0) (eqb-true t.quotients 0 one.0) (eqb-true t.skips 0 two.0) (eqb-true t.no_words 0 three.0) (eqb-true t.in_erasable 0 four.0) (eqb-true t.no_handlers 0 four.1)
+    let four = and_parts (t.in_erasable == 0) _ three.1 in
+    let five = and_parts (t.no_handlers == 0) (t.other_banks == 0) four.1 in
+    of_kinds (λ kind. told_of t kind ≡ 0) (eqb-true t.quotients 0 one.0) (eqb-true t.skips 0 two.0) (eqb-true t.no_words 0 three.0) (eqb-true t.in_erasable 0 four.0) (eqb-true t.no_handlers 0 five.0) (eqb-true t.other_banks 0 five.1)
 
 -- ## What is told
-pub left_start : (scenario : Scenario) (n : ℕ) (book : Book) → Counted scenario n book → Left scenario 0 n book
+pub left_start : (named : Named) (scenario : Scenario) (n : ℕ) (book : Book) → Counted named scenario n book → Left named scenario 0 n book
 unfolding times
-left_start scenario n book counted = record { each = counted.each; times = λ kind a known. counted.times kind a known; waits = counted.waits }
+left_start named scenario n book counted = record { same = counted.same; each = counted.each; times = λ kind a known. counted.times kind a known; waits = counted.waits }
 
 -- what is left after a step
 held_left : (counts : List ℕ) (a b : Account) (h p : Bool) → length counts ≡ account_count → IsAccount a → IsAccount b → same_account a b ≡ p
@@ -202,44 +209,50 @@ length_left counts number false = refl
 not_none : (k : ℕ) → (k + 1 == 0) ≡ false
 not_none k = grind (arith, nat_tests)
 
-from_more : (scenario : Scenario) (kind : Kind) (a : Account) (t n : ℕ) (b : Bool) → happens_at scenario kind a (run scenario t) ≡ b
-    → (if b then 0 else times_from scenario kind a t n) ≡ times_from scenario kind a (t + 1) n
-from_more scenario kind a t n true hit = rw (once_more scenario kind a t hit, not_none (times scenario kind a t)) refl
-from_more scenario kind a t n false miss = rw (as_before scenario kind a t miss) refl
+from_more : (named : Named) (scenario : Scenario) (kind : Kind) (a : Account) (t n : ℕ) (b : Bool) → happens_at named scenario kind a (run scenario t) ≡ b
+    → (if b then 0 else times_from named scenario kind a t n) ≡ times_from named scenario kind a (t + 1) n
+from_more named scenario kind a t n true hit = rw (once_more named scenario kind a t hit, not_none (times named scenario kind a t)) refl
+from_more named scenario kind a t n false miss = rw (as_before named scenario kind a t miss) refl
 
-pub left_more : (scenario : Scenario) (t n : ℕ) (old new : Book) → Left scenario t n old → Takes scenario (run scenario t) old new → Left scenario (t + 1) n new
-left_more scenario t n old new before step = record {
+pub left_more : (named : Named) (scenario : Scenario) (t n : ℕ) (old new : Book) → Left named scenario t n old → Takes scenario (run scenario t) old new → Left named scenario (t + 1) n new
+left_more named scenario t n old new before step = record {
+  same = step.named ∙ before.same;
   each = λ kind. ap length (step.each kind) ∙ length_left (counts_of old kind) _ _ ∙ before.each kind;
   times = λ kind a known.
       let s = run scenario t in
-      ap (λ counts. get_or counts (account_number a) 0) (step.each kind)
-      ∙ held_left (counts_of old kind) a (here scenario s) (happens scenario kind s) (same_account a (here scenario s)) (before.each kind) known step.known refl
-      ∙ ap (λ k. if happens scenario kind s && same_account a (here scenario s) then 0 else k) (before.times kind a known)
-      ∙ from_more scenario kind a t n (happens_at scenario kind a s) refl;
+      ap (λ counts. get_or counts (account_number a) 0) (step.each kind ∙ ap (λ m. left_after (counts_of old kind) (account_number (here scenario s)) (happens m scenario kind s)) before.same)
+      ∙ held_left (counts_of old kind) a (here scenario s) (happens named scenario kind s) (same_account a (here scenario s)) (before.each kind) known step.known refl
+      ∙ ap (λ k. if happens named scenario kind s && same_account a (here scenario s) then 0 else k) (before.times kind a known)
+      ∙ from_more named scenario kind a t n (happens_at named scenario kind a s) refl;
   waits = subst (λ w. Keeps scenario n w) (sym step.waits) before.waits;
 }
 
-pub left_next : (scenario now : Scenario) (t n : ℕ) (s : State) (old new : Book) → now ≡ scenario → s ≡ run scenario t → Left scenario t n old → Takes now s old new → Left scenario (t + 1) n new
-left_next scenario now t n s old new same at before step =
-    left_more scenario t n old new before (subst (λ u. Takes u (run scenario t) old new) same (subst (λ r. Takes now r old new) at step))
+pub left_next : (named : Named) (scenario now : Scenario) (t n : ℕ) (s : State) (old new : Book) → now ≡ scenario → s ≡ run scenario t → Left named scenario t n old → Takes now s old new → Left named scenario (t + 1) n new
+left_next named scenario now t n s old new same at before step =
+    left_more named scenario t n old new before (subst (λ u. Takes u (run scenario t) old new) same (subst (λ r. Takes now r old new) at step))
 
 -- what is taken at a step is what is told there
 told_by : (h : Bool) (held from : ℕ) → held ≡ from → (if h then held else 0) ≡ (if h then from else 0)
 told_by h held from e = rw e refl
 
-pub told_is : (scenario : Scenario) (t n : ℕ) (book : Book) → Left scenario t n book → IsAccount (here scenario (run scenario t)) → taken_at scenario (run scenario t) book ≡ told scenario n t
+told_each : (named : Named) (scenario : Scenario) (t n : ℕ) (book : Book) → Left named scenario t n book → IsAccount (here scenario (run scenario t)) → (kind : Kind)
+    → taken_at scenario (run scenario t) book kind ≡ told named scenario n t kind
 unfolding told
-told_is scenario t n book left known = λ i kind.
-    told_by (happens scenario kind (run scenario t)) _ _ (left.times kind (here scenario (run scenario t)) known) i
+told_each named scenario t n book left known kind =
+    ap (λ m. taken (counts_of book kind) (account_number (here scenario (run scenario t))) (happens m scenario kind (run scenario t))) left.same
+    ∙ told_by (happens named scenario kind (run scenario t)) _ _ (left.times kind (here scenario (run scenario t)) known)
 
-text_at : (symbols : SymbolTable) (scenario : Scenario) (t n : ℕ) (book : Book) → Left scenario t n book → IsAccount (here scenario (run scenario t))
-    → text_after symbols scenario (t + 1) (run scenario t) (taken_at scenario (run scenario t) book) ≡ step_text symbols scenario n t
+pub told_is : (named : Named) (scenario : Scenario) (t n : ℕ) (book : Book) → Left named scenario t n book → IsAccount (here scenario (run scenario t)) → taken_at scenario (run scenario t) book ≡ told named scenario n t
+told_is named scenario t n book left known = λ i kind. told_each named scenario t n book left known kind i
+
+text_at : (symbols : SymbolTable) (named : Named) (scenario : Scenario) (t n : ℕ) (book : Book) → Left named scenario t n book → IsAccount (here scenario (run scenario t))
+    → text_after symbols scenario (t + 1) (run scenario t) (taken_at scenario (run scenario t) book) ≡ step_text symbols named scenario n t
 unfolding step_text
-text_at symbols scenario t n book left known = ap (λ f. text_after symbols scenario (t + 1) (run scenario t) f) (told_is scenario t n book left known)
+text_at symbols named scenario t n book left known = ap (λ f. text_after symbols scenario (t + 1) (run scenario t) f) (told_is named scenario t n book left known)
 
-pub text_is : (symbols : SymbolTable) (scenario now : Scenario) (t n : ℕ) (s : State) (book : Book) → now ≡ scenario → s ≡ run scenario t → Left scenario t n book → IsAccount (here now s)
-    → text_after symbols now (t + 1) s (taken_at now s book) ≡ step_text symbols scenario n t
-text_is symbols scenario now t n s book same at left known =
+pub text_is : (symbols : SymbolTable) (named : Named) (scenario now : Scenario) (t n : ℕ) (s : State) (book : Book) → now ≡ scenario → s ≡ run scenario t → Left named scenario t n book → IsAccount (here now s)
+    → text_after symbols now (t + 1) s (taken_at now s book) ≡ step_text symbols named scenario n t
+text_is symbols named scenario now t n s book same at left known =
     let there : IsAccount (here scenario (run scenario t)) = subst (λ u. IsAccount (here u (run scenario t))) same (subst (λ r. IsAccount (here now r)) at known) in
     ap (λ r. text_after symbols now (t + 1) r (taken_at now r book)) at ∙ ap (λ u. text_after symbols u (t + 1) (run scenario t) (taken_at u (run scenario t) book)) same
-    ∙ text_at symbols scenario t n book left there
+    ∙ text_at symbols named scenario t n book left there

@@ -8,10 +8,13 @@ use Rattle.space.specs.declared.place.Linear.TheVariants.{Erasable, Fixed}
 use Rattle.cpu.specs.declared.account.Account.TheVariants.{Waiting, Place}
 use Rattle.cpu.specs.declared.next_step.NextStep.TheVariants.{Enters, Executes}
 use Rattle.cpu.specs.Run.{run}
-use Rattle.cpu.specs.State.{Scenario}
+use Rattle.cpu.specs.Codes.{basic_rows, code_of}
+use Rattle.cpu.specs.Effects.{place_in}
+use Rattle.cpu.specs.State.{Scenario, State}
+use Rattle.yayul.specs.Named.{Named}
 use Rattle.notes.specs.declared.kind.Kind.TheVariants.{Quotient, Skip}
 use Rattle.notes.specs.Counted.{counted_more, left_after, taken}
-use Rattle.notes.specs.Notes.{is_code_in_erasable}
+use Rattle.notes.specs.Notes.{is_code_in_erasable, is_elsewhere, place_named, reaches_other}
 use Rattle.notes.specs.RunNotes.{end_text, note_line, told_line, where_of}
 use Rattle.notes.specs.Waits.{asked_at, is_long, kept_text, wait_line, waits_since}
 use Rattle.notes.proofs.LongWaits.{since_more}
@@ -44,6 +47,40 @@ at_q = refl
 
 in_fixed : is_code_in_erasable (Fixed 2 0) ≡ false
 in_fixed = refl
+
+-- TABLE +3 in E3, reached there or in E4, and a place of fixed memory
+in_its_bank : is_elsewhere 0o1403 (Erasable 0o1777) ≡ false
+in_its_bank = refl
+
+in_another : is_elsewhere 0o1403 (Erasable 0o2003) ≡ true
+in_another = refl
+
+out_of_erasable : is_elsewhere 0o1403 (Fixed 2 0) ≡ true
+out_of_erasable = refl
+
+-- CA TABLE +3 at 00,2001, which is named there and nowhere else; under E4 it is told, under E3 it is not, and with an index it is passed over
+abbrev one_named : Named
+one_named = None ∷ Some 0o1403 ∷ None ∷ []
+
+named_there : place_named one_named (Fixed 0 1) ≡ Some 0o1403
+named_there = refl
+
+not_before : place_named one_named (Fixed 0 0) ≡ None
+not_before = refl
+
+not_in_erasable : place_named one_named (Erasable 1) ≡ None
+not_in_erasable = refl
+
+under_e4 : (s : State) → place_in s 0o1403 ≡ Erasable 0o2003 → reaches_other one_named s (record { place = Fixed 0 1; word = 0o31403; extra = false; waited = false; added = None }) ≡ true
+unfolding basic_rows code_of
+under_e4 s e = rw e refl
+
+under_e3 : (s : State) → place_in s 0o1403 ≡ Erasable 0o1403 → reaches_other one_named s (record { place = Fixed 0 1; word = 0o31403; extra = false; waited = false; added = None }) ≡ false
+unfolding basic_rows code_of
+under_e3 s e = rw e refl
+
+with_an_index : (s : State) → reaches_other one_named s (record { place = Fixed 0 1; word = 0o31403; extra = false; waited = false; added = Some 0 }) ≡ false
+with_an_index s = refl
 
 -- T3RUPT is entered at 4014; a word that RESUME brought is nowhere
 entry : where_of (Enters 3) ≡ Place (Fixed 2 0o14)

@@ -3,16 +3,18 @@ use Rattle.std.specs.Prelude.{◌≡◌, ℕ, ◌+◌, ◌≤◌, ◌^◌, Bool,
 use Rattle.cpu.specs.declared.account.Account.{Account}
 use Rattle.cpu.specs.NextStep.{next_step}
 use Rattle.cpu.specs.State.{State, Scenario}
+use Rattle.yayul.specs.Named.{Named}
 use Rattle.cover.specs.Tallies.{account_count, account_number, IsAccount}
 use Rattle.notes.specs.declared.kind.Kind.{Kind}
-use Rattle.notes.specs.declared.kind.Kind.TheVariants.{Quotient, Skip, NoWord, InErasable, NoHandler}
+use Rattle.notes.specs.declared.kind.Kind.TheVariants.{Quotient, Skip, NoWord, InErasable, NoHandler, OtherBank}
 use Rattle.notes.specs.declared.notebook.Told.{Told}
 use Rattle.notes.specs.Notes.{happens}
 use Rattle.notes.specs.RunNotes.{here, times, times_from}
 use Rattle.notes.specs.Waits.{Keeps, Waits, waits_after}
 
--- the counts of each kind, since when each interrupt is asked for, and how many steps were noted
+-- the erasable places that words name, the counts of each kind, since when each interrupt is asked for, and how many steps were noted
 pub record Book : Type 0 where
+  pub named : Named
   pub counts : List (List ℕ)
   pub waits : Waits
   pub steps : ℕ
@@ -23,6 +25,7 @@ counts_of book Skip = get_or book.counts 1 []
 counts_of book NoWord = get_or book.counts 2 []
 counts_of book InErasable = get_or book.counts 3 []
 counts_of book NoHandler = get_or book.counts 4 []
+counts_of book OtherBank = get_or book.counts 5 []
 
 -- once more at a number, where something happens
 abbrev pub counted_more : List ℕ → ℕ → Bool → List ℕ
@@ -43,18 +46,20 @@ pub record AreSmall (book : Book) : Type 0 where
 -- what happens in the step that follows a state is counted
 pub record Notes (scenario : Scenario) (s : State) (old new : Book) : Type 0 where
   pub known : IsAccount (here scenario s)
-  pub each : (kind : Kind) → counts_of new kind ≡ counted_more (counts_of old kind) (account_number (here scenario s)) (happens scenario kind s)
+  pub each : (kind : Kind) → counts_of new kind ≡ counted_more (counts_of old kind) (account_number (here scenario s)) (happens old.named scenario kind s)
+  pub named : new.named ≡ old.named
   pub waits : new.waits ≡ waits_after s (next_step scenario s) (old.steps + 1) old.waits
   pub steps : new.steps ≡ old.steps + 1
 
 -- what is held of each kind that happens in the step that follows a state
 abbrev pub taken_at : Scenario → State → Book → Kind → ℕ
-taken_at scenario s book kind = taken (counts_of book kind) (account_number (here scenario s)) (happens scenario kind s)
+taken_at scenario s book kind = taken (counts_of book kind) (account_number (here scenario s)) (happens book.named scenario kind s)
 
 -- what happens in the step that follows a state is taken
 pub record Takes (scenario : Scenario) (s : State) (old new : Book) : Type 0 where
   pub known : IsAccount (here scenario s)
-  pub each : (kind : Kind) → counts_of new kind ≡ left_after (counts_of old kind) (account_number (here scenario s)) (happens scenario kind s)
+  pub each : (kind : Kind) → counts_of new kind ≡ left_after (counts_of old kind) (account_number (here scenario s)) (happens old.named scenario kind s)
+  pub named : new.named ≡ old.named
   pub waits : new.waits ≡ old.waits
 
 -- what is told of each kind
@@ -64,16 +69,19 @@ told_of t Skip = t.skips
 told_of t NoWord = t.no_words
 told_of t InErasable = t.in_erasable
 told_of t NoHandler = t.no_handlers
+told_of t OtherBank = t.other_banks
 
 -- the counts are those of the first n steps of a run
-pub record Counted (scenario : Scenario) (n : ℕ) (book : Book) : Type 0 where
+pub record Counted (named : Named) (scenario : Scenario) (n : ℕ) (book : Book) : Type 0 where
+  pub same : book.named ≡ named
   pub each : (kind : Kind) → length (counts_of book kind) ≡ account_count
-  pub times : (kind : Kind) (a : Account) → IsAccount a → get_or (counts_of book kind) (account_number a) 0 ≡ times scenario kind a n
+  pub times : (kind : Kind) (a : Account) → IsAccount a → get_or (counts_of book kind) (account_number a) 0 ≡ times named scenario kind a n
   pub waits : Keeps scenario n book.waits
   pub steps : book.steps ≡ n
 
 -- of n steps what is left to be told after t of them
-pub record Left (scenario : Scenario) (t n : ℕ) (book : Book) : Type 0 where
+pub record Left (named : Named) (scenario : Scenario) (t n : ℕ) (book : Book) : Type 0 where
+  pub same : book.named ≡ named
   pub each : (kind : Kind) → length (counts_of book kind) ≡ account_count
-  pub times : (kind : Kind) (a : Account) → IsAccount a → get_or (counts_of book kind) (account_number a) 0 ≡ times_from scenario kind a t n
+  pub times : (kind : Kind) (a : Account) → IsAccount a → get_or (counts_of book kind) (account_number a) 0 ≡ times_from named scenario kind a t n
   pub waits : Keeps scenario n book.waits

@@ -1,5 +1,5 @@
 -- What happens in a step that is seldom meant.
-use Rattle.std.specs.Prelude.{ℕ, ◌*◌, ◌==◌, ◌&&◌, Bool, true, false, not, List, codes, Option, Some, None}
+use Rattle.std.specs.Prelude.{ℕ, ◌*◌, ◌/◌, ◌==◌, ◌&&◌, Bool, true, false, not, List, codes, Option, Some, None, is_some}
 use Rattle.words.specs.Numbers.{correct}
 use Rattle.words.specs.Products.{quotient_fits}
 use Rattle.words.specs.Signs.{over}
@@ -8,6 +8,7 @@ use Rattle.space.specs.Cells.{return_address, program_counter}
 use Rattle.space.specs.declared.place.Linear.{Linear}
 use Rattle.space.specs.declared.place.Linear.TheVariants.{Erasable, Fixed}
 use Rattle.rope.specs.Places.{Words, stands}
+use Rattle.yayul.specs.Named.{Named, named_at}
 use Rattle.cpu.specs.declared.next_step.Fetched.{Fetched}
 use Rattle.cpu.specs.declared.next_step.NextStep.{NextStep}
 use Rattle.cpu.specs.declared.next_step.NextStep.TheVariants.{Enters, Executes}
@@ -17,7 +18,7 @@ use Rattle.cpu.specs.NextStep.{next_step}
 use Rattle.cpu.specs.Operands.{address_of}
 use Rattle.cpu.specs.State.{State, Scenario}
 use Rattle.notes.specs.declared.kind.Kind.{Kind}
-use Rattle.notes.specs.declared.kind.Kind.TheVariants.{Quotient, Skip, NoWord, InErasable, NoHandler}
+use Rattle.notes.specs.declared.kind.Kind.TheVariants.{Quotient, Skip, NoWord, InErasable, NoHandler, OtherBank}
 
 -- the instruction that is executed
 abbrev pub code_in : Fetched → Code
@@ -65,14 +66,35 @@ abbrev pub is_code_in_erasable : Linear → Bool
 is_code_in_erasable (Erasable p) = not (p == return_address)
 is_code_in_erasable (Fixed bank offset) = false
 
--- whether something of a kind happens in a step. A word that waited, as RESUME leaves it, stands nowhere
-abbrev pub happens_in : Words → State → Kind → NextStep → Bool
-happens_in rope s NoHandler (Enters k) = not (stands rope 2 (4 * k))
-happens_in rope s NoWord (Executes f) = not f.waited && not (has_word rope f.place)
-happens_in rope s InErasable (Executes f) = not f.waited && is_code_in_erasable f.place
-happens_in rope s Skip (Executes f) = skips s f
-happens_in rope s Quotient (Executes f) = divides rope s f
-happens_in rope s kind step = false
+-- the erasable place that the source of the word at a place names: none of a word in erasable memory
+abbrev pub place_named : Named → Linear → Option ℕ
+place_named named (Erasable p) = None
+place_named named (Fixed bank offset) = named_at named bank offset
 
-unfoldable pub happens : Scenario → Kind → State → Bool
-happens scenario kind s = happens_in scenario.rope s kind (next_step scenario s)
+-- whether a place is in another bank than an erasable one; a place of fixed memory is
+abbrev pub is_elsewhere : ℕ → Linear → Bool
+is_elsewhere other (Erasable p) = not (p / 0o400 == other / 0o400)
+is_elsewhere other (Fixed bank offset) = true
+
+abbrev pub leads_elsewhere : State → Option ℕ → Option ℕ → Bool
+leads_elsewhere s (Some other) (Some k) = is_elsewhere other (place_in s k)
+leads_elsewhere s _ _ = false
+
+-- an instruction reaches another bank than that of the erasable place that its source names. What INDEX added something to is passed
+-- over, for its source does not say where it leads; and so is a word that waited
+abbrev pub reaches_other : Named → State → Fetched → Bool
+reaches_other named s f = not f.waited && not (is_some f.added) && leads_elsewhere s (place_named named f.place) (address_of (code_in f))
+
+-- whether something of a kind happens in a step. A word that waited, as RESUME leaves it, stands nowhere
+abbrev pub happens_in : Named → Words → State → Kind → NextStep → Bool
+happens_in named rope s NoHandler (Enters k) = not (stands rope 2 (4 * k))
+happens_in named rope s NoWord (Executes f) = not f.waited && not (has_word rope f.place)
+happens_in named rope s InErasable (Executes f) = not f.waited && is_code_in_erasable f.place
+happens_in named rope s OtherBank (Executes f) = reaches_other named s f
+happens_in named rope s Skip (Executes f) = skips s f
+happens_in named rope s Quotient (Executes f) = divides rope s f
+happens_in named rope s kind step = false
+
+-- the same, where it is known which erasable places the words name
+unfoldable pub happens : Named → Scenario → Kind → State → Bool
+happens named scenario kind s = happens_in named scenario.rope s kind (next_step scenario s)

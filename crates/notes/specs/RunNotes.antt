@@ -3,6 +3,7 @@ use Rattle.std.specs.Prelude.{◌≡◌, ℕ, zero, suc, ◌+◌, ◌*◌, ◌<�
 use Rattle.std.specs.List.{flat_map, range_with_len}
 use Rattle.space.specs.declared.place.Linear.TheVariants.{Fixed}
 use Rattle.symbols.specs.Values.{SymbolTable}
+use Rattle.yayul.specs.Named.{Named}
 use Rattle.cpu.specs.declared.account.Account.{Account}
 use Rattle.cpu.specs.declared.account.Account.TheVariants.{Input, Waiting, Place}
 use Rattle.cpu.specs.declared.next_step.NextStep.{NextStep}
@@ -14,7 +15,7 @@ use Rattle.cpu.specs.Run.{run}
 use Rattle.cpu.specs.State.{State, Scenario}
 use Rattle.trace.specs.TraceLines.{what_text}
 use Rattle.notes.specs.declared.kind.Kind.{Kind}
-use Rattle.notes.specs.declared.kind.Kind.TheVariants.{Quotient, Skip, NoWord, InErasable, NoHandler}
+use Rattle.notes.specs.declared.kind.Kind.TheVariants.{Quotient, Skip, NoWord, InErasable, NoHandler, OtherBank}
 use Rattle.notes.specs.Notes.{happens}
 use Rattle.notes.specs.Waits.{waits_text}
 
@@ -29,23 +30,23 @@ abbrev pub here : Scenario → State → Account
 here scenario s = where_of (next_step scenario s)
 
 -- whether something of a kind happens somewhere, in the step that follows a state
-abbrev pub happens_at : Scenario → Kind → Account → State → Bool
-happens_at scenario kind a s = happens scenario kind s && same_account a (here scenario s)
+abbrev pub happens_at : Named → Scenario → Kind → Account → State → Bool
+happens_at named scenario kind a s = happens named scenario kind s && same_account a (here scenario s)
 
 -- how often it does in the first n steps
-unfoldable pub times : Scenario → Kind → Account → ℕ → ℕ
-times scenario kind a zero = 0
-times scenario kind a (suc n) = times scenario kind a n + (if happens_at scenario kind a (run scenario n) then 1 else 0)
+unfoldable pub times : Named → Scenario → Kind → Account → ℕ → ℕ
+times named scenario kind a zero = 0
+times named scenario kind a (suc n) = times named scenario kind a n + (if happens_at named scenario kind a (run scenario n) then 1 else 0)
 
 -- how often it does in n steps, where it does not in the first t of them; else none
-abbrev pub times_from : Scenario → Kind → Account → ℕ → ℕ → ℕ
-times_from scenario kind a t n = if times scenario kind a t == 0 then times scenario kind a n else 0
+abbrev pub times_from : Named → Scenario → Kind → Account → ℕ → ℕ → ℕ
+times_from named scenario kind a t n = if times named scenario kind a t == 0 then times named scenario kind a n else 0
 
 -- what is told of a kind at the step after t others: how often it happens there in n steps, where it happens in this step and in none before
-unfoldable pub told : Scenario → ℕ → ℕ → Kind → ℕ
-told scenario n t kind =
+unfoldable pub told : Named → Scenario → ℕ → ℕ → Kind → ℕ
+told named scenario n t kind =
     let s = run scenario t in
-    if happens scenario kind s then times_from scenario kind (here scenario s) t n else 0
+    if happens named scenario kind s then times_from named scenario kind (here scenario s) t n else 0
 
 -- the word of a kind, with blanks up to the next column
 abbrev pub kind_field : Kind → List ℕ
@@ -54,6 +55,7 @@ kind_field Skip = codes "SKIP       "
 kind_field NoWord = codes "NOWORD     "
 kind_field InErasable = codes "ERASABLE   "
 kind_field NoHandler = codes "NOHANDLER  "
+kind_field OtherBank = codes "OTHERBANK  "
 
 -- the line of a note: its kind, what its first step is, that step's number and the cycles after it, and how often
 unfoldable pub note_line : Kind → List ℕ → ℕ → ℕ → ℕ → List ℕ
@@ -72,7 +74,8 @@ kinds_text what number cycles count =
     ++ (told_line Skip what number cycles (count Skip)
     ++ (told_line NoWord what number cycles (count NoWord)
     ++ (told_line InErasable what number cycles (count InErasable)
-    ++ told_line NoHandler what number cycles (count NoHandler))))
+    ++ (told_line NoHandler what number cycles (count NoHandler)
+    ++ told_line OtherBank what number cycles (count OtherBank)))))
 
 -- what is told at the step that follows a state
 abbrev pub text_after : SymbolTable → Scenario → ℕ → State → (Kind → ℕ) → List ℕ
@@ -80,8 +83,8 @@ text_after symbols scenario number s count =
     kinds_text (what_text symbols scenario.rope s (next_step scenario s)) number (next scenario s).0.cycles count
 
 -- what is told of n steps at the step after t others
-unfoldable pub step_text : SymbolTable → Scenario → ℕ → ℕ → List ℕ
-step_text symbols scenario n t = text_after symbols scenario (t + 1) (run scenario t) (told scenario n t)
+unfoldable pub step_text : SymbolTable → Named → Scenario → ℕ → ℕ → List ℕ
+step_text symbols named scenario n t = text_after symbols scenario (t + 1) (run scenario t) (told named scenario n t)
 
 -- what is told of the end: that a run ends within an interrupt
 unfoldable pub end_text : Bool → ℕ → List ℕ
@@ -92,25 +95,25 @@ abbrev pub ending_text : Scenario → ℕ → List ℕ
 ending_text scenario n = end_text (run scenario n).inside n ++ waits_text scenario n
 
 -- the notes of the first n steps of a run, in the order of their first steps, and of its end
-unfoldable pub notes_text : SymbolTable → Scenario → ℕ → List ℕ
-notes_text symbols scenario n = flat_map (step_text symbols scenario n) (range_with_len 0 n) ++ ending_text scenario n
+unfoldable pub notes_text : SymbolTable → Named → Scenario → ℕ → List ℕ
+notes_text symbols named scenario n = flat_map (step_text symbols named scenario n) (range_with_len 0 n) ++ ending_text scenario n
 
 -- ## What a note says
 -- it happens somewhere in some of the first n steps
-pub record SomeStep (scenario : Scenario) (kind : Kind) (a : Account) (n : ℕ) : Type 0 where
+pub record SomeStep (named : Named) (scenario : Scenario) (kind : Kind) (a : Account) (n : ℕ) : Type 0 where
   pub step : ℕ
   pub within : step < n
-  pub happens : happens_at scenario kind a (run scenario step) ≡ true
+  pub happens : happens_at named scenario kind a (run scenario step) ≡ true
 
 -- it happens at the step after t others, and in none before at the same place
-pub record FirstStep (scenario : Scenario) (kind : Kind) (t : ℕ) : Type 0 where
-  pub happens : happens scenario kind (run scenario t) ≡ true
-  pub first : (u : ℕ) → u < t → happens_at scenario kind (here scenario (run scenario t)) (run scenario u) ≡ false
+pub record FirstStep (named : Named) (scenario : Scenario) (kind : Kind) (t : ℕ) : Type 0 where
+  pub happens : happens named scenario kind (run scenario t) ≡ true
+  pub first : (u : ℕ) → u < t → happens_at named scenario kind (here scenario (run scenario t)) (run scenario u) ≡ false
 
 -- It is counted if and only if it happens in some step; and it is told at a step if and only if it happens there for the first time.
-pub record NotedExactly (scenario : Scenario) (kind : Kind) (n : ℕ) : Type 0 where
-  pub counted : (a : Account) → (nat_le 1 (times scenario kind a n) ≡ true) ↔ SomeStep scenario kind a n
-  pub told : (t : ℕ) → t < n → (nat_le 1 (told scenario n t kind) ≡ true) ↔ FirstStep scenario kind t
+pub record NotedExactly (named : Named) (scenario : Scenario) (kind : Kind) (n : ℕ) : Type 0 where
+  pub counted : (a : Account) → (nat_le 1 (times named scenario kind a n) ≡ true) ↔ SomeStep named scenario kind a n
+  pub told : (t : ℕ) → t < n → (nat_le 1 (told named scenario n t kind) ≡ true) ↔ FirstStep named scenario kind t
 
 abbrev pub NotesAreExact : Type 0
-NotesAreExact = (scenario : Scenario) (kind : Kind) (n : ℕ) → NotedExactly scenario kind n
+NotesAreExact = (named : Named) (scenario : Scenario) (kind : Kind) (n : ℕ) → NotedExactly named scenario kind n

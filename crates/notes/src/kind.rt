@@ -13,4 +13,6 @@ pub enum Kind {
     InErasable,
     /// An interrupt is entered where no word stands.
     NoHandler,
+    /// An instruction reaches another bank than that of the erasable place that its source names.
+    OtherBank,
 }

@@ -7,6 +7,7 @@ pub mod laws;
 mod ledger;
 mod lines;
 mod notebook;
+mod other_bank;
 mod step;
 mod text;
 mod waits;

@@ -21,7 +21,7 @@ const LINE: usize = 192;
 type Line = ArrayVec<u8, LINE>;
 
 /// The most bytes of the lines of a step.
-const LINES: usize = 1024;
+const LINES: usize = 1200;
 
 /// The lines of a step.
 pub(crate) type Lines = ArrayVec<u8, LINES>;
@@ -48,13 +48,14 @@ pub(crate) fn lines_of(heading: &Heading, told: &Told) -> Lines
     push_line(&mut lines, heading, Kind::NoWord, told.no_words);
     push_line(&mut lines, heading, Kind::InErasable, told.in_erasable);
     push_line(&mut lines, heading, Kind::NoHandler, told.no_handlers);
+    push_line(&mut lines, heading, Kind::OtherBank, told.other_banks);
     lines
 }
 
 /// Appends the line of a note, where it is told.
 fn push_line(lines: &mut Lines, heading: &Heading, kind: Kind, count: u64)
     requires what { array_vec_len heading.now.what ≤ 66 }
-    requires room { array_vec_len lines.old ≤ 800 }
+    requires room { array_vec_len lines.old ≤ 1000 }
     ensures items { lines.new.items ≡ lines.old.items ++ told_line kind heading.now.what.items heading.now.number heading.now.cycles count }
     ensures short { array_vec_len lines.new ≤ array_vec_len lines.old + 200 }
 {
@@ -95,6 +96,7 @@ fn kind_field(kind: Kind) -> &'static [u8]
         Kind::NoWord => b"NOWORD     ",
         Kind::InErasable => b"ERASABLE   ",
         Kind::NoHandler => b"NOHANDLER  ",
+        Kind::OtherBank => b"OTHERBANK  ",
     }
 }
 

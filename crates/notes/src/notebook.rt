@@ -12,15 +12,18 @@ use cover::number_of;
 use cpu::{Machine, Processor};
 use std::alloc::{AllocError, Global};
 use std::marker::Model;
+use yayul::NamedPlaces;
 
 /// How often each kind has happened in the steps of a run, by where, and since when each interrupt is asked for.
 #[derive(Drop)]
 pub struct Notebook {
+    named: NamedPlaces,
     quotients: Ledger,
     skips: Ledger,
     no_words: Ledger,
     in_erasable: Ledger,
     no_handlers: Ledger,
+    other_banks: Ledger,
     waits: Waits,
     steps: u64,
 }
@@ -31,7 +34,7 @@ impl Model for Notebook {
 
     ghost Value = { Book };
 
-    ghost view = { λ n. record { counts = n.quotients ∷ n.skips ∷ n.no_words ∷ n.in_erasable ∷ n.no_handlers ∷ []; waits = n.waits; steps = n.steps } };
+    ghost view = { λ n. record { named = n.named; counts = n.quotients ∷ n.skips ∷ n.no_words ∷ n.in_erasable ∷ n.no_handlers ∷ n.other_banks ∷ []; waits = n.waits; steps = n.steps } };
 }
 
 /// How often each kind happens that is told at a step: 0 of what is not told there.
@@ -42,6 +45,7 @@ pub(crate) struct Told {
     pub(crate) no_words: u64,
     pub(crate) in_erasable: u64,
     pub(crate) no_handlers: u64,
+    pub(crate) other_banks: u64,
 }
 
 /// Nothing is told.
@@ -51,19 +55,22 @@ pub(crate) const NOTHING: Told = Told {
     no_words: 0,
     in_erasable: 0,
     no_handlers: 0,
+    other_banks: 0,
 };
 
 impl Notebook {
-    /// Nothing has happened. All memory is taken here.
-    pub fn new(alloc: Global) -> Result<Notebook, AllocError>
-        ensures { IfOk result (λ notebook. (scenario : Scenario) → Counted scenario 0 notebook) }
+    /// Nothing has happened in runs of a program whose words name some erasable places. All memory is taken here.
+    pub fn new(alloc: Global, named: NamedPlaces) -> Result<Notebook, AllocError>
+        ensures { IfOk result (λ notebook. (scenario : Scenario) → Counted named scenario 0 notebook) }
     {
         Ok(Notebook {
+            named,
             quotients: Ledger::new(alloc)?,
             skips: Ledger::new(alloc)?,
             no_words: Ledger::new(alloc)?,
             in_erasable: Ledger::new(alloc)?,
             no_handlers: Ledger::new(alloc)?,
+            other_banks: Ledger::new(alloc)?,
             waits: Waits::none(),
             steps: 0,
         })
@@ -78,16 +85,18 @@ impl Notebook {
     {
         let step = processor.next_step(machine);
         let number = number_of(account_of(&step));
-        let divides = happens(processor, machine, &step, Kind::Quotient);
+        let divides = happens(&self.named, processor, machine, &step, Kind::Quotient);
         self.quotients.count(number, divides);
-        let is_skipping = happens(processor, machine, &step, Kind::Skip);
+        let is_skipping = happens(&self.named, processor, machine, &step, Kind::Skip);
         self.skips.count(number, is_skipping);
-        let has_no_word = happens(processor, machine, &step, Kind::NoWord);
+        let has_no_word = happens(&self.named, processor, machine, &step, Kind::NoWord);
         self.no_words.count(number, has_no_word);
-        let is_in_erasable = happens(processor, machine, &step, Kind::InErasable);
+        let is_in_erasable = happens(&self.named, processor, machine, &step, Kind::InErasable);
         self.in_erasable.count(number, is_in_erasable);
-        let has_no_handler = happens(processor, machine, &step, Kind::NoHandler);
+        let has_no_handler = happens(&self.named, processor, machine, &step, Kind::NoHandler);
         self.no_handlers.count(number, has_no_handler);
+        let reaches_other = happens(&self.named, processor, machine, &step, Kind::OtherBank);
+        self.other_banks.count(number, reaches_other);
         self.steps += 1;
         self.waits.note(machine, &step, self.steps);
     }
@@ -107,22 +116,25 @@ impl Notebook {
     {
         let step = processor.next_step(machine);
         let number = number_of(account_of(&step));
-        let divides = happens(processor, machine, &step, Kind::Quotient);
+        let divides = happens(&self.named, processor, machine, &step, Kind::Quotient);
         let quotients = self.quotients.take(number, divides);
-        let is_skipping = happens(processor, machine, &step, Kind::Skip);
+        let is_skipping = happens(&self.named, processor, machine, &step, Kind::Skip);
         let skips = self.skips.take(number, is_skipping);
-        let has_no_word = happens(processor, machine, &step, Kind::NoWord);
+        let has_no_word = happens(&self.named, processor, machine, &step, Kind::NoWord);
         let no_words = self.no_words.take(number, has_no_word);
-        let is_in_erasable = happens(processor, machine, &step, Kind::InErasable);
+        let is_in_erasable = happens(&self.named, processor, machine, &step, Kind::InErasable);
         let in_erasable = self.in_erasable.take(number, is_in_erasable);
-        let has_no_handler = happens(processor, machine, &step, Kind::NoHandler);
+        let has_no_handler = happens(&self.named, processor, machine, &step, Kind::NoHandler);
         let no_handlers = self.no_handlers.take(number, has_no_handler);
+        let reaches_other = happens(&self.named, processor, machine, &step, Kind::OtherBank);
+        let other_banks = self.other_banks.take(number, reaches_other);
         Told {
             quotients,
             skips,
             no_words,
             in_erasable,
             no_handlers,
+            other_banks,
         }
     }
 }

@@ -1,25 +1,31 @@
 //! Whether something happens in a step that is seldom meant.
 
 ghost use Rattle.std.specs.Prelude.{◌≡◌, ◌*◌, ◌&&◌, ◌==◌, not};
-ghost use Rattle.cpu.specs.Effects.{place_in};
 ghost use Rattle.rope.specs.Places.{stands};
 ghost use Rattle.notes.specs.Notes.{divides, happens_in, has_word, is_code_in_erasable, is_too_great, is_z, names_z, skips};
 ghost use Rattle.notes.specs.RunNotes.{where_of};
 
 use crate::division::quotient_fits;
 use crate::kind::Kind;
+use crate::other_bank::{place_at, reaches_other};
 use cpu::{Account, Fetched, Machine, NextStep, Processor, instruction_name, named_address};
 use feed::interrupt::Interrupt;
 use rope::Rope;
+use space::Linear;
 use space::numbers::Eras;
-use space::resolve::resolve;
-use space::{Addr12, Linear};
 use trace::entry_place;
 use words::Overflow;
+use yayul::NamedPlaces;
 
 /// Whether something of a kind happens in a step that a machine is to make.
-pub(crate) fn happens(processor: &Processor, machine: &Machine, step: &NextStep, kind: Kind) -> bool
-    ensures { result ≡ happens_in processor.now.scenario.rope machine.now kind step.now }
+pub(crate) fn happens(
+    named: &NamedPlaces,
+    processor: &Processor,
+    machine: &Machine,
+    step: &NextStep,
+    kind: Kind,
+) -> bool
+    ensures { result ≡ happens_in named.now processor.now.scenario.rope machine.now kind step.now }
 {
     match step {
         NextStep::Takes(_) => false,
@@ -30,6 +36,7 @@ pub(crate) fn happens(processor: &Processor, machine: &Machine, step: &NextStep,
             Kind::NoHandler => false,
             Kind::NoWord => !fetched.waited && !has_word(processor.rope(), &fetched.place),
             Kind::InErasable => !fetched.waited && is_code_in_erasable(&fetched.place),
+            Kind::OtherBank => reaches_other(named, machine, fetched),
             Kind::Skip => skips(machine, fetched),
             Kind::Quotient => divides(processor, machine, fetched),
         },
@@ -123,14 +130,6 @@ fn is_too_great(processor: &Processor, machine: &Machine, place: &Linear) -> boo
         Linear::Fixed(bank, offset) => processor.rope().word(*bank, *offset),
     };
     !is_z(place) && !quotient_fits(machine.word(Eras::A), machine.word(Eras::L), divisor)
-}
-
-/// The place to which an address leads.
-#[tactic(auto, unfolding(cpu::specs::Effects::place_in))]
-fn place_at(machine: &Machine, address: Addr12) -> Linear
-    ensures { result ≡ place_in machine.now address }
-{
-    resolve(address, machine.store().banks())
 }
 
 /// Whether a place is Z.

@@ -26,8 +26,8 @@ pub fn write_notes<W: Write>(
     out: &mut W,
 ) -> Result<(), WriteFailed>
     requires few { steps ≤ 2 ^ 40 }
-    requires counted { Counted processor.old.scenario steps notebook.old }
-    ensures written { W.told ≡ true → Writes (W.written out.old) (W.written out.new) (notes_text names.now processor.old.scenario steps) result }
+    requires counted { Counted notebook.old.named processor.old.scenario steps notebook.old }
+    ensures written { W.told ≡ true → Writes (W.written out.old) (W.written out.new) (notes_text names.now notebook.old.named processor.old.scenario steps) result }
     ensures failures { W.failures out.new ≡ failures_after (W.failures out.old) result }
 {
     let mut machine = Machine::start();

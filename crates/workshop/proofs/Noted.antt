@@ -1,23 +1,32 @@
--- What an engine has read that runs and notes, and what it has written.
-use Rattle.std.proofs.Common.{◌≡◌, ℕ, Result, Ok, subst}
-use Rattle.symbols.specs.Values.{SymbolTable}
-use Rattle.cpu.specs.State.{Scenario}
-use Rattle.notes.specs.RunNotes.{notes_text}
+-- What an engine that runs and notes has read, and what it has written.
+use Rattle.std.proofs.Common.{◌≡◌, ℕ, List, Result, Ok, Err, refl, subst}
+use Rattle.feed.specs.declared.entry.Entry.{Entry}
+use Rattle.rope.specs.declared.fault.RopeFault.TheVariants as rope
+use Rattle.rope.specs.declared.spelling.Version.{Version}
 use Rattle.workshop.specs.declared.engine.Summary.{Summary}
 use Rattle.workshop.specs.declared.fault.WorkshopFault.{WorkshopFault}
-use Rattle.workshop.specs.declared.inputs.Loaded.{Loaded}
+use Rattle.workshop.specs.declared.fault.WorkshopFault.TheVariants.{NoMemory}
+use Rattle.workshop.specs.declared.noting.NamedCode.{NamedCode}
 use Rattle.workshop.specs.declared.origin.Origin.{Origin}
-use Rattle.workshop.specs.Inputs.{scenario_of}
-use Rattle.workshop.specs.Loading.{Loads}
-use Rattle.workshop.specs.Notings.{EndsNoted, Noting, RunsNoted}
+use Rattle.workshop.specs.declared.origin.Origin.TheVariants as origin
+use Rattle.workshop.specs.Failures.{Reader}
+use Rattle.workshop.specs.Loading.{Reads, ReadsInputs}
+use Rattle.workshop.specs.Notings.{NotesRun, Noting, ReadsNamed, RunsNoted}
 
-pub noted_by : (origin : Origin) (steps : ℕ) (before after : Noting) (l : Loaded) (r : Result Loaded WorkshopFault) (names : SymbolTable) (sc : Scenario) (result : Result Summary WorkshopFault)
-    → r ≡ Ok l → names ≡ l.symbols → sc ≡ scenario_of l → Loads origin before.files after.files r → EndsNoted (notes_text names sc steps) sc steps before.texts after.texts result
+pub noted_by : (origin : Origin) (steps : ℕ) (before after : Noting) (code : NamedCode) (inputs : List Entry) (r : Result NamedCode WorkshopFault) (i : Result (List Entry) WorkshopFault)
+    (result : Result Summary WorkshopFault) → r ≡ Ok code → i ≡ Ok inputs → Reads (ReadsNamed origin) before.files.program after.files.program r
+    → Reads ReadsInputs before.files.feed after.files.feed i → NotesRun code (record { rope = code.rope; inputs = inputs }) steps before.texts after.texts result
     → RunsNoted origin steps before after result
-noted_by origin steps before after l r names sc result e same runs loads ends = record {
-  loaded = Ok l;
-  loads = subst (λ x. Loads origin before.files after.files x) e loads;
-  next =
-      subst (λ t. EndsNoted (notes_text t (scenario_of l) steps) (scenario_of l) steps before.texts after.texts result) same
-      (subst (λ u. EndsNoted (notes_text names u steps) u steps before.texts after.texts result) runs ends);
+noted_by origin steps before after code inputs r i result e f reads more run = record {
+  code = Ok code;
+  reads = subst (λ x. Reads (ReadsNamed origin) before.files.program after.files.program x) e reads;
+  next = record { inputs = Ok inputs; reads = subst (λ x. Reads ReadsInputs before.files.feed after.files.feed x) f more; next = run };
+}
+
+-- nothing of an image was read, and memory ran out
+pub no_memory_before : (version : Version) (before : Reader) → Reads (ReadsNamed (origin.Image version)) before before (Err NoMemory)
+no_memory_before version before = record {
+  bytes = λ told. record { read = Err rope.NoMemory; reads = refl; gives = refl };
+  failures = refl;
+  writer = refl;
 }

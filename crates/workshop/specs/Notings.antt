@@ -1,16 +1,46 @@
 -- What an engine answers that runs a program and notes what is seldom meant, and what it has then written.
-use Rattle.std.specs.Prelude.{◌≡◌, ℕ, ◌⊎◌, List, Result, Ok, Err}
+use Rattle.std.specs.Prelude.{◌≡◌, ℕ, ◌⊎◌, List, [], Result, Ok, Err}
+use Rattle.feed.specs.declared.entry.Entry.{Entry}
+use Rattle.rope.specs.Places.{Words}
+use Rattle.rope.specs.Reading.{ReadsImage}
+use Rattle.rope.specs.declared.fault.RopeFault.{RopeFault}
+use Rattle.rope.specs.declared.spelling.Version.{Version}
+use Rattle.yayul.specs.Named.{named_places, nothing_named}
+use Rattle.yayul.specs.Program.{Program}
 use Rattle.cpu.specs.State.{Scenario}
 use Rattle.notes.specs.RunNotes.{notes_text}
 use Rattle.workshop.specs.declared.engine.Summary.{Summary}
 use Rattle.workshop.specs.declared.fault.WorkshopFault.{WorkshopFault}
-use Rattle.workshop.specs.declared.inputs.Loaded.{Loaded}
+use Rattle.workshop.specs.declared.fault.WorkshopFault.TheVariants.{NoMemory}
+use Rattle.workshop.specs.declared.noting.NamedCode.{NamedCode}
 use Rattle.workshop.specs.declared.origin.Origin.{Origin}
+use Rattle.workshop.specs.declared.origin.Origin.TheVariants as origin
 use Rattle.workshop.specs.Failures.{Writer}
-use Rattle.workshop.specs.Inputs.{scenario_of}
-use Rattle.workshop.specs.Loading.{Files, Loads}
+use Rattle.workshop.specs.Faults.{of_rope_fault}
+use Rattle.workshop.specs.Inputs.{assembled}
+use Rattle.workshop.specs.Loading.{Files, Reads, ReadsInputs, ReadsText}
 use Rattle.workshop.specs.Ropes.{WritesText}
 use Rattle.workshop.specs.Runs.{Makes, summary_of}
+
+-- what a source gives, and what an image does: it has no source, so that its words name no place
+abbrev pub named_of : Result Program WorkshopFault → Result NamedCode WorkshopFault
+named_of (Ok p) = Ok (record { rope = p.rope; symbols = p.symbols; named = named_places p })
+named_of (Err fault) = Err fault
+
+abbrev pub imaged_named : Result Words RopeFault → Result NamedCode WorkshopFault
+imaged_named (Ok words) = Ok (record { rope = words; symbols = []; named = nothing_named })
+imaged_named (Err fault) = Err (of_rope_fault fault)
+
+-- an image is read
+pub record ReadsNamedImage (version : Version) (old new : List ℕ) (result : Result NamedCode WorkshopFault) : Type 0 where
+  pub read : Result Words RopeFault
+  pub reads : ReadsImage version old new read
+  pub gives : result ≡ imaged_named read
+
+-- a program is read, from where its words come
+abbrev pub ReadsNamed : Origin → List ℕ → List ℕ → Result NamedCode WorkshopFault → Type 0
+ReadsNamed origin.Source old new result = ReadsText (named_of (assembled old)) old new result
+ReadsNamed (origin.Image version) old new result = ReadsNamedImage version old new result
 
 -- the writers of what goes out, and of the notes
 pub record Texts : Type 0 where
@@ -25,18 +55,33 @@ EndsNoted text scenario steps before after (Err fault) =
     (Makes scenario steps before.out after.out (Err fault) × (after.notes ≡ before.notes))
     ⊎ (Makes scenario steps before.out after.out (Ok (summary_of scenario steps)) × WritesText {T = Summary} text before.notes after.notes (Err fault))
 
--- where a program and a feed were read the run is made and noted, and after a fault nothing is written
-abbrev pub NotesThen : ℕ → Result Loaded WorkshopFault → Texts → Texts → Result Summary WorkshopFault → Type 0
-NotesThen steps (Ok l) before after result = EndsNoted (notes_text l.symbols (scenario_of l) steps) (scenario_of l) steps before after result
-NotesThen steps (Err fault) before after result = (result ≡ Err fault) × (after ≡ before)
+-- memory for the notes is refused before the first step, and nothing is written; or the run is made and noted
+abbrev pub NotesRun : NamedCode → Scenario → ℕ → Texts → Texts → Result Summary WorkshopFault → Type 0
+NotesRun code scenario steps before after result =
+    ((result ≡ Err NoMemory) × (after ≡ before)) ⊎ EndsNoted (notes_text code.symbols code.named scenario steps) scenario steps before after result
+
+-- where the feed was read the run is made and noted, and after a fault nothing is written
+abbrev pub NotesThen : NamedCode → ℕ → Result (List Entry) WorkshopFault → Texts → Texts → Result Summary WorkshopFault → Type 0
+NotesThen code steps (Ok inputs) before after result = NotesRun code (record { rope = code.rope; inputs = inputs }) steps before after result
+NotesThen code steps (Err fault) before after result = (result ≡ Err fault) × (after ≡ before)
 
 -- what an engine has that runs and notes
 pub record Noting : Type 0 where
   pub files : Files
   pub texts : Texts
 
+pub record NotesNext (code : NamedCode) (steps : ℕ) (before after : Noting) (result : Result Summary WorkshopFault) : Type 0 where
+  pub inputs : Result (List Entry) WorkshopFault
+  pub reads : Reads ReadsInputs before.files.feed after.files.feed inputs
+  pub next : NotesThen code steps inputs before.texts after.texts result
+
+-- where the program was read the feed is, and after a fault nothing of it
+abbrev pub NotesProgram : Result NamedCode WorkshopFault → ℕ → Noting → Noting → Result Summary WorkshopFault → Type 0
+NotesProgram (Ok code) steps before after result = NotesNext code steps before after result
+NotesProgram (Err fault) steps before after result = (result ≡ Err fault) × (after.files.feed ≡ before.files.feed) × (after.texts ≡ before.texts)
+
 -- a program and a feed are read, and what was read decides what runs
 pub record RunsNoted (from : Origin) (steps : ℕ) (before after : Noting) (result : Result Summary WorkshopFault) : Type 0 where
-  pub loaded : Result Loaded WorkshopFault
-  pub loads : Loads from before.files after.files loaded
-  pub next : NotesThen steps loaded before.texts after.texts result
+  pub code : Result NamedCode WorkshopFault
+  pub reads : Reads (ReadsNamed from) before.files.program after.files.program code
+  pub next : NotesProgram code steps before after result

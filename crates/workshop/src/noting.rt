@@ -4,22 +4,34 @@ ghost use Rattle.std.specs.Prelude.{◌≡◌, ◌-◌, ◌≤◌, ◌<◌, ◌^
 ghost use Rattle.notes.specs.Counted.{Counted};
 ghost use Rattle.notes.specs.RunNotes.{notes_text};
 ghost use Rattle.workshop.specs.Failures.{reader, writer};
-ghost use Rattle.workshop.specs.Notings.{EndsNoted, RunsNoted};
+ghost use Rattle.workshop.specs.Inputs.{assembled};
+ghost use Rattle.workshop.specs.Loading.{Reads, ReadsText};
+ghost use Rattle.workshop.specs.Notings.{EndsNoted, ReadsNamed, RunsNoted, named_of};
 ghost use Rattle.workshop.specs.Progress.{TellsRun};
 ghost use Rattle.workshop.specs.Runs.{Makes, summary_of};
 ghost use Rattle.cpu.specs.State.{Scenario};
 
 use crate::engine::{STEPS_BETWEEN_FLUSHES, Summary, hand_on, step_and_write};
 use crate::fault::WorkshopFault;
-use crate::inputs::load;
+use crate::inputs::{read_feed, read_program};
 use crate::origin::Origin;
 use crate::progress::tell;
 use cpu::{Machine, Processor};
 use notes::{Notebook, write_notes};
+use rope::Rope;
 use space::numbers::Eras;
 use std::alloc::Global;
 use trace::PlaceNames;
 use words::{Read, Write};
+use yayul::{NamedPlaces, Symbols};
+
+/// The words of a program, its symbols, and the erasable places that its words name.
+#[derive(Drop)]
+pub(crate) struct NamedCode {
+    pub(crate) rope: Rope,
+    pub(crate) symbols: Symbols,
+    pub(crate) named: NamedPlaces,
+}
 
 /// Reads a program and then a feed, and runs the program for some steps, as `run_and_tell` does; and writes then what has happened
 /// in these steps that is seldom meant, as `NOTE QUOTIENT   02,4004  10100  DV D               STEP 5 CYCLES 13 TIMES 1`.
@@ -43,14 +55,15 @@ pub fn run_with_notes<P: Read, F: Read, W: Write, T: Write, N: Write>(
     ensures handed_on { W.told ≡ true → 0 < steps → OnOk result (W.handed_on out.new ≡ W.written out.new) }
     ensures progress { TellsRun steps (writer T.told T.written T.failures progress.old) (writer T.told T.written T.failures progress.new) result }
 {
-    let loaded = load(alloc, origin, program, feed)?;
-    let Ok(names) = PlaceNames::new(alloc, loaded.symbols) else {
+    let code = read_named(alloc, origin, program)?;
+    let feed = read_feed(alloc, feed)?;
+    let Ok(names) = PlaceNames::new(alloc, code.symbols) else {
         return Err(WorkshopFault::NoMemory);
     };
-    let Ok(mut notebook) = Notebook::new(alloc) else {
+    let Ok(mut notebook) = Notebook::new(alloc, code.named) else {
         return Err(WorkshopFault::NoMemory);
     };
-    let mut processor = Processor::new(loaded.rope, loaded.feed);
+    let mut processor = Processor::new(code.rope, feed);
     run_then_note(
         &mut processor,
         &names,
@@ -60,6 +73,48 @@ pub fn run_with_notes<P: Read, F: Read, W: Write, T: Write, N: Write>(
         progress,
         notes,
     )
+}
+
+/// Reads a program, and which erasable places its words name: those of an image none.
+fn read_named<P: Read>(
+    alloc: Global,
+    origin: Origin,
+    program: &mut P,
+) -> Result<NamedCode, WorkshopFault>
+    ensures { Reads (ReadsNamed origin)
+        (reader P.told P.left P.failures program.old) (reader P.told P.left P.failures program.new) result }
+{
+    match origin {
+        Origin::Source => read_named_source(alloc, program),
+        Origin::Image(version) => {
+            let Ok(named) = NamedPlaces::nothing(alloc) else {
+                return Err(WorkshopFault::NoMemory);
+            };
+            let rope = Rope::read(alloc, program, version)?;
+            Ok(NamedCode {
+                rope,
+                symbols: Symbols::new(alloc),
+                named,
+            })
+        }
+    }
+}
+
+/// Reads a source, and which erasable places its words name.
+fn read_named_source<P: Read>(alloc: Global, program: &mut P) -> Result<NamedCode, WorkshopFault>
+    ensures { Reads (λ old new. ReadsText (named_of (assembled old)) old new)
+        (reader P.told P.left P.failures program.old) (reader P.told P.left P.failures program.new) result }
+{
+    let assembled = read_program(alloc, program)?;
+    let Ok(named) = assembled.named_places(alloc) else {
+        return Err(WorkshopFault::NoMemory);
+    };
+    let (rope, symbols) = assembled.split();
+    Ok(NamedCode {
+        rope,
+        symbols,
+        named,
+    })
 }
 
 /// Makes some steps from the start, and then writes their notes.
@@ -73,8 +128,8 @@ fn run_then_note<W: Write, T: Write, N: Write>(
     notes: &mut N,
 ) -> Result<Summary, WorkshopFault>
     requires few { steps ≤ 2 ^ 40 - 2 }
-    requires none { (scenario : Scenario) → Counted scenario 0 notebook.old }
-    ensures ends { EndsNoted (notes_text names.now processor.old.scenario steps) processor.old.scenario steps
+    requires none { (scenario : Scenario) → Counted notebook.old.named scenario 0 notebook.old }
+    ensures ends { EndsNoted (notes_text names.now notebook.old.named processor.old.scenario steps) processor.old.scenario steps
         (record { out = writer W.told W.written W.failures out.old; notes = writer N.told N.written N.failures notes.old })
         (record { out = writer W.told W.written W.failures out.new; notes = writer N.told N.written N.failures notes.new }) result }
     ensures handed_on { W.told ≡ true → 0 < steps → OnOk result (W.handed_on out.new ≡ W.written out.new) }
@@ -94,11 +149,12 @@ fn run_noting<W: Write, T: Write>(
     progress: &mut T,
 ) -> Result<Summary, WorkshopFault>
     requires few { steps ≤ 2 ^ 40 - 2 }
-    requires none { (scenario : Scenario) → Counted scenario 0 notebook.old }
+    requires none { (scenario : Scenario) → Counted notebook.old.named scenario 0 notebook.old }
     ensures makes { Makes processor.old.scenario steps
         (writer W.told W.written W.failures out.old) (writer W.told W.written W.failures out.new) result }
     ensures scenario { processor.new.scenario ≡ processor.old.scenario }
-    ensures counted { OnOk result (Counted processor.old.scenario steps notebook.new) }
+    ensures named { OnOk result (notebook.new.named ≡ notebook.old.named) }
+    ensures counted { OnOk result (Counted notebook.new.named processor.old.scenario steps notebook.new) }
     ensures summary { IfOk result (λ summary. summary ≡ summary_of processor.old.scenario steps) }
     ensures handed_on { W.told ≡ true → 0 < steps → OnOk result (W.handed_on out.new ≡ W.written out.new) }
     ensures progress { TellsRun steps (writer T.told T.written T.failures progress.old) (writer T.told T.written T.failures progress.new) result }

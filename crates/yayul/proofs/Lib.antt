@@ -16,6 +16,8 @@ mod Completed
 mod Ends
 mod Decimals
 mod Fronts
+mod Names
+mod NamedRows
 mod Nearest
 mod Apart
 mod Once

@@ -5,3 +5,4 @@ pub mod Sound
 pub mod Answers
 pub mod Waiting
 pub mod Surveys
+pub mod Names

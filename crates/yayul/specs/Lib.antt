@@ -8,5 +8,6 @@ pub mod Program
 pub mod Survey
 pub mod Told
 pub mod Listing
+pub mod Named
 pub mod Laws
 pub mod Inside

@@ -1,10 +1,11 @@
 //! Assembled sources.
 
-ghost use Rattle.std.specs.Prelude.{◌≡◌, true, map};
+ghost use Rattle.std.specs.Prelude.{◌≡◌, true, map, IfOk};
 ghost use Rattle.agc_text.specs.Lines.{lines};
 ghost use Rattle.words.specs.Devices.{Writes, failures_after};
 ghost use Rattle.yayul.specs.Layout.{start};
 ghost use Rattle.yayul.specs.Listing.{listing};
+ghost use Rattle.yayul.specs.Named.{named_places};
 ghost use Rattle.yayul.specs.Inside.Representation.{shown_by_mark, lines_show};
 ghost use Rattle.agc_text.specs.Tables.{value_in};
 
@@ -12,8 +13,10 @@ use crate::language::Language;
 use crate::listing::{write_rows, write_symbols};
 use crate::margin::NoMargin;
 use crate::mark::Marks;
+use crate::named::NamedPlaces;
 use crate::source_rows::SourceRows;
 use rope::Rope;
+use std::alloc::{AllocError, Global};
 use std::marker::Model;
 use symbols::{Symbols, Value};
 use words::{Write, WriteFailed};
@@ -96,6 +99,13 @@ impl Program {
             self.rope,
             SourceRows::new(self.language, self.source, self.marks),
         )
+    }
+
+    /// The erasable places that its words name. An `Err` is that memory ran out.
+    pub fn named_places(&self, alloc: Global) -> Result<NamedPlaces, AllocError>
+        ensures { IfOk result (λ named. named ≡ named_places self.now) }
+    {
+        NamedPlaces::of_lines(alloc, &self.symbols, &self.source, self.marks.as_slice())
     }
 
     /// Writes the listing: a row for each line of the source, with its number, its place, its word and its text, and then the

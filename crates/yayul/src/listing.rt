@@ -104,7 +104,7 @@ fn write_row<W: Write>(front: &[u8], text: &[u8], writer: &mut W) -> Result<(), 
 }
 
 // The place of the word on the first row of a line.
-fn first_word(mark: &Mark) -> Option<(Bank, Offset)>
+pub(crate) fn first_word(mark: &Mark) -> Option<(Bank, Offset)>
     ensures { result ≡ slice_get (shown_by_mark mark.now).words 0 }
 {
     match mark {

@@ -14,7 +14,7 @@ pub loop-done-init : goal.loop-done-init
 loop-done-init g c = record {
   scenario = refl;
   state = c.start-machine.ensures.start ∙ sym (run-zero c.args.processor.now.scenario);
-  left = left_start c.args.processor.now.scenario c.args.steps c.args.notebook.now c.requires.counted;
+  left = left_start c.args.notebook.now.named c.args.processor.now.scenario c.args.steps c.args.notebook.now c.requires.counted;
   written = λ told. append-nothing _ _ refl;
   failures = refl;
   within = omega arith;
@@ -30,20 +30,20 @@ pub returns-in_err-write_step-clause-written : goal.returns-in_err-write_step-cl
 unfolding notes_text
 returns-in_err-write_step-clause-written g c = λ told.
     let p = err_from_is_err_and c.from_residual.result c.from_residual.ensures.1 in
-    let text = text_is c.args.names.now c.args.processor.now.scenario c.loop-done.processor.scenario c.loop-done.done c.args.steps c.loop-done.machine c.loop-done.notebook
+    let text = text_is c.args.names.now c.args.notebook.now.named c.args.processor.now.scenario c.loop-done.processor.scenario c.loop-done.done c.args.steps c.loop-done.machine c.loop-done.notebook
     c.loop-done.invariant.scenario c.loop-done.invariant.state c.loop-done.invariant.left c.in_err-write_step.ensures.takes.known in
-    rw p.1 (beginning-longer _ _ _ _ (begins_parts (step_text c.args.names.now c.args.processor.now.scenario c.args.steps) c.loop-done.done c.args.steps _ _ _ c.loop-done-test.true
+    rw p.1 (beginning-longer _ _ _ _ (begins_parts (step_text c.args.names.now c.args.notebook.now.named c.args.processor.now.scenario c.args.steps) c.loop-done.done c.args.steps _ _ _ c.loop-done-test.true
     (c.loop-done.invariant.written told) (rw text at (c.in_err-write_step.ensures.written told))))
 
 pub loop-done-preserved : goal.loop-done-preserved
 loop-done-preserved g c = record {
   scenario = c.in_ok-write_step.ensures.scenario ∙ c.loop-done.invariant.scenario;
   state = state_more c.args.processor.now.scenario _ c.loop-done.done _ _ c.loop-done.invariant.scenario c.loop-done.invariant.state c.in_ok-write_step.ensures.state;
-  left = left_next c.args.processor.now.scenario _ c.loop-done.done c.args.steps _ _ _ c.loop-done.invariant.scenario c.loop-done.invariant.state c.loop-done.invariant.left c.in_ok-write_step.ensures.takes;
+  left = left_next c.args.notebook.now.named c.args.processor.now.scenario _ c.loop-done.done c.args.steps _ _ _ c.loop-done.invariant.scenario c.loop-done.invariant.state c.loop-done.invariant.left c.in_ok-write_step.ensures.takes;
   written = λ told.
-      let text = text_is c.args.names.now c.args.processor.now.scenario c.loop-done.processor.scenario c.loop-done.done c.args.steps c.loop-done.machine c.loop-done.notebook
+      let text = text_is c.args.names.now c.args.notebook.now.named c.args.processor.now.scenario c.loop-done.processor.scenario c.loop-done.done c.args.steps c.loop-done.machine c.loop-done.notebook
       c.loop-done.invariant.scenario c.loop-done.invariant.state c.loop-done.invariant.left c.in_ok-write_step.ensures.takes.known in
-      writes_more (step_text c.args.names.now c.args.processor.now.scenario c.args.steps) c.loop-done.done _ _ _ (c.loop-done.invariant.written told)
+      writes_more (step_text c.args.names.now c.args.notebook.now.named c.args.processor.now.scenario c.args.steps) c.loop-done.done _ _ _ (c.loop-done.invariant.written told)
       (rw text at (c.in_ok-write_step.ensures.written told));
   failures = c.in_ok-write_step.ensures.failures ∙ c.loop-done.invariant.failures;
   within = omega arith;
@@ -53,7 +53,7 @@ pub returns-clause-written : goal.returns-clause-written
 unfolding notes_text
 returns-clause-written g c = λ told.
     let all : c.loop-done.done ≡ c.args.steps = omega (arith, c.loop-done-test.false, c.loop-done.invariant.within) in
-    let steps = front_ends (step_text c.args.names.now c.args.processor.now.scenario c.args.steps) c.loop-done.done c.args.steps _ _ all (c.loop-done.invariant.written told) in
+    let steps = front_ends (step_text c.args.names.now c.args.notebook.now.named c.args.processor.now.scenario c.args.steps) c.loop-done.done c.args.steps _ _ all (c.loop-done.invariant.written told) in
     let inside : c.inside.result ≡ (run c.args.processor.now.scenario c.args.steps).inside =
     c.inside.ensures ∙ ap (λ s. s.inside) c.loop-done.invariant.state ∙ ap (λ n. (run c.args.processor.now.scenario n).inside) all in
     let cycles : c.cycles.result ≡ (run c.args.processor.now.scenario c.args.steps).cycles =

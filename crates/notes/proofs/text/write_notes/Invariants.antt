@@ -9,8 +9,8 @@ abbrev pub invariant-loop-done : goal.invariant-loop-done
 invariant-loop-done g l = record {
   scenario : l.processor.scenario ≡ l.fn.processor.scenario;
   state : l.machine ≡ run l.fn.processor.scenario l.done;
-  left : Left l.fn.processor.scenario l.done l.steps l.notebook;
-  written : g.W.Write.told ≡ true → g.W.Write.written l.out ≡ g.W.Write.written l.fn.out ++ front (step_text l.names l.fn.processor.scenario l.steps) l.done;
+  left : Left l.fn.notebook.named l.fn.processor.scenario l.done l.steps l.notebook;
+  written : g.W.Write.told ≡ true → g.W.Write.written l.out ≡ g.W.Write.written l.fn.out ++ front (step_text l.names l.fn.notebook.named l.fn.processor.scenario l.steps) l.done;
   failures : g.W.Write.failures l.out ≡ g.W.Write.failures l.fn.out;
   within : l.done ≤ l.steps;
 }

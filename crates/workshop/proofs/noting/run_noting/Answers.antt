@@ -29,7 +29,7 @@ pub loop-done-2-init : goal.loop-done-2-init
 loop-done-2-init g c =
     record {
       scenario = refl;
-      stands = λ scenario old e before. before;
+      stands = λ named scenario old e before. before;
       failures = refl;
       few_outputs = c.loop-done.invariant.few_outputs;
       within = omega arith;
@@ -38,12 +38,12 @@ loop-done-2-init g c =
 
 pub step_and_write-requires-clause-cycles : goal.step_and_write-requires-clause-cycles
 step_and_write-requires-clause-cycles g c =
-    let here = c.loop-done-2.invariant.stands _ _ c.loop-done.invariant.scenario c.loop-done.invariant.stands in
+    let here = c.loop-done-2.invariant.stands _ _ _ c.loop-done.invariant.scenario c.loop-done.invariant.stands in
     few_cycles c.args.processor.now.scenario c.loop-done-2.done _ here.run.state (omega arith)
 
 pub step_and_write-requires-clause-fits : goal.step_and_write-requires-clause-fits
 step_and_write-requires-clause-fits g c =
-    let here = c.loop-done-2.invariant.stands _ _ c.loop-done.invariant.scenario c.loop-done.invariant.stands in
+    let here = c.loop-done-2.invariant.stands _ _ _ c.loop-done.invariant.scenario c.loop-done.invariant.stands in
     fits_after c.args.processor.now.scenario _ c.loop-done-2.done _ (c.loop-done-2.invariant.scenario ∙ c.loop-done.invariant.scenario) here.run.state
 
 pub returns-in_err-outputs-clause-makes : goal.returns-in_err-outputs-clause-makes
@@ -52,16 +52,16 @@ returns-in_err-outputs-clause-makes g c =
     let breaks : g.W.Write.told ≡ true → BreaksOff c.args.processor.now.scenario c.args.steps (g.W.Write.written c.args.out.now) (g.W.Write.written c.step_and_write.new.out) = λ told.
     stands_breaks_off _ c.args.processor.now.scenario _ c.args.steps c.loop-done-2.done _ _ _ _ _ (omega arith)
     (c.loop-done-2.invariant.scenario ∙ c.loop-done.invariant.scenario)
-    (c.loop-done-2.invariant.stands _ _ c.loop-done.invariant.scenario c.loop-done.invariant.stands).run told (c.in_err-outputs.ensures.written told) in
+    (c.loop-done-2.invariant.stands _ _ _ c.loop-done.invariant.scenario c.loop-done.invariant.stands).run told (c.in_err-outputs.ensures.written told) in
     rw (p.1, p.2) (breaks, c.in_err-outputs.ensures.failures ∙ ap one_more (c.loop-done-2.invariant.failures ∙ c.loop-done.invariant.failures))
 
 pub loop-done-2-preserved : goal.loop-done-2-preserved
 loop-done-2-preserved g c =
     record {
       scenario = c.in_ok-outputs.ensures.scenario ∙ c.loop-done-2.invariant.scenario;
-      stands = λ scenario old e before.
-          noted_after_step _ scenario _ c.loop-done-2.done _ _ old _ _ c.loop-done-2.outputs c.in_ok-outputs.field-0 _ _ (c.loop-done-2.invariant.scenario ∙ e)
-          (c.loop-done-2.invariant.stands scenario old e before) c.note.ensures c.in_ok-outputs.ensures.state c.in_ok-outputs.ensures.written c.in_ok-outputs.ensures.count;
+      stands = λ named scenario old e before.
+          noted_after_step _ named scenario _ c.loop-done-2.done _ _ old _ _ c.loop-done-2.outputs c.in_ok-outputs.field-0 _ _ (c.loop-done-2.invariant.scenario ∙ e)
+          (c.loop-done-2.invariant.stands named scenario old e before) c.note.ensures c.in_ok-outputs.ensures.state c.in_ok-outputs.ensures.written c.in_ok-outputs.ensures.count;
       failures = c.in_ok-outputs.ensures.failures ∙ c.loop-done-2.invariant.failures;
       few_outputs = omega (arith, c.in_ok-outputs.ensures.at_most_one, c.loop-done-2.invariant.few_outputs);
       within = omega arith;
@@ -71,7 +71,7 @@ loop-done-2-preserved g c =
 pub returns-in_err-hand_on-clause-makes : goal.returns-in_err-hand_on-clause-makes
 returns-in_err-hand_on-clause-makes g c =
     let p = err_from_is_err_and c.from_residual-in_err-hand_on.result c.from_residual-in_err-hand_on.ensures.1 in
-    let here = c.loop-done-2.invariant.stands _ _ c.loop-done.invariant.scenario c.loop-done.invariant.stands in
+    let here = c.loop-done-2.invariant.stands _ _ _ c.loop-done.invariant.scenario c.loop-done.invariant.stands in
     let breaks : g.W.Write.told ≡ true → BreaksOff c.args.processor.now.scenario c.args.steps (g.W.Write.written c.args.out.now) (g.W.Write.written c.hand_on.new.out) = λ told.
     breaks_off_after c.args.processor.now.scenario c.args.steps c.loop-done-2.done _ _ _ (omega arith) (here.run.written told) (c.in_err-hand_on.ensures.written told) in
     rw (p.1, p.2) (breaks, c.in_err-hand_on.ensures.failures ∙ ap one_more (c.loop-done-2.invariant.failures ∙ c.loop-done.invariant.failures))
@@ -89,9 +89,13 @@ returns-in_err-hand_on-clause-progress g c =
 pub loop-done-preserved : goal.loop-done-preserved
 loop-done-preserved g c =
     let whole = c.loop-done.invariant.whole c.loop-done-test.true in
+    let here = c.loop-done-2.invariant.stands _ _ _ c.loop-done.invariant.scenario c.loop-done.invariant.stands in
     record {
       scenario = search rules;
-      stands = search rules;
+      stands = record {
+        run = record { state = here.run.state; written = λ told. c.in_ok-hand_on.ensures.written told ∙ here.run.written told; outputs = here.run.outputs };
+        counted = here.counted;
+      };
       failures = search rules;
       few_outputs = search rules;
       within = omega arith;
@@ -107,15 +111,15 @@ returns-clause-progress g c =
 
 pub note-requires-clause-fits : goal.note-requires-clause-fits
 note-requires-clause-fits g c =
-    let here = c.loop-done-2.invariant.stands _ _ c.loop-done.invariant.scenario c.loop-done.invariant.stands in
+    let here = c.loop-done-2.invariant.stands _ _ _ c.loop-done.invariant.scenario c.loop-done.invariant.stands in
     fits_after c.args.processor.now.scenario _ c.loop-done-2.done _ (c.loop-done-2.invariant.scenario ∙ c.loop-done.invariant.scenario) here.run.state
 
 pub note-requires-clause-cycles : goal.note-requires-clause-cycles
 note-requires-clause-cycles g c =
-    let here = c.loop-done-2.invariant.stands _ _ c.loop-done.invariant.scenario c.loop-done.invariant.stands in
+    let here = c.loop-done-2.invariant.stands _ _ _ c.loop-done.invariant.scenario c.loop-done.invariant.stands in
     few_cycles c.args.processor.now.scenario c.loop-done-2.done _ here.run.state (omega arith)
 
 pub note-requires-clause-small : goal.note-requires-clause-small
 note-requires-clause-small g c =
-    let here = c.loop-done-2.invariant.stands _ _ c.loop-done.invariant.scenario c.loop-done.invariant.stands in
-    small c.args.processor.now.scenario c.loop-done-2.done _ (omega arith) here.counted
+    let here = c.loop-done-2.invariant.stands _ _ _ c.loop-done.invariant.scenario c.loop-done.invariant.stands in
+    small c.args.notebook.now.named c.args.processor.now.scenario c.loop-done-2.done _ (omega arith) here.counted

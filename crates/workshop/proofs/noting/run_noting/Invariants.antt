@@ -1,5 +1,6 @@
 use Rattle.std.proofs.Common.{◌-◌, ◌%◌, ◌^◌, ◌≡◌, ◌≤◌, ◌<◌, List, ℕ, true}
 use Rattle.cpu.specs.State.{Scenario}
+use Rattle.yayul.specs.Named.{Named}
 use Rattle.workshop.proofs.NotedSteps.{StandsNoted}
 use Rattle.workshop.specs.Failures.{writer}
 use Rattle.workshop.specs.Progress.{Tells}
@@ -8,7 +9,7 @@ use Rattle.workshop.proofs.noting.run_noting.Given as goal
 abbrev pub invariant-loop-done : goal.invariant-loop-done
 invariant-loop-done g l = record {
   scenario : l.processor.scenario ≡ l.initial.processor.scenario;
-  stands : StandsNoted g.W.Write.told l.initial.processor.scenario l.done l.machine (g.W.Write.written l.initial.out) (g.W.Write.written l.out) l.outputs l.notebook;
+  stands : StandsNoted g.W.Write.told l.initial.notebook.named l.initial.processor.scenario l.done l.machine (g.W.Write.written l.initial.out) (g.W.Write.written l.out) l.outputs l.notebook;
   failures : g.W.Write.failures l.out ≡ g.W.Write.failures l.initial.out;
   few_outputs : l.outputs ≤ l.done;
   within : l.done ≤ l.steps;
@@ -24,9 +25,9 @@ decreases-loop-done g l = l.steps - l.done
 abbrev pub invariant-loop-done-2 : goal.invariant-loop-done-2
 invariant-loop-done-2 g l = record {
   scenario : l.processor.scenario ≡ l.initial.processor.scenario;
-  stands : (scenario : Scenario) (old : List ℕ) → l.initial.processor.scenario ≡ scenario
-      → StandsNoted g.W.Write.told scenario l.initial.done l.initial.machine old (g.W.Write.written l.initial.out) l.initial.outputs l.initial.notebook
-      → StandsNoted g.W.Write.told scenario l.done l.machine old (g.W.Write.written l.out) l.outputs l.notebook;
+  stands : (named : Named) (scenario : Scenario) (old : List ℕ) → l.initial.processor.scenario ≡ scenario
+      → StandsNoted g.W.Write.told named scenario l.initial.done l.initial.machine old (g.W.Write.written l.initial.out) l.initial.outputs l.initial.notebook
+      → StandsNoted g.W.Write.told named scenario l.done l.machine old (g.W.Write.written l.out) l.outputs l.notebook;
   failures : g.W.Write.failures l.out ≡ g.W.Write.failures l.initial.out;
   few_outputs : l.outputs ≤ l.done;
   within : l.done ≤ l.stop;

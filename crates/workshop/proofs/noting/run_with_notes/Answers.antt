@@ -1,42 +1,36 @@
-use Rattle.std.proofs.Common.{Err, ap, refl, subst}
-use Rattle.workshop.specs.Failures.{reader}
-use Rattle.workshop.specs.Loading.{Files, Loads}
-use Rattle.workshop.specs.declared.fault.WorkshopFault.TheVariants.{NoMemory}
 use Rattle.std.proofs.lemmas.Result.{err_from_is_err_and}
+use Rattle.std.proofs.Common.{inl, inr, refl, subst, sym}
+use Rattle.notes.specs.Counted.{Counted}
 use Rattle.workshop.proofs.Noted.{noted_by}
-use Rattle.workshop.proofs.Opening.{no_memory_left}
 use Rattle.workshop.proofs.Telling.{tells_none}
 use Rattle.workshop.proofs.noting.run_with_notes.Goals as goal
 
+pub returns-in_err-code-clause-progress : goal.returns-in_err-code-clause-progress
+returns-in_err-code-clause-progress g c = rw (err_from_is_err_and c.from_residual.result c.from_residual.ensures.1).1 (tells_none c.args.steps _)
+
+pub returns-in_err-feed-clause-progress : goal.returns-in_err-feed-clause-progress
+returns-in_err-feed-clause-progress g c = rw (err_from_is_err_and c.from_residual-in_err-feed.result c.from_residual-in_err-feed.ensures.1).1 (tells_none c.args.steps _)
+
 pub returns-in_default-clause-runs : goal.returns-in_default-clause-runs
 returns-in_default-clause-runs g c =
-    let before : Files = record { program = reader g.P.Read.told g.P.Read.left g.P.Read.failures c.args.program.now; feed = reader g.F.Read.told g.F.Read.left g.F.Read.failures c.args.feed.now } in
-    let after : Files = record { program = reader g.P.Read.told g.P.Read.left g.P.Read.failures c.load.new.program; feed = reader g.F.Read.told g.F.Read.left g.F.Read.failures c.load.new.feed } in
-    record {
-      loaded = Err NoMemory;
-      loads = no_memory_left c.args.origin before after c.in_ok-loaded.loaded (subst (Loads c.args.origin before after) c.in_ok-loaded.was c.load.ensures);
-      next = (refl, refl);
-    }
-
-pub returns-in_err-loaded-clause-progress : goal.returns-in_err-loaded-clause-progress
-returns-in_err-loaded-clause-progress g c = rw (err_from_is_err_and c.from_residual.result c.from_residual.ensures.1).1 (tells_none c.args.steps _)
+    noted_by c.args.origin c.args.steps _ _ c.in_ok-code.code c.in_ok-feed.feed _ _ _ c.in_ok-code.was c.in_ok-feed.was c.read_named.ensures c.read_feed.ensures (inl (refl, refl))
 
 pub returns-in_default-clause-progress : goal.returns-in_default-clause-progress
 returns-in_default-clause-progress g c = tells_none c.args.steps _
 
 pub returns-in_default-new-clause-runs : goal.returns-in_default-new-clause-runs
 returns-in_default-new-clause-runs g c =
-    let before : Files = record { program = reader g.P.Read.told g.P.Read.left g.P.Read.failures c.args.program.now; feed = reader g.F.Read.told g.F.Read.left g.F.Read.failures c.args.feed.now } in
-    let after : Files = record { program = reader g.P.Read.told g.P.Read.left g.P.Read.failures c.load.new.program; feed = reader g.F.Read.told g.F.Read.left g.F.Read.failures c.load.new.feed } in
-    record {
-      loaded = Err NoMemory;
-      loads = no_memory_left c.args.origin before after c.in_ok-loaded.loaded (subst (Loads c.args.origin before after) c.in_ok-loaded.was c.load.ensures);
-      next = (refl, refl);
-    }
+    noted_by c.args.origin c.args.steps _ _ c.in_ok-code.code c.in_ok-feed.feed _ _ _ c.in_ok-code.was c.in_ok-feed.was c.read_named.ensures c.read_feed.ensures (inl (refl, refl))
 
 pub returns-in_default-new-clause-progress : goal.returns-in_default-new-clause-progress
 returns-in_default-new-clause-progress g c = tells_none c.args.steps _
 
 pub returns-clause-runs : goal.returns-clause-runs
 returns-clause-runs g c =
-    noted_by c.args.origin c.args.steps _ _ c.in_ok-loaded.loaded _ c.in-Ok.names _ _ c.in_ok-loaded.was c.in-Ok.ensures (ap (λ p. p.scenario) c.new-processor.ensures.value) c.load.ensures c.run_then_note.ensures.ends
+    noted_by c.args.origin c.args.steps _ _ c.in_ok-code.code c.in_ok-feed.feed _ _ _ c.in_ok-code.was c.in_ok-feed.was c.read_named.ensures c.read_feed.ensures
+    (inr (rw (c.new-processor.ensures.value, c.in-Ok.ensures, (c.in-Ok-new.ensures (record { rope = c.in_ok-code.code.rope; inputs = c.in_ok-feed.feed })).same) at c.run_then_note.ensures.ends))
+
+pub run_then_note-requires-clause-none : goal.run_then_note-requires-clause-none
+run_then_note-requires-clause-none g c = λ scenario.
+    let counted = c.in-Ok-new.ensures scenario in
+    subst (λ named. Counted named scenario 0 c.in-Ok-new.notebook) (sym counted.same) counted

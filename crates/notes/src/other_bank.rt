@@ -1,0 +1,66 @@
+//! Whether an instruction reaches another bank than its source names.
+
+ghost use Rattle.std.specs.Prelude.{◌≡◌, Some};
+ghost use Rattle.cpu.specs.Effects.{place_in};
+ghost use Rattle.notes.specs.Notes.{is_elsewhere, leads_elsewhere, place_named, reaches_other};
+
+use cpu::{Fetched, Machine, named_address};
+use space::numbers::Eras;
+use space::resolve::resolve;
+use space::{Addr12, Linear};
+use yayul::NamedPlaces;
+
+/// How many words an erasable bank holds.
+const BANK_SIZE: u16 = 0o400;
+
+/// Whether an instruction reaches another bank than that of the erasable place that its source names. What INDEX added something to
+/// is passed over, and so is a word that waited.
+pub(crate) fn reaches_other(named: &NamedPlaces, machine: &Machine, fetched: &Fetched) -> bool
+    ensures { result ≡ reaches_other named.now machine.now fetched.now }
+{
+    if fetched.waited || fetched.added.is_some() {
+        return false;
+    }
+    match place_named(named, &fetched.place) {
+        Some(place) => leads_elsewhere(machine, place, named_address(fetched.word, fetched.extra)),
+        None => false,
+    }
+}
+
+/// The erasable place that the source of the word at a place names.
+fn place_named(named: &NamedPlaces, place: &Linear) -> Option<Eras>
+    ensures { result ≡ place_named named.now place.now }
+{
+    match place {
+        Linear::Erasable(_) => None,
+        Linear::Fixed(bank, offset) => named.named_at(*bank, *offset),
+    }
+}
+
+/// Whether an address leads to another bank than an erasable place's.
+fn leads_elsewhere(machine: &Machine, other: Eras, address: Option<Addr12>) -> bool
+    ensures { result ≡ leads_elsewhere machine.now (Some other) address }
+{
+    match address {
+        Some(address) => is_elsewhere(other, &place_at(machine, address)),
+        None => false,
+    }
+}
+
+/// Whether a place is in another bank than an erasable one; a place of fixed memory is.
+fn is_elsewhere(other: Eras, place: &Linear) -> bool
+    ensures { result ≡ is_elsewhere other place.now }
+{
+    match place {
+        Linear::Erasable(place) => place.number() / BANK_SIZE != other.number() / BANK_SIZE,
+        Linear::Fixed(_, _) => true,
+    }
+}
+
+/// The place to which an address leads.
+#[tactic(auto, unfolding(cpu::specs::Effects::place_in))]
+pub(crate) fn place_at(machine: &Machine, address: Addr12) -> Linear
+    ensures { result ≡ place_in machine.now address }
+{
+    resolve(address, machine.store().banks())
+}
