@@ -196,19 +196,14 @@ fn moved_on(words: u64, place: Linear) -> Option<Linear>
     match place {
         Linear::Erasable(place) => {
             if words < 0o4000 && u64::from(place.number()) + words < 0o4000 {
-                Some(Linear::Erasable(Eras::of_low_bits(
-                    place.number() + words as u16,
-                )))
+                Some(Linear::Erasable(Eras::of_low_bits(place.number() + words as u16)))
             } else {
                 None
             }
         }
         Linear::Fixed(bank, offset) => {
             if words < 0o2000 && u64::from(offset.number()) + words < 0o2000 {
-                Some(Linear::Fixed(
-                    bank,
-                    Offset::of_low_bits(offset.number() + words as u16),
-                ))
+                Some(Linear::Fixed(bank, Offset::of_low_bits(offset.number() + words as u16)))
             } else {
                 None
             }

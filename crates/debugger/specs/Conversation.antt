@@ -1,5 +1,5 @@
 -- A session of commands, by what its lines ask for: the session without more commands is one, the extended one another.
-use Rattle.std.specs.Prelude.{◌≡◌, ℕ, ◌+◌, ◌*◌, Bool, true, false, List, [], ◌∷◌, ◌++◌, Option, Result, Ok, Err, if◌then◌else◌}
+use Rattle.std.specs.Prelude.{◌≡◌, ℕ, ◌+◌, ◌*◌, Bool, false, List, [], ◌∷◌, ◌++◌, Option, Result, Ok, Err, if◌then◌else◌}
 use Rattle.agc_text.specs.Lines.{ended_lines}
 use Rattle.words.specs.Devices.{WritesBeginning}
 use Rattle.cpu.specs.State.{Scenario}
