@@ -56,7 +56,7 @@ FURTHER_CALLS = {
     ],
 }
 
-# A session of 37 commands, two of which add an input, and six of which only an extended session has.
+# A session of 42 commands, two of which add an input, and eleven of which only an extended session has.
 ADDED = b"add 5000 TIME1 PINC"
 COMMANDS = b"""run 100
 break at FIVE
@@ -83,6 +83,11 @@ until 400
 why
 why 25
 why CH010 40
+where
+mem 02,4000 12
+mem 24 +2
+mem Z
+find S
 clear
 run 900
 mem 25

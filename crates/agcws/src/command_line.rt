@@ -454,10 +454,17 @@ With --extended there are these besides, and after E50 COMMAND stands why:
                        most K or 16: BY T, the step, what it wrote, FROM, what
                        it read; then ALL, MORE how many cells, or START
   why                  the same of the step that led to P, whatever it wrote
+  where                WHERE, the next instruction's place as a listing has it,
+                       and the symbol at it or before it; and in an interrupt IN
+                       INTERRUPT K BY T, the step that entered it
+  mem PLACE K          K words from there on, each as MEM, its place, the word
+  find TEXT            the symbols whose names begin so, as FIND; COUNT
   breaks               the breakpoints, one a line, as BREAK I at PLACE; COUNT
   clear I              breakpoint I is taken away: CLEAR I, or NONE
   echo TEXT            TEXT, as it stands, so that a reply's end can be told
   help, help COMMAND   what each command takes and does, or one, as HELP lines
+A PLACE is then also as a listing has it, E3,1400 or 02,4013; where no symbol
+has the name, A, L, Q, Z, EB, FB or BB; and any of them moved on, as SUM +3.
 
 Exit status:
   0  done

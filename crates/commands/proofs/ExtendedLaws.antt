@@ -1,35 +1,15 @@
 -- What lines of an extended session ask for.
-use Rattle.std.proofs.Common.{◌≡◌, ℕ, ◌≤◌, nat_lt, None, Some, List, [], ◌∷◌, All, length, drop, map, slice_index_or, refl, subst, inl, inr, arith}
-use Rattle.std.specs.Option.{option_and_then}
+use Rattle.std.proofs.Common.{◌≡◌, ℕ, ◌≤◌, nat_lt, None, Some, List, ◌∷◌, All, length, drop, map, slice_index_or, refl, subst, inl, inr, arith}
 use Rattle.std.specs.List.{before_first, range_with_len, filter}
 use Rattle.std.proofs.lemmas.Bool.{cases_Bool}
 use Rattle.std.proofs.lemmas.List.{length-drop, length-take}
 use Rattle.std.proofs.lemmas.List.Elements.{All-map, All-head, All-tail}
 use Rattle.agc_text.specs.Fields.{Piece, is_blank, before_comment, is_run_start, run_at, runs, texts, fields}
-use Rattle.agc_text.specs.Tables.{same_name, value_in}
 use Rattle.symbols.specs.Values.{SymbolTable}
-use Rattle.commands.specs.Extended.{ExtendedForm, extended_forms, extended_in, extended_request_of}
+use Rattle.commands.specs.Extended.{extended_in, extended_request_of}
 use Rattle.commands.specs.Lines.{kept, command_length}
 use Rattle.commands.specs.declared.command.Request.TheVariants.{TooLong}
 use Rattle.commands.specs.declared.extended.ExtendedRequest.TheVariants.{Plain}
-
--- no form of a table takes the fields
-abbrev NoneTakes : List (List ℕ × ExtendedForm) → List (List ℕ) → Type 0
-NoneTakes [] texts = Unit {0}
-NoneTakes (entry ∷ more) texts = (entry.1 texts ≡ None) × NoneTakes more texts
-
-none-taken : (table : List (List ℕ × ExtendedForm)) (name : List ℕ) (texts : List (List ℕ)) → NoneTakes table texts → option_and_then (λ form. form texts) (value_in table name) ≡ None
-none-taken [] name texts none = refl
-none-taken (entry ∷ more) name texts none =
-    elim (cases_Bool (same_name name entry.0)) [
-      | inl same ↦ rw same none.0
-      | inr other ↦ rw other (none-taken more name texts none.1)
-    ]
-
--- three fields are too many after any name
-pub three-too-many : (symbols : SymbolTable) (name a b c : List ℕ) (more : List (List ℕ)) → option_and_then (λ form. form (a ∷ b ∷ c ∷ more)) (value_in (extended_forms symbols) name) ≡ None
-unfolding extended_forms
-three-too-many symbols name a b c more = none-taken (extended_forms symbols) name (a ∷ b ∷ c ∷ more) (refl, (refl, (refl, (refl, (refl, (refl, (refl, tt)))))))
 
 -- what a line asks for that is kept whole
 pub extended-kept : (symbols : SymbolTable) (line text : List ℕ) → Some text ≡ kept line → extended_in symbols text (fields text) ≡ extended_request_of symbols line

@@ -7,18 +7,20 @@ use Rattle.feed.specs.Statements.{parsed}
 use Rattle.feed.specs.declared.input.Counter.TheVariants.{Time1}
 use Rattle.feed.specs.declared.input.Input.TheVariants.{Count}
 use Rattle.feed.specs.declared.input.Sequence.TheVariants.{Pinc}
-use Rattle.space.specs.declared.place.Linear.TheVariants.{Fixed}
+use Rattle.space.specs.declared.place.Linear.TheVariants.{Erasable, Fixed}
 use Rattle.symbols.specs.declared.values.Value.TheVariants as value
 use Rattle.symbols.specs.Values.{SymbolTable}
 use Rattle.commands.specs.Commands.{forms}
 use Rattle.commands.specs.Extended.{extended_request_of, extended_forms}
 use Rattle.commands.specs.Usages.{usages}
-use Rattle.commands.specs.Subjects.{registers}
+use Rattle.commands.specs.NamedPlaces.{registers}
+use Rattle.space.specs.Places.{window}
 use Rattle.commands.specs.declared.subject.Subject.TheVariants as subject
-use Rattle.commands.specs.declared.command.Command.TheVariants.{Registers, Memory, Clear, Step, Add}
+use Rattle.commands.specs.declared.command.Breakpoint.TheVariants as breakpoint
+use Rattle.commands.specs.declared.command.Command.TheVariants.{Registers, Memory, Last, Break, Clear, Step, Add}
 use Rattle.commands.specs.declared.command.Request.TheVariants.{Nothing, TooLong, WrongCounter, Known}
 use Rattle.commands.specs.declared.extended.ExtendedRequest.{ExtendedRequest}
-use Rattle.commands.specs.declared.extended.ExtendedRequest.TheVariants.{Plain, Says, Help, Breaks, ClearOne, On, AllRegisters, Until, WhyStep, Why}
+use Rattle.commands.specs.declared.extended.ExtendedRequest.TheVariants.{Plain, Says, Help, Breaks, ClearOne, On, AllRegisters, Until, WhyStep, Why, Words, Where, Find}
 
 -- a place in fixed memory, and a number that is no place
 abbrev symbols : SymbolTable
@@ -29,26 +31,26 @@ asked lines = map (extended_request_of symbols) lines
 
 -- what no other session is asked for
 further : asked (codes "breaks" ∷ codes "clear 2 # the second" ∷ codes "help" ∷ codes "help mem" ∷ codes "on" ∷ codes "on 5" ∷ codes "regs all" ∷ codes "regs" ∷ codes "until 123456789012345" ∷ [])
-    ≡ Breaks ∷ ClearOne 2 ∷ Help ∷ Says (codes "HELP mem takes a place: the word there\n") ∷ On 999999999999999 ∷ On 5 ∷ AllRegisters ∷ Plain (Known Registers) ∷ Until 123456789012345 ∷ []
-unfolding extended_request_of extended_forms usages forms runs parsed counters sequences
+    ≡ Breaks ∷ ClearOne 2 ∷ Help ∷ Says (codes "HELP mem takes a place, or a place and a count: the word there, or so many from there on\n") ∷ On 999999999999999 ∷ On 5 ∷ AllRegisters ∷ Plain (Known Registers) ∷ Until 123456789012345 ∷ []
+unfolding extended_request_of extended_forms usages forms runs parsed counters sequences registers window
 further = refl
 
 -- what any session is asked for
 plain : asked (codes "clear" ∷ codes "mem FIVE" ∷ codes " step 1 # one" ∷ codes "add 12 TIME1 PINC" ∷ codes "add 12 TIME1 DINC" ∷ codes "# nothing" ∷ [] ∷ replicate 81 32 ∷ [])
     ≡ Plain (Known Clear) ∷ Plain (Known (Memory (Fixed 2 5))) ∷ Plain (Known (Step 1)) ∷ Plain (Known (Add 12 (Count Time1 Pinc))) ∷ Plain WrongCounter ∷ Plain Nothing ∷ Plain Nothing ∷ Plain TooLong ∷ []
-unfolding extended_request_of extended_forms usages forms runs parsed counters sequences
+unfolding extended_request_of extended_forms usages forms runs parsed counters sequences registers window
 plain = refl
 
 -- what stands after `echo` and one byte, a comment sign too
 echoes : asked (codes "echo DONE 5" ∷ codes " echo  two # three" ∷ codes "echo" ∷ codes "echo " ∷ [])
     ≡ Says (codes "DONE 5\n") ∷ Says (codes " two # three\n") ∷ Says (codes "\n") ∷ Says (codes "\n") ∷ []
-unfolding extended_request_of extended_forms usages forms runs parsed counters sequences
+unfolding extended_request_of extended_forms usages forms runs parsed counters sequences registers window
 echoes = refl
 
 -- what `why` is about: an erasable place, and where no symbol has the name a register or a channel; and how many links it tells
 whys : asked (codes "why" ∷ codes "why SUM" ∷ codes "why SUM 3" ∷ codes "why 101 999" ∷ codes "why A" ∷ codes "why BB 0" ∷ codes "why Q" ∷ codes "why CH010" ∷ codes "why CH7 2" ∷ [])
     ≡ WhyStep ∷ Why (subject.Place 0o101) 16 ∷ Why (subject.Place 0o101) 3 ∷ Why (subject.Place 0o101) 999 ∷ Why (subject.Place 0) 16 ∷ Why (subject.Place 6) 0 ∷ Why (subject.Place 0o102) 16 ∷ Why (subject.Channel 8) 16 ∷ Why (subject.Channel 7) 2 ∷ []
-unfolding extended_request_of extended_forms usages forms runs parsed counters sequences registers
+unfolding extended_request_of extended_forms usages forms runs parsed counters sequences registers window
 whys = refl
 
 wrong_whys : asked (codes "why FIVE" ∷ codes "why CH12" ∷ codes "why SUMM" ∷ codes "why SUMM 3" ∷ codes "why SUM x" ∷ codes "why SUM 1000" ∷ codes "why SUM 3 4" ∷ codes "why CH1000" ∷ codes "why CH" ∷ [])
@@ -63,15 +65,15 @@ wrong_whys : asked (codes "why FIVE" ∷ codes "why CH12" ∷ codes "why SUMM" �
     ∷ codes "no symbol CH1000\n"
     ∷ codes "no symbol CH\n"
     ∷ [])
-unfolding extended_request_of extended_forms usages forms runs parsed counters sequences registers
+unfolding extended_request_of extended_forms usages forms runs parsed counters sequences registers window
 wrong_whys = refl
 
 -- refusals say which field they mean
-refusals : asked (codes "mem FIV" ∷ codes "break at FIV" ∷ codes "mem BIG" ∷ codes "mem FIVE 2" ∷ codes "last FIVE" ∷ codes "break chan 1000 5" ∷ codes "until" ∷ codes "regs some" ∷ codes "regs all all" ∷ codes "stop" ∷ codes "help stop" ∷ codes "clear x" ∷ codes "add 12 TIME1" ∷ [])
+refusals : asked (codes "mem FIV" ∷ codes "break at FIV" ∷ codes "mem BIG" ∷ codes "mem FIVE x" ∷ codes "last FIVE" ∷ codes "break chan 1000 5" ∷ codes "until" ∷ codes "regs some" ∷ codes "regs all all" ∷ codes "stop" ∷ codes "help stop" ∷ codes "clear x" ∷ codes "add 12 TIME1" ∷ [])
     ≡ Says (codes "E50 COMMAND no symbol FIV\n")
     ∷ Says (codes "E50 COMMAND no symbol FIV\n")
-    ∷ Says (codes "E50 COMMAND mem takes a place\n")
-    ∷ Says (codes "E50 COMMAND mem takes a place\n")
+    ∷ Says (codes "E50 COMMAND mem takes a place, or a place and a count\n")
+    ∷ Says (codes "E50 COMMAND mem takes a place, or a place and a count\n")
     ∷ Says (codes "E50 COMMAND last takes an erasable place\n")
     ∷ Says (codes "E50 COMMAND break takes at PLACE, word PLACE WORD or chan CHANNEL WORD\n")
     ∷ Says (codes "E50 COMMAND until takes a number of cycles\n")
@@ -82,5 +84,44 @@ refusals : asked (codes "mem FIV" ∷ codes "break at FIV" ∷ codes "mem BIG" �
     ∷ Says (codes "E50 COMMAND clear takes a breakpoint's number, or nothing\n")
     ∷ Says (codes "E50 COMMAND add takes a line of a feed\n")
     ∷ []
-unfolding extended_request_of extended_forms usages forms runs parsed counters sequences
+unfolding extended_request_of extended_forms usages forms runs parsed counters sequences registers window
 refusals = refl
+
+-- places as a listing has them, moved on, and by the letters of registers, where no symbol has these
+abbrev memory : ℕ → ExtendedRequest
+memory p = Plain (Known (Memory (Erasable p)))
+
+places : asked (codes "mem 02,4005" ∷ codes "mem 3,6000" ∷ codes "mem 05,3777" ∷ codes "mem E3,1400" ∷ codes "mem E0,0101" ∷ codes "mem E2,1377" ∷ codes "mem A" ∷ codes "mem Q" ∷ codes "mem SUM +3" ∷ codes "mem FIVE +10" ∷ codes "mem E3,1400 +1" ∷ [])
+    ≡ Plain (Known (Memory (Fixed 2 5))) ∷ Plain (Known (Memory (Fixed 3 0))) ∷ Plain (Known (Memory (Fixed 5 0o1777))) ∷ memory 0o1400 ∷ memory 0o101 ∷ memory 0o1377 ∷ memory 0 ∷ memory 0o102 ∷ memory 0o104 ∷ Plain (Known (Memory (Fixed 2 0o15))) ∷ memory 0o1401 ∷ []
+unfolding extended_request_of extended_forms usages forms runs parsed counters sequences registers window
+places = refl
+
+-- in each command that takes one
+every_place : asked (codes "mem SUM +3 5" ∷ codes "mem 02,4005 999" ∷ codes "mem L 0" ∷ codes "last L" ∷ codes "last SUM +1" ∷ codes "why SUM +1" ∷ codes "why E3,1400 +2 4" ∷ codes "break at FIVE +1" ∷ codes "break at 02,4005" ∷ codes "break word Z 5" ∷ codes "break word SUM +3 75" ∷ [])
+    ≡ Words (Erasable 0o104) 5 ∷ Words (Fixed 2 5) 999 ∷ Words (Erasable 1) 0 ∷ Plain (Known (Last 1)) ∷ Plain (Known (Last 0o102)) ∷ Why (subject.Place 0o102) 16 ∷ Why (subject.Place 0o1402) 4 ∷ Plain (Known (Break (breakpoint.Place (Fixed 2 6)))) ∷ Plain (Known (Break (breakpoint.Place (Fixed 2 5)))) ∷ Plain (Known (Break (breakpoint.Word 5 5))) ∷ Plain (Known (Break (breakpoint.Word 0o104 0o75))) ∷ []
+unfolding extended_request_of extended_forms usages forms runs parsed counters sequences registers window
+every_place = refl
+
+-- an address that is none of the bank, a place past the end of its bank, a sign without number, and too many words
+wrong_places : asked (codes "mem 02,2005" ∷ codes "mem E3,1377" ∷ codes "mem E8,1400" ∷ codes "mem 50,2000" ∷ codes "mem FIVE +1773" ∷ codes "mem SUM +" ∷ codes "mem SUM -1" ∷ codes "mem SUM 1000" ∷ codes "mem SUM +1 +1" ∷ codes "why CH7 +1" ∷ codes "break word SUM +1" ∷ [])
+    ≡ map (λ text. Says (codes "E50 COMMAND " ++ text))
+    (codes "no symbol 02,2005\n"
+    ∷ codes "no symbol E3,1377\n"
+    ∷ codes "no symbol E8,1400\n"
+    ∷ codes "no symbol 50,2000\n"
+    ∷ codes "mem takes a place, or a place and a count\n"
+    ∷ codes "mem takes a place, or a place and a count\n"
+    ∷ codes "mem takes a place, or a place and a count\n"
+    ∷ codes "mem takes a place, or a place and a count\n"
+    ∷ codes "mem takes a place, or a place and a count\n"
+    ∷ codes "no symbol CH7\n"
+    ∷ codes "break takes at PLACE, word PLACE WORD or chan CHANNEL WORD\n"
+    ∷ [])
+unfolding extended_request_of extended_forms usages forms runs parsed counters sequences registers window
+wrong_places = refl
+
+-- where the next instruction stands, and symbols by their beginning
+looks : asked (codes "where" ∷ codes "find SU" ∷ codes "where 1" ∷ codes "find" ∷ codes "find S U" ∷ [])
+    ≡ Where ∷ Find (codes "SU") ∷ Says (codes "E50 COMMAND where takes nothing\n") ∷ Says (codes "E50 COMMAND find takes the beginning of a name\n") ∷ Says (codes "E50 COMMAND find takes the beginning of a name\n") ∷ []
+unfolding extended_request_of extended_forms usages forms runs parsed counters sequences registers window
+looks = refl

@@ -12,7 +12,6 @@ use Rattle.feed.specs.declared.input.Input.{Input}
 use Rattle.space.specs.declared.place.Linear.{Linear}
 use Rattle.space.specs.declared.place.Linear.TheVariants.{Erasable, Fixed}
 use Rattle.symbols.specs.Values.{place_of, SymbolTable}
-use Rattle.symbols.specs.declared.values.Value.{Value}
 use Rattle.symbols.specs.declared.values.Value.TheVariants.{Num}
 use Rattle.commands.specs.Lines.{command_length}
 use Rattle.commands.specs.declared.command.Breakpoint.{Breakpoint}

@@ -1,17 +1,23 @@
 -- What a line of an extended session asks for: the commands of any session, some more, and refusals in words.
-use Rattle.std.specs.Prelude.{ℕ, ◌+◌, nat_lt, nat_le, ◌&&◌, ◌||◌, not, Bool, List, [], ◌∷◌, ◌++◌, length, drop, Option, None, Some, is_some, codes, if◌then◌else◌, option_and_then}
-use Rattle.std.specs.Option.{option_map}
+use Rattle.std.specs.Prelude.{ℕ, ◌+◌, nat_lt, nat_le, ◌&&◌, ◌||◌, not, Bool, false, List, [], ◌∷◌, ◌++◌, length, drop, Option, None, Some, is_some, codes, if◌then◌else◌, option_and_then}
+use Rattle.std.specs.Option.{option_map, option_or}
 use Rattle.agc_text.specs.Fields.{Piece, fields, texts}
 use Rattle.agc_text.specs.Tables.{same_name, value_in}
 use Rattle.symbols.specs.Values.{SymbolTable}
-use Rattle.commands.specs.Commands.{count_in, place_in, request_in}
+use Rattle.feed.specs.Statements.{word_in}
+use Rattle.space.specs.declared.place.Linear.{Linear}
+use Rattle.commands.specs.Commands.{count_in, erasable_number, request_in}
 use Rattle.commands.specs.Lines.{command_length}
-use Rattle.commands.specs.Subjects.{subject_in}
+use Rattle.commands.specs.NamedPlaces.{named_place, place_first, after_place}
+use Rattle.commands.specs.Subjects.{erasable_first, place_subject, channel_subject}
 use Rattle.commands.specs.Usages.{Usage, usages, help_line}
+use Rattle.commands.specs.declared.subject.Subject.{Subject}
+use Rattle.commands.specs.declared.command.Breakpoint.TheVariants as breakpoint
+use Rattle.commands.specs.declared.command.Command.TheVariants.{Memory, Last, Break}
 use Rattle.commands.specs.declared.command.Request.{Request}
 use Rattle.commands.specs.declared.command.Request.TheVariants.{Nothing, TooLong, Unknown, WrongCounter, Known}
 use Rattle.commands.specs.declared.extended.ExtendedRequest.{ExtendedRequest}
-use Rattle.commands.specs.declared.extended.ExtendedRequest.TheVariants.{Plain, Says, Help, Breaks, ClearOne, On, AllRegisters, Until, WhyStep, Why}
+use Rattle.commands.specs.declared.extended.ExtendedRequest.TheVariants.{Plain, Says, Help, Breaks, ClearOne, On, AllRegisters, Until, WhyStep, Why, Words, Where, Find}
 
 -- the most steps that a command can name
 abbrev pub most_count : ℕ
@@ -21,6 +27,12 @@ most_count = 999999999999999
 abbrev pub ExtendedForm : Type 0
 ExtendedForm = List (List ℕ) → Option ExtendedRequest
 
+-- the field that stands alone
+abbrev pub sole : List (List ℕ) → Option (List ℕ)
+sole [] = None
+sole (field ∷ []) = Some field
+sole (field ∷ next ∷ more) = None
+
 -- no field
 abbrev pub with_none : ExtendedRequest → ExtendedForm
 with_none request [] = Some request
@@ -28,15 +40,15 @@ with_none request (field ∷ more) = None
 
 -- one field, in which something stands
 abbrev pub with_field : {X : Type 0} → (List ℕ → Option X) → (X → ExtendedRequest) → ExtendedForm
-with_field read request [] = None
-with_field read request (field ∷ []) = option_map request (read field)
-with_field read request (field ∷ next ∷ more) = None
+with_field read request fields = option_map request (option_and_then read (sole fields))
 
 -- one field, which is a word
+abbrev pub word_alone : List ℕ → Option (List ℕ) → Bool
+word_alone word None = false
+word_alone word (Some field) = same_name field word
+
 abbrev pub with_word : List ℕ → ExtendedRequest → ExtendedForm
-with_word word request [] = None
-with_word word request (field ∷ []) = if same_name field word then Some request else None
-with_word word request (field ∷ next ∷ more) = None
+with_word word request fields = if word_alone word (sole fields) then Some request else None
 
 -- no field, or one
 abbrev pub with_field_or : {X : Type 0} → ExtendedRequest → (List ℕ → Option X) → (X → ExtendedRequest) → ExtendedForm
@@ -47,22 +59,62 @@ with_field_or alone read request (field ∷ more) = with_field read request (fie
 abbrev pub help_in : List ℕ → Option (List ℕ)
 help_in name = option_map (λ usage. help_line (name, usage)) (value_in usages name)
 
--- the most links that `why` can name, and how many it tells where none is named
+-- the most links that `why` can name, and the most words that `mem` can; and how many links it tells where none is named
 abbrev pub most_links : ℕ
 most_links = 999
 
 abbrev pub usual_links : ℕ
 usual_links = 16
 
-abbrev pub links_in : List ℕ → Option ℕ
-links_in field = option_and_then (λ k. if nat_le k most_links then Some k else None) (count_in field)
+abbrev pub few_in : List ℕ → Option ℕ
+few_in field = option_and_then (λ k. if nat_le k most_links then Some k else None) (count_in field)
 
--- no field; what has a word; or this and a number of links
+-- no more field, or a number of links
+abbrev pub links_in : List (List ℕ) → Option ℕ
+links_in [] = Some usual_links
+links_in (field ∷ more) = option_and_then few_in (sole (field ∷ more))
+
+-- what a word is asked of, and how many links
+abbrev pub why_of : Option Subject → List (List ℕ) → Option ExtendedRequest
+why_of subject fields = option_and_then (λ s. option_map (λ k. Why s k) (links_in fields)) subject
+
+-- no field; an erasable place or, where no symbol has the name, a channel; or this and a number of links
 abbrev pub why_form : SymbolTable → ExtendedForm
 why_form symbols [] = Some WhyStep
-why_form symbols (field ∷ []) = option_map (λ subject. Why subject usual_links) (subject_in symbols field)
-why_form symbols (field ∷ count ∷ []) = option_and_then (λ subject. option_map (λ k. Why subject k) (links_in count)) (subject_in symbols field)
-why_form symbols (field ∷ count ∷ next ∷ more) = None
+why_form symbols (field ∷ more) =
+    option_or (why_of (place_subject symbols (field ∷ more)) (after_place (field ∷ more))) (why_of (channel_subject symbols field) more)
+
+-- the word at a place, or so many from there on
+abbrev pub memory_of : Linear → List (List ℕ) → Option ExtendedRequest
+memory_of place [] = Some (Plain (Known (Memory place)))
+memory_of place (field ∷ more) = option_map (λ k. Words place k) (option_and_then few_in (sole (field ∷ more)))
+
+abbrev pub memory_form : SymbolTable → ExtendedForm
+memory_form symbols fields = option_and_then (λ place. memory_of place (after_place fields)) (place_first symbols fields)
+
+-- a place, where no field stands after it
+abbrev pub if_none : {X : Type 0} → List (List ℕ) → Option X → Option X
+if_none [] x = x
+if_none (field ∷ more) x = None
+
+abbrev pub place_alone : SymbolTable → List (List ℕ) → Option Linear
+place_alone symbols fields = if_none (after_place fields) (place_first symbols fields)
+
+abbrev pub last_form : SymbolTable → ExtendedForm
+last_form symbols fields = option_map (λ p. Plain (Known (Last p))) (option_and_then erasable_number (place_alone symbols fields))
+
+-- an erasable place, and then a word
+abbrev pub watches : SymbolTable → List (List ℕ) → Option ExtendedRequest
+watches symbols fields =
+    option_and_then (λ p. option_map (λ w. Plain (Known (Break (breakpoint.Word p w)))) (option_and_then word_in (sole (after_place fields)))) (erasable_first symbols fields)
+
+-- `at` and a place, or `word`, an erasable place and a word
+abbrev pub break_form : SymbolTable → ExtendedForm
+break_form symbols [] = None
+break_form symbols (kind ∷ fields) =
+    if same_name kind (codes "at") then option_map (λ p. Plain (Known (Break (breakpoint.Place p)))) (place_alone symbols fields)
+    else if same_name kind (codes "word") then watches symbols fields
+    else None
 
 -- the commands that an extended session has besides, but for `echo`
 unfoldable pub extended_forms : SymbolTable → List (List ℕ × ExtendedForm)
@@ -74,19 +126,28 @@ extended_forms symbols =
     ∷ (codes "breaks", with_none Breaks)
     ∷ (codes "clear", with_field count_in (λ i. ClearOne i))
     ∷ (codes "help", with_field_or Help help_in (λ text. Says text))
+    ∷ (codes "mem", memory_form symbols)
+    ∷ (codes "last", last_form symbols)
+    ∷ (codes "break", break_form symbols)
+    ∷ (codes "where", with_none Where)
+    ∷ (codes "find", with_field (λ field. Some field) (λ text. Find text))
     ∷ []
 
 -- the field that names a place
+abbrev pub breakpoint_place_field : List ℕ → List (List ℕ) → Option (List ℕ)
+breakpoint_place_field kind [] = None
+breakpoint_place_field kind (field ∷ more) = if same_name kind (codes "chan") then None else Some field
+
 abbrev pub place_field : List ℕ → List (List ℕ) → Option (List ℕ)
 place_field name [] = None
-place_field name (field ∷ []) = if same_name name (codes "mem") || same_name name (codes "last") || same_name name (codes "why") then Some field else None
-place_field name (kind ∷ field ∷ more) =
-    if same_name name (codes "why") then Some kind
-    else if same_name name (codes "break") && not (same_name kind (codes "chan")) then Some field else None
+place_field name (field ∷ more) =
+    if same_name name (codes "mem") || same_name name (codes "last") || same_name name (codes "why") then Some field
+    else if same_name name (codes "break") then breakpoint_place_field field more
+    else None
 
 -- it names none, and is no symbol
 abbrev pub is_no_symbol : SymbolTable → List ℕ → Bool
-is_no_symbol symbols field = not (is_some (place_in symbols field)) && not (is_some (value_in symbols field))
+is_no_symbol symbols field = not (is_some (named_place symbols field)) && not (is_some (value_in symbols field))
 
 -- the symbol that is missing
 abbrev pub missing_symbol : SymbolTable → Option (List ℕ) → Option (List ℕ)

@@ -1,5 +1,6 @@
 pub mod Commands
 pub mod Lines
+pub mod NamedPlaces
 pub mod Subjects
 pub mod Usages
 pub mod Extended

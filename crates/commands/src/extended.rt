@@ -1,27 +1,33 @@
 //! What a line of an extended session asks for.
 
-ghost use Rattle.std.specs.Prelude.{◌≡◌, ◌≤◌, [], ◌∷◌, List, ℕ, length, option_and_then, All, IfSome};
+ghost use Rattle.std.specs.Prelude.{◌≡◌, ◌≤◌, List, ℕ, Some, codes, length, option_and_then, All, IfSome};
 ghost use Rattle.std.specs.Option.{option_map};
 ghost use Rattle.agc_text.specs.Fields.{runs, texts, fields};
 ghost use Rattle.agc_text.specs.Tables.{value_in};
 ghost use Rattle.commands.specs.Lines.{kept};
-ghost use Rattle.commands.specs.Extended.{extended_forms, help_in, links_in, place_field, is_no_symbol, missing_symbol, refusal_line, in_words, echoed, extended_in, extended_request_of};
+ghost use Rattle.commands.specs.Commands.{count_in};
+ghost use Rattle.commands.specs.declared.command.Request.TheVariants as request;
+ghost use Rattle.commands.specs.declared.extended.ExtendedRequest.TheVariants as asked;
+ghost use Rattle.commands.specs.Extended.{extended_forms, most_count, sole, with_none, with_word, with_field, with_field_or, help_in, few_in, links_in, why_of, why_form, memory_of, memory_form, place_alone, last_form, watches, break_form, breakpoint_place_field, place_field, is_no_symbol, missing_symbol, refusal_line, in_words, echoed, extended_in, extended_request_of};
 
-use crate::command::Request;
+use crate::command::{Breakpoint, Command, Request};
 use crate::fields::count_in;
 use crate::line::CommandLine;
+use crate::named_places::{after_place, named_place, place_first};
 use crate::phrase::Phrase;
-use crate::places::place_in;
+use crate::places::erasable_number;
 use crate::request::request_in;
-use crate::subject::{Subject, subject_in};
+use crate::subject::{Subject, channel_subject, erasable_first, place_subject};
 use crate::usage::{help_of, usage_of};
 use agc_text::{before_comment, next_field, split_field};
+use feed::word_in;
+use space::place::Linear;
 use symbols::Symbols;
 
 /// The most steps that a command can name.
 pub const MOST_COUNT: u64 = 999_999_999_999_999;
 
-/// The most links that `why` can name.
+/// The most links that `why` can name, and the most words that `mem` can.
 pub const MOST_LINKS: u64 = 999;
 
 /// How many links `why` tells where none is named.
@@ -50,6 +56,12 @@ pub enum ExtendedRequest {
     WhyStep,
     /// How the word of something came to be what it is, by at most so many steps.
     Why(Subject, u64),
+    /// The words from a place on, at most so many.
+    Words(Linear, u64),
+    /// Where the next instruction stands, and the interrupt that is served.
+    Where,
+    /// The symbols whose names begin so.
+    Find(Phrase),
 }
 
 /// What a line of an extended session asks for, where the symbols of a program stand.
@@ -96,94 +108,235 @@ fn echoed(line: &[u8]) -> ExtendedRequest
     }
 }
 
-// The request of a name that no plain session has, and of the fields of what follows it.
+// The request of a name that no plain session has, or has in fewer forms, and of the fields of what follows it.
+#[tactic(auto, unfolding(crate::specs::Extended::extended_forms))]
 fn command_in(symbols: &Symbols, name: &[u8], rest: &[u8]) -> Option<ExtendedRequest>
     requires { All (λ field. length field ≤ 80) (texts (runs rest.now)) }
     ensures { result ≡ option_and_then (λ form. form (texts (runs rest.now))) (value_in (extended_forms symbols.now) name.now) }
 {
-    let Some((field, rest)) = split_field(rest) else {
-        return command_alone(symbols, name);
-    };
-    let Some((second, rest)) = split_field(rest) else {
-        return command_of_one(symbols, name, field);
-    };
-    match split_field(rest) {
-        Some(_) => None,
-        None => command_of_two(symbols, name, field, second),
-    }
-}
-
-// The request of a name alone.
-#[tactic(auto, unfolding(crate::specs::Extended::extended_forms))]
-fn command_alone(symbols: &Symbols, name: &[u8]) -> Option<ExtendedRequest>
-    ensures { result ≡ option_and_then (λ form. form []) (value_in (extended_forms symbols.now) name.now) }
-{
-    let _symbols = symbols;
     if name == "on".as_bytes() {
-        Some(ExtendedRequest::On(MOST_COUNT))
-    } else if name == "why".as_bytes() {
-        Some(ExtendedRequest::WhyStep)
-    } else if name == "breaks".as_bytes() {
-        Some(ExtendedRequest::Breaks)
-    } else if name == "help".as_bytes() {
-        Some(ExtendedRequest::Help)
-    } else {
-        None
-    }
-}
-
-// The request of a name and one field.
-#[tactic(auto, unfolding(crate::specs::Extended::extended_forms))]
-fn command_of_one(symbols: &Symbols, name: &[u8], field: &[u8]) -> Option<ExtendedRequest>
-    requires { length field.now ≤ 80 }
-    ensures { result ≡ option_and_then (λ form. form (field.now ∷ [])) (value_in (extended_forms symbols.now) name.now) }
-{
-    if name == "on".as_bytes() {
-        count_in(field).map(ExtendedRequest::On)
+        on_form(rest)
     } else if name == "until".as_bytes() {
-        count_in(field).map(ExtendedRequest::Until)
+        sole(rest).and_then(count_in).map(ExtendedRequest::Until)
     } else if name == "why".as_bytes() {
-        let subject = subject_in(symbols, field)?;
-        Some(ExtendedRequest::Why(subject, USUAL_LINKS))
+        why_form(symbols, rest)
     } else if name == "regs".as_bytes() {
-        (field == "all".as_bytes()).then_some(ExtendedRequest::AllRegisters)
+        registers_form(rest)
+    } else if name == "breaks".as_bytes() {
+        with_none(ExtendedRequest::Breaks, rest)
     } else if name == "clear".as_bytes() {
-        count_in(field).map(ExtendedRequest::ClearOne)
+        sole(rest).and_then(count_in).map(ExtendedRequest::ClearOne)
     } else if name == "help".as_bytes() {
-        help_of(field).map(ExtendedRequest::Says)
+        help_form(rest)
+    } else if name == "mem".as_bytes() {
+        memory_form(symbols, rest)
+    } else if name == "last".as_bytes() {
+        last_form(symbols, rest)
+    } else if name == "break".as_bytes() {
+        break_form(symbols, rest)
+    } else if name == "where".as_bytes() {
+        with_none(ExtendedRequest::Where, rest)
+    } else if name == "find".as_bytes() {
+        find_form(rest)
     } else {
         None
     }
 }
 
-// The request of a name and two fields.
-#[tactic(auto, unfolding(crate::specs::Extended::extended_forms))]
-fn command_of_two(
-    symbols: &Symbols,
-    name: &[u8],
-    field: &[u8],
-    second: &[u8],
-) -> Option<ExtendedRequest>
-    ensures { result ≡ option_and_then (λ form. form (field.now ∷ second.now ∷ [])) (value_in (extended_forms symbols.now) name.now) }
+// The field that stands alone.
+fn sole(rest: &[u8]) -> Option<&[u8]>
+    requires { All (λ field. length field ≤ 80) (texts (runs rest.now)) }
+    ensures field { option_map (λ field. field.now) result ≡ sole (texts (runs rest.now)) }
+    ensures short { IfSome result (λ field. length field.now ≤ 80) }
 {
-    if name == "why".as_bytes() {
-        let subject = subject_in(symbols, field)?;
-        let links = links_in(second)?;
-        Some(ExtendedRequest::Why(subject, links))
-    } else {
-        None
+    let (field, more) = split_field(rest)?;
+    match split_field(more) {
+        None => Some(field),
+        Some(_) => None,
     }
 }
 
-// A number of links.
-fn links_in(field: &[u8]) -> Option<u64>
-    ensures links { result ≡ links_in field.now }
+// A request, where no field stands.
+fn with_none(request: ExtendedRequest, rest: &[u8]) -> Option<ExtendedRequest>
+    ensures { result ≡ with_none request (texts (runs rest.now)) }
+{
+    match split_field(rest) {
+        None => Some(request),
+        Some(_) => None,
+    }
+}
+
+// What `on` takes.
+fn on_form(rest: &[u8]) -> Option<ExtendedRequest>
+    requires { All (λ field. length field ≤ 80) (texts (runs rest.now)) }
+    ensures { result ≡ with_field_or (asked.On most_count) count_in (λ k. asked.On k) (texts (runs rest.now)) }
+{
+    match split_field(rest) {
+        None => Some(ExtendedRequest::On(MOST_COUNT)),
+        Some(_) => sole(rest).and_then(count_in).map(ExtendedRequest::On),
+    }
+}
+
+// What `help` takes.
+fn help_form(rest: &[u8]) -> Option<ExtendedRequest>
+    requires { All (λ field. length field ≤ 80) (texts (runs rest.now)) }
+    ensures { result ≡ with_field_or asked.Help help_in (λ text. asked.Says text) (texts (runs rest.now)) }
+{
+    match split_field(rest) {
+        None => Some(ExtendedRequest::Help),
+        Some(_) => {
+            let name = sole(rest)?;
+            help_of(name).map(ExtendedRequest::Says)
+        }
+    }
+}
+
+// What `regs` takes besides nothing.
+fn registers_form(rest: &[u8]) -> Option<ExtendedRequest>
+    requires { All (λ field. length field ≤ 80) (texts (runs rest.now)) }
+    ensures { result ≡ with_word (codes "all") asked.AllRegisters (texts (runs rest.now)) }
+{
+    match sole(rest) {
+        Some(field) if field == "all".as_bytes() => Some(ExtendedRequest::AllRegisters),
+        Some(_) => None,
+        None => None,
+    }
+}
+
+// What `find` takes.
+fn find_form(rest: &[u8]) -> Option<ExtendedRequest>
+    requires { All (λ field. length field ≤ 80) (texts (runs rest.now)) }
+    ensures { result ≡ with_field (λ field. Some field) (λ text. asked.Find text) (texts (runs rest.now)) }
+{
+    let field = sole(rest)?;
+    let mut beginning = Phrase::new();
+    beginning.push(field);
+    Some(ExtendedRequest::Find(beginning))
+}
+
+// What `why` takes.
+fn why_form(symbols: &Symbols, rest: &[u8]) -> Option<ExtendedRequest>
+    requires { All (λ field. length field ≤ 80) (texts (runs rest.now)) }
+    ensures { result ≡ why_form symbols.now (texts (runs rest.now)) }
+{
+    let Some((field, more)) = split_field(rest) else {
+        return Some(ExtendedRequest::WhyStep);
+    };
+    match why_of(place_subject(symbols, rest), after_place(rest)) {
+        Some(request) => Some(request),
+        None => why_of(channel_subject(symbols, field), more),
+    }
+}
+
+// `why` of a subject, followed by a number of links or by nothing.
+fn why_of(subject: Option<Subject>, rest: &[u8]) -> Option<ExtendedRequest>
+    requires { All (λ field. length field ≤ 80) (texts (runs rest.now)) }
+    ensures { result ≡ why_of subject (texts (runs rest.now)) }
+{
+    let subject = subject?;
+    let links = links_in(rest)?;
+    Some(ExtendedRequest::Why(subject, links))
+}
+
+// A number of links, or none.
+fn links_in(rest: &[u8]) -> Option<u64>
+    requires { All (λ field. length field ≤ 80) (texts (runs rest.now)) }
+    ensures links { result ≡ links_in (texts (runs rest.now)) }
+{
+    match split_field(rest) {
+        None => Some(USUAL_LINKS),
+        Some(_) => sole(rest).and_then(few_in),
+    }
+}
+
+// A number of links, or of words.
+fn few_in(field: &[u8]) -> Option<u64>
+    ensures few { result ≡ few_in field.now }
 {
     match count_in(field) {
         Some(links) if links <= MOST_LINKS => Some(links),
         Some(_) => None,
         None => None,
     }
+}
+
+// What `mem` takes.
+fn memory_form(symbols: &Symbols, rest: &[u8]) -> Option<ExtendedRequest>
+    requires { All (λ field. length field ≤ 80) (texts (runs rest.now)) }
+    ensures { result ≡ memory_form symbols.now (texts (runs rest.now)) }
+{
+    let place = place_first(symbols, rest)?;
+    memory_of(place, after_place(rest))
+}
+
+// `mem` of a place, followed by a number of words or by nothing.
+fn memory_of(place: Linear, rest: &[u8]) -> Option<ExtendedRequest>
+    requires { All (λ field. length field ≤ 80) (texts (runs rest.now)) }
+    ensures { result ≡ memory_of place (texts (runs rest.now)) }
+{
+    match split_field(rest) {
+        None => Some(plain(Command::Memory(place))),
+        Some(_) => {
+            let count = sole(rest).and_then(few_in)?;
+            Some(ExtendedRequest::Words(place, count))
+        }
+    }
+}
+
+// A place, where no field stands after it.
+fn place_alone(symbols: &Symbols, rest: &[u8]) -> Option<Linear>
+    requires { All (λ field. length field ≤ 80) (texts (runs rest.now)) }
+    ensures { result ≡ place_alone symbols.now (texts (runs rest.now)) }
+{
+    match split_field(after_place(rest)) {
+        None => place_first(symbols, rest),
+        Some(_) => None,
+    }
+}
+
+// What `last` takes.
+fn last_form(symbols: &Symbols, rest: &[u8]) -> Option<ExtendedRequest>
+    requires { All (λ field. length field ≤ 80) (texts (runs rest.now)) }
+    ensures { result ≡ last_form symbols.now (texts (runs rest.now)) }
+{
+    let place = place_alone(symbols, rest)?;
+    match erasable_number(place) {
+        Some(place) => Some(plain(Command::Last(place))),
+        None => None,
+    }
+}
+
+// What `break` takes but for channels.
+fn break_form(symbols: &Symbols, rest: &[u8]) -> Option<ExtendedRequest>
+    requires { All (λ field. length field ≤ 80) (texts (runs rest.now)) }
+    ensures { result ≡ break_form symbols.now (texts (runs rest.now)) }
+{
+    let (kind, more) = split_field(rest)?;
+    if kind == "at".as_bytes() {
+        let place = place_alone(symbols, more)?;
+        Some(plain(Command::Break(Breakpoint::Place(place))))
+    } else if kind == "word".as_bytes() {
+        watches(symbols, more)
+    } else {
+        None
+    }
+}
+
+// `break` of an erasable place and a word.
+fn watches(symbols: &Symbols, rest: &[u8]) -> Option<ExtendedRequest>
+    requires { All (λ field. length field ≤ 80) (texts (runs rest.now)) }
+    ensures { result ≡ watches symbols.now (texts (runs rest.now)) }
+{
+    let place = erasable_first(symbols, rest)?;
+    let word = word_in(sole(after_place(rest))?)?;
+    Some(plain(Command::Break(Breakpoint::Word(place, word))))
+}
+
+// What any session is asked for, by a command.
+fn plain(command: Command) -> ExtendedRequest
+    ensures { result ≡ asked.Plain (request.Known command) }
+{
+    ExtendedRequest::Plain(Request::Known(command))
 }
 
 // What any session is asked for, with words for what is no command.
@@ -246,7 +399,7 @@ fn missing_symbol<'a>(symbols: &Symbols, name: &[u8], rest: &'a [u8]) -> Option<
 fn is_no_symbol(symbols: &Symbols, field: &[u8]) -> bool
     ensures { result ≡ is_no_symbol symbols.now field.now }
 {
-    place_in(symbols, field).is_none() && symbols.symbol(field).is_none()
+    named_place(symbols, field).is_none() && symbols.symbol(field).is_none()
 }
 
 // The field that names a place.
@@ -256,12 +409,25 @@ fn place_field<'a>(name: &[u8], rest: &'a [u8]) -> Option<&'a [u8]>
     ensures short { IfSome result (λ field. length field.now ≤ 80) }
 {
     let (first, rest) = split_field(rest)?;
-    match split_field(rest) {
-        None if name == "mem".as_bytes() || name == "last".as_bytes() => Some(first),
-        _ if name == "why".as_bytes() => Some(first),
-        Some((second, _)) if name == "break".as_bytes() && first != "chan".as_bytes() => {
-            Some(second)
-        }
-        _ => None,
+    if name == "mem".as_bytes() || name == "last".as_bytes() || name == "why".as_bytes() {
+        Some(first)
+    } else if name == "break".as_bytes() {
+        breakpoint_place_field(first, rest)
+    } else {
+        None
+    }
+}
+
+// The field of `break` that names a place.
+fn breakpoint_place_field<'a>(kind: &[u8], rest: &'a [u8]) -> Option<&'a [u8]>
+    requires { All (λ field. length field ≤ 80) (texts (runs rest.now)) }
+    ensures field { option_map (λ field. field.now) result ≡ breakpoint_place_field kind.now (texts (runs rest.now)) }
+    ensures short { IfSome result (λ field. length field.now ≤ 80) }
+{
+    let (field, _) = split_field(rest)?;
+    if kind == "chan".as_bytes() {
+        None
+    } else {
+        Some(field)
     }
 }

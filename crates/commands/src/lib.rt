@@ -8,6 +8,7 @@ mod command;
 mod extended;
 mod fields;
 mod line;
+mod named_places;
 mod phrase;
 mod places;
 mod reading;

@@ -1,11 +1,12 @@
 //! What can be asked about where its word came from.
 
 ghost use Rattle.std.specs.Prelude.{◌≡◌};
-ghost use Rattle.agc_text.specs.Tables.{value_in};
-ghost use Rattle.commands.specs.Subjects.{registers, channel_by, named_subject, subject_in};
+ghost use Rattle.agc_text.specs.Fields.{runs, texts};
+ghost use Rattle.commands.specs.Subjects.{channel_by, channel_named, erasable_first, place_subject, channel_subject};
 
 use crate::fields::channel_in;
-use crate::places::erasable_in;
+use crate::named_places::place_first;
+use crate::places::erasable_number;
 use space::numbers::{Chan, Eras};
 use symbols::Symbols;
 
@@ -18,51 +19,44 @@ pub enum Subject {
     Channel(Chan),
 }
 
-// What a field names.
-pub(crate) fn subject_in(symbols: &Symbols, field: &[u8]) -> Option<Subject>
-    ensures { result ≡ subject_in symbols.now field.now }
+// The erasable place that some fields begin with.
+pub(crate) fn erasable_first(symbols: &Symbols, rest: &[u8]) -> Option<Eras>
+    ensures { result ≡ erasable_first symbols.now (texts (runs rest.now)) }
 {
-    if let Some(place) = erasable_in(symbols, field) {
-        return Some(Subject::Place(place));
+    match place_first(symbols, rest) {
+        Some(place) => erasable_number(place),
+        None => None,
     }
+}
+
+// The same, as a subject.
+pub(crate) fn place_subject(symbols: &Symbols, rest: &[u8]) -> Option<Subject>
+    ensures { result ≡ place_subject symbols.now (texts (runs rest.now)) }
+{
+    match erasable_first(symbols, rest) {
+        Some(place) => Some(Subject::Place(place)),
+        None => None,
+    }
+}
+
+// The channel that a field names, as a subject.
+pub(crate) fn channel_subject(symbols: &Symbols, field: &[u8]) -> Option<Subject>
+    ensures { result ≡ channel_subject symbols.now field.now }
+{
+    match channel_named(symbols, field) {
+        Some(channel) => Some(Subject::Channel(channel)),
+        None => None,
+    }
+}
+
+// The channel that a field names, where no symbol has the name.
+fn channel_named(symbols: &Symbols, field: &[u8]) -> Option<Chan>
+    ensures { result ≡ channel_named symbols.now field.now }
+{
     if symbols.symbol(field).is_some() {
         return None;
     }
-    named_subject(field)
-}
-
-// What a field names that is neither a place nor a symbol.
-fn named_subject(field: &[u8]) -> Option<Subject>
-    ensures { result ≡ named_subject field.now }
-{
-    match register_in(field) {
-        Some(place) => Some(Subject::Place(place)),
-        None => channel_by(field).map(Subject::Channel),
-    }
-}
-
-// The register of some letters.
-#[tactic(auto, unfolding(crate::specs::Subjects::registers))]
-fn register_in(field: &[u8]) -> Option<Eras>
-    ensures { result ≡ value_in registers field.now }
-{
-    if field == "A".as_bytes() {
-        Some(Eras::A)
-    } else if field == "L".as_bytes() {
-        Some(Eras::L)
-    } else if field == "Q".as_bytes() {
-        Some(Eras::Q)
-    } else if field == "EB".as_bytes() {
-        Some(Eras::EB)
-    } else if field == "FB".as_bytes() {
-        Some(Eras::FB)
-    } else if field == "Z".as_bytes() {
-        Some(Eras::Z)
-    } else if field == "BB".as_bytes() {
-        Some(Eras::BB)
-    } else {
-        None
-    }
+    channel_by(field)
 }
 
 // The channel that is named by two letters and its number.

@@ -16,7 +16,7 @@ use words::push_all;
 type Row = (&'static str, &'static str, &'static str);
 
 /// The rows of the help.
-const ROWS: [Row; 22] = [
+const ROWS: [Row; 24] = [
     (
         "step",
         "a number of steps",
@@ -56,7 +56,11 @@ const ROWS: [Row; 22] = [
         "all, or nothing",
         "all registers, or most and the next instruction",
     ),
-    ("mem", "a place", "the word there"),
+    (
+        "mem",
+        "a place, or a place and a count",
+        "the word there, or so many from there on",
+    ),
     ("chan", "a channel", "the word there"),
     (
         "last",
@@ -68,7 +72,17 @@ const ROWS: [Row; 22] = [
         "nothing, a place, or a place and a count",
         "the steps that made the word there, last first",
     ),
+    (
+        "where",
+        "nothing",
+        "the next instruction's place, and the interrupt",
+    ),
     ("sym", "a name", "the symbol's value"),
+    (
+        "find",
+        "the beginning of a name",
+        "the symbols whose names begin so",
+    ),
     (
         "changed",
         "a step",
@@ -131,8 +145,8 @@ pub(crate) fn help_of(name: &[u8]) -> Option<Phrase>
     Some(phrase)
 }
 
-/// The most bytes of the whole help: 22 lines of at most 128.
-const HELP_TEXT: usize = 2_816;
+/// The most bytes of the whole help: 24 lines of at most 128.
+const HELP_TEXT: usize = 3_072;
 
 /// The lines of the whole help.
 pub type HelpText = ArrayVec<u8, HELP_TEXT>;

@@ -6,6 +6,7 @@ use Rattle.agc_text.specs.Fields.{runs}
 use Rattle.words.specs.Numerals.{octal_text}
 use Rattle.feed.specs.Names.{counters, sequences}
 use Rattle.feed.specs.Statements.{parsed}
+use Rattle.space.specs.declared.place.Linear.{Linear}
 use Rattle.space.specs.declared.place.Linear.TheVariants as linear
 use Rattle.space.specs.Places.{place}
 use Rattle.cpu.specs.ChannelLines.{channel_lines}
@@ -18,10 +19,15 @@ use Rattle.cpu.proofs.Holding.{get-holding, at-holding, superbank-holding}
 use Rattle.cpu.proofs.Held.{state}
 use Rattle.cpu.specs.State.{State}
 use Rattle.cpu.proofs.FiveRun.{five}
-use Rattle.symbols.specs.declared.values.Value.TheVariants.{Fixed}
+use Rattle.symbols.specs.declared.values.Value.TheVariants.{Num, Erasable, Fixed}
 use Rattle.symbols.specs.Values.{SymbolTable}
+use Rattle.space.specs.Places.{window}
+use Rattle.yayul.specs.Listing.{place_text}
+use Rattle.trace.specs.TraceLines.{symbol_at}
+use Rattle.debugger.specs.Standing.{nearest_symbol, nearest_text, found_text, words_text}
 use Rattle.commands.specs.Commands.{forms}
 use Rattle.commands.specs.Extended.{extended_request_of, extended_forms}
+use Rattle.commands.specs.NamedPlaces.{registers}
 use Rattle.commands.specs.Usages.{usages}
 use Rattle.commands.specs.declared.command.Breakpoint.{Breakpoint}
 use Rattle.commands.specs.declared.command.Breakpoint.TheVariants.{Place, Channel, Cycles}
@@ -34,7 +40,7 @@ use Rattle.debugger.specs.ExtendedReplies.{extended_reply}
 use Rattle.debugger.specs.Transcript.{first_desk}
 use Rattle.debugger.specs.Conversation.{conversation}
 use Rattle.debugger.proofs.Scripts.{ended}
-use Rattle.debugger.proofs.FiveRows.{five_listed, history-five}
+use Rattle.debugger.proofs.FiveRows.{history-five}
 
 abbrev symbols : SymbolTable
 symbols = (codes "FIVE", Fixed 2 5) ∷ []
@@ -51,7 +57,7 @@ breakpoints = refl
 -- a program that asks tells where a reply ends, and `quit` ends here too
 the_end : session (codes "sym FIV" ∷ codes "echo ." ∷ codes "mem FIV" ∷ codes "echo ." ∷ codes "quit" ∷ codes "echo ." ∷ [])
     ≡ ended (codes "E17 UNDEFINED" ∷ codes "." ∷ codes "E50 COMMAND no symbol FIV" ∷ codes "." ∷ [])
-unfolding extended_request_of extended_forms extended_reply usages forms runs parsed counters sequences answer reply digits octal_text
+unfolding registers extended_request_of extended_forms extended_reply usages forms runs parsed counters sequences answer reply digits octal_text
 the_end = refl
 
 -- where so many steps were made, and one of them is looked at
@@ -86,9 +92,9 @@ indexed =
       waiting_sum = Some 0o177774;
     }
 
-registers : register_lines indexed.cells ≡ ended (codes "A 177715" ∷ codes "L 00005" ∷ codes "Q 000000" ∷ codes "Z 4107" ∷ codes "EB 3" ∷ codes "FB 12" ∷ codes "BB 24003" ∷ [])
+all_seven : register_lines indexed.cells ≡ ended (codes "A 177715" ∷ codes "L 00005" ∷ codes "Q 000000" ∷ codes "Z 4107" ∷ codes "EB 3" ∷ codes "FB 12" ∷ codes "BB 24003" ∷ [])
 unfolding octal_text
-registers =
+all_seven =
     rw (get-holding cells accumulator, get-holding cells lower_accumulator, get-holding cells return_address, get-holding cells program_counter, get-holding cells both_banks, at-holding cells erasable_bank, at-holding cells fixed_bank) refl
 
 flags : flag_lines indexed ≡ ended (codes "SUP 0" ∷ codes "EXT 1" ∷ codes "INH 0" ∷ codes "INT 1" ∷ [])
@@ -125,3 +131,29 @@ until_what_stands = ap (λ h. until h 0 8 ++ until h 1 8 ++ until h 5 8 ++ until
 until_new_steps : (grow (history five) (Cycles 6 ∷ []) 5 3 []).text ++ decimal (grow (history five) (Cycles 6 ∷ []) 5 3 []).steps ++ decimal (grow (history five) (Cycles 11 ∷ []) 5 5 []).steps ≡ codes "7 CH 010 00012\n47"
 unfolding grow lowest_hit digits octal_text channel_lines
 until_new_steps = ap (λ h. (grow h (Cycles 6 ∷ []) 5 3 []).text ++ decimal (grow h (Cycles 6 ∷ []) 5 3 []).steps ++ decimal (grow h (Cycles 11 ∷ []) 5 5 []).steps) history-five ∙ refl
+
+-- the nearest symbol at a place or before it in its bank, the first of two; a number is at no place
+abbrev table : SymbolTable
+table =
+    (codes "FIVE", Fixed 2 5) ∷ (codes "SIX", Fixed 2 6) ∷ (codes "ALSO", Fixed 2 5) ∷ (codes "SUM", Erasable 0o101) ∷ (codes "LOW", Num 0o4007) ∷ []
+
+near : nearest_text (nearest_symbol table (linear.Fixed 2 4)) ++ nearest_text (nearest_symbol table (linear.Fixed 2 5)) ++ nearest_text (nearest_symbol table (linear.Fixed 2 0o20)) ++ nearest_text (nearest_symbol table (linear.Fixed 3 6)) ++ nearest_text (nearest_symbol table (linear.Erasable 0o103))
+    ≡ codes " FIVE SIX +12 SUM +2"
+unfolding symbol_at octal_text
+near = refl
+
+-- the symbols whose names begin so
+found : found_text table (codes "S") ++ found_text table (codes "FIVE") ++ found_text table (codes "FIVES")
+    ≡ ended (codes "FIND SIX FIXED 02,0006" ∷ codes "FIND SUM ERASABLE 0101" ∷ codes "COUNT 2" ∷ codes "FIND FIVE FIXED 02,0005" ∷ codes "COUNT 1" ∷ codes "COUNT 0" ∷ [])
+unfolding found_text octal_text digits
+found = refl
+
+-- words one after another, up to the last of a bank
+abbrev words : History → Linear → ℕ → List ℕ
+words h place k = words_text h (h.after 0) place k
+
+words_there : words (history five) (linear.Fixed 2 3) 3 ++ words (history five) (linear.Fixed 2 0o1776) 9 ++ words (history five) (linear.Erasable 0o3777) 2 ++ words (history five) (linear.Erasable 0) 0
+    ≡ ended (codes "MEM 02,4003 01010" ∷ codes "MEM 02,4004 14000" ∷ codes "MEM 02,4005 00005" ∷ codes "MEM 02,5776 00000" ∷ codes "MEM 02,5777 00000" ∷ codes "MEM E7,1777 00000" ∷ [])
+unfolding words_text place_text window octal_text
+words_there =
+    ap (λ h. words h (linear.Fixed 2 3) 3 ++ words h (linear.Fixed 2 0o1776) 9 ++ words h (linear.Erasable 0o3777) 2 ++ words h (linear.Erasable 0) 0) history-five ∙ refl

@@ -1,5 +1,5 @@
 -- The first of some steps, sought from the start or from the step after it.
-use Rattle.std.proofs.Common.{◌≡◌, ℕ, zero, suc, ◌+◌, ◌<◌, Bool, true, false, cond, Option, Some, None, refl, sym, ap, ◌∙◌, arith}
+use Rattle.std.proofs.Common.{◌≡◌, ℕ, zero, suc, ◌+◌, ◌<◌, Bool, true, false, cond, Some, None, refl, sym, ap, ◌∙◌, arith}
 use Rattle.replay.specs.LastHit.{first_hit}
 
 pub at_start : (hit : ℕ → Bool) (n : ℕ) → hit 0 ≡ true → Some 0 ≡ first_hit hit 0 (n + 1)

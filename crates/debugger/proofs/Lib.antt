@@ -2,6 +2,8 @@ pub mod Breaking
 pub mod Chained
 pub mod Counted
 pub mod Told
+pub mod PartByPart
+pub mod Standings
 pub mod WholeReplies
 pub mod InputsAdded
 pub mod LineByLine

@@ -1,16 +1,14 @@
 -- A session without the further commands, as a conversation.
-use Rattle.std.proofs.Common.{◌≡◌, ℕ, ◌*◌, length, arith, List, [], ◌∷◌, ◌++◌, cond, Bool, Option, Result, Ok, Err, refl, sym, ap, ◌∙◌}
+use Rattle.std.proofs.Common.{◌≡◌, ℕ, ◌*◌, length, arith, List, [], ◌∷◌, ◌++◌, cond, Result, Ok, Err, refl, ap, ◌∙◌}
 use Rattle.agc_text.specs.Lines.{ended_lines}
-use Rattle.words.specs.Devices.{WritesBeginning}
-use Rattle.cpu.specs.State.{Scenario}
 use Rattle.symbols.specs.Values.{SymbolTable}
 use Rattle.commands.specs.Commands.{request_of}
 use Rattle.debugger.specs.declared.manner.Manner.TheVariants as manner
 use Rattle.debugger.specs.ExtendedReplies.{extended_reply}
 use Rattle.debugger.specs.Replies.{Desk}
 use Rattle.debugger.specs.Transcript.{ends, told, replies, first_desk, command_lines, lines_read}
-use Rattle.debugger.specs.Sessions.{Setting, Commands, WritesReplies, BeginsReplies, EndsReading, Debugs}
-use Rattle.debugger.specs.Conversation.{Reading, reading, conversation, efforts, lines_heard, Talk, WritesTalk, BeginsTalk, EndsTalk, Talks}
+use Rattle.debugger.specs.Sessions.{Setting, Commands, WritesReplies, Debugs}
+use Rattle.debugger.specs.Conversation.{reading, conversation, efforts, lines_heard, Talk, WritesTalk, Talks}
 use Rattle.debugger.specs.declared.fault.DebugFault.{DebugFault}
 use Rattle.debugger.specs.declared.fault.DebugFault.TheVariants.{NoMemory, ReadFailed, WriteFailed}
 

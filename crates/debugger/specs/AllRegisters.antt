@@ -1,5 +1,5 @@
 -- All registers, with what waits for the next instruction and which interrupts are asked for.
-use Rattle.std.specs.Prelude.{ℕ, List, [], ◌∷◌, ◌++◌, filter, codes, decimal, Option, None, Some}
+use Rattle.std.specs.Prelude.{ℕ, List, [], ◌++◌, filter, codes, decimal, Option, None, Some}
 use Rattle.std.specs.List.{flat_map, range_with_len}
 use Rattle.std.specs.FinSet.{contains}
 use Rattle.words.specs.Numbers.{correct}

@@ -1,5 +1,5 @@
 -- A session of commands, by what its lines ask for: the session without more commands is one, the extended one another.
-use Rattle.std.specs.Prelude.{◌≡◌, ℕ, ◌+◌, ◌*◌, Bool, true, false, List, [], ◌∷◌, ◌++◌, Option, Result, Ok, Err, if◌then◌else◌}
+use Rattle.std.specs.Prelude.{◌≡◌, ℕ, ◌+◌, ◌*◌, Bool, false, List, [], ◌∷◌, ◌++◌, Option, Result, Ok, Err, if◌then◌else◌}
 use Rattle.agc_text.specs.Lines.{ended_lines}
 use Rattle.words.specs.Devices.{WritesBeginning}
 use Rattle.cpu.specs.State.{Scenario}
@@ -7,7 +7,7 @@ use Rattle.symbols.specs.Values.{SymbolTable}
 use Rattle.commands.specs.Commands.{request_of}
 use Rattle.commands.specs.Extended.{extended_request_of}
 use Rattle.commands.specs.declared.extended.ExtendedRequest.{ExtendedRequest}
-use Rattle.commands.specs.declared.extended.ExtendedRequest.TheVariants.{Plain, Says, Help, Breaks, ClearOne, On, AllRegisters, Until, WhyStep, Why}
+use Rattle.commands.specs.declared.extended.ExtendedRequest.TheVariants.{Plain, Says, Help, Breaks, ClearOne, On, AllRegisters, Until, WhyStep, Why, Words, Where, Find}
 use Rattle.debugger.specs.declared.manner.Manner.{Manner}
 use Rattle.debugger.specs.declared.manner.Manner.TheVariants as manner
 use Rattle.debugger.specs.History.{history}
@@ -39,6 +39,9 @@ is_end (Until cycles) = false
 is_end AllRegisters = false
 is_end WhyStep = false
 is_end (Why subject k) = false
+is_end (Words place k) = false
+is_end Where = false
+is_end (Find text) = false
 
 -- what a request brings, over the symbols and the reference run of what runs now
 abbrev pub to_asked : SymbolTable → ExtendedRequest → Desk → Reply
@@ -57,9 +60,10 @@ lines_heard read [] = []
 lines_heard read (line ∷ more) = line ∷ (if is_end (read line) then [] else lines_heard read more)
 
 -- how many times the steps that were made a request executes, at most, besides new ones: of `why` each link four times, and
--- its last search once
+-- its last search once; of `where` four times
 abbrev pub effort : ExtendedRequest → ℕ
 effort (Why subject k) = 4 * k + 1
+effort Where = 4
 effort request = 3
 
 abbrev pub efforts : Reading → List (List ℕ) → ℕ

@@ -7,18 +7,19 @@ use Rattle.commands.specs.Usages.{usages, help_lines}
 use Rattle.commands.specs.declared.command.Breakpoint.{Breakpoint}
 use Rattle.commands.specs.declared.command.Breakpoint.TheVariants.{Place, Word, Channel, Cycles}
 use Rattle.commands.specs.declared.extended.ExtendedRequest.{ExtendedRequest}
-use Rattle.commands.specs.declared.extended.ExtendedRequest.TheVariants.{Plain, Says, Help, Breaks, ClearOne, On, AllRegisters, Until, WhyStep, Why}
+use Rattle.commands.specs.declared.extended.ExtendedRequest.TheVariants.{Plain, Says, Help, Breaks, ClearOne, On, AllRegisters, Until, WhyStep, Why, Words, Where, Find}
 use Rattle.cpu.specs.Run.{run}
 use Rattle.debugger.specs.History.{History}
 use Rattle.debugger.specs.AllRegisters.{all_registers}
 use Rattle.debugger.specs.PlaceTexts.{place_text}
 use Rattle.debugger.specs.Whys.{subject_spots, why_text, last_text}
+use Rattle.debugger.specs.Standing.{where_text, found_text, words_text}
 use Rattle.replay.specs.LastHit.{first_hit}
 use Rattle.debugger.specs.Growth.{grow, lowest_hit}
 use Rattle.debugger.specs.declared.ending.Ending.{Ending}
 use Rattle.debugger.specs.declared.ending.Ending.TheVariants.{Reached, Hit, NoMemory, Limit}
 use Rattle.commands.specs.Extended.{most_count}
-use Rattle.debugger.specs.Replies.{Desk, Reply, says, line, refuses, answer, sought, moves, stands, ending_line, after_text, after_growth, after_steps}
+use Rattle.debugger.specs.Replies.{Desk, Reply, says, here, line, refuses, answer, sought, moves, stands, ending_line, after_text, after_growth, after_steps}
 
 -- a breakpoint as the command that sets it
 abbrev pub breakpoint_text : Breakpoint → List ℕ
@@ -84,3 +85,6 @@ extended_reply symbols h d (Until cycles) = goes_until h d cycles (first_at h d.
 extended_reply symbols h d AllRegisters = says (all_registers (run d.scenario d.position)) d
 extended_reply symbols h d WhyStep = says (last_text symbols d.scenario d.position) d
 extended_reply symbols h d (Why subject k) = says (why_text symbols d.scenario k d.position (subject_spots subject)) d
+extended_reply symbols h d (Words place k) = says (words_text h (here h d) place k) d
+extended_reply symbols h d Where = says (where_text symbols d.scenario d.position) d
+extended_reply symbols h d (Find text) = says (found_text symbols text) d

@@ -5,6 +5,8 @@ pub mod Replies
 pub mod PlaceTexts
 pub mod Whys
 pub mod ToldLinks
+pub mod Standing
+pub mod LeftToWrite
 pub mod ExtendedReplies
 pub mod AllRegisters
 pub mod Transcript

@@ -10,7 +10,7 @@ use Rattle.rope.specs.Places.{Words, word_at}
 use Rattle.symbols.specs.Values.{SymbolTable}
 use Rattle.cpu.specs.State.{State, Scenario, start}
 use Rattle.cpu.specs.Run.{run}
-use Rattle.cpu.specs.Links.{Link, link, targets, sources, place_spots, channel_spots}
+use Rattle.cpu.specs.Links.{Link, targets, sources, place_spots, channel_spots}
 use Rattle.cpu.specs.Chains.{cells_among, link_at, before_step, chain_origins}
 use Rattle.cpu.specs.NextStep.{next_step}
 use Rattle.cpu.specs.declared.spot.Spot.{Spot}

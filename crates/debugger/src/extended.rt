@@ -18,6 +18,7 @@ ghost use Rattle.debugger.specs.Executions.{desk, BringsAsked, Replies, grows_on
 use crate::breakpoints::lowest_hit;
 use crate::desk::Desk;
 use crate::growing::grow;
+use crate::standing::find;
 use crate::texts::{Text, hit_and_at_line, number_line, text_line};
 use arrayvec::ArrayVec;
 use commands::{Breakpoint, Breakpoints, ExtendedRequest, help_text};
@@ -61,6 +62,13 @@ impl Desk {
             ExtendedRequest::Why(subject, links) => {
                 self.why(session, symbols, *subject, *links, out)
             }
+            ExtendedRequest::Words(place, count) => {
+                write_all(out, self.words(session, place, *count).as_slice())
+            }
+            ExtendedRequest::Where => {
+                write_all(out, self.where_text(session, symbols).as_slice())
+            }
+            ExtendedRequest::Find(beginning) => find(symbols, beginning.as_slice(), out),
         }
     }
 

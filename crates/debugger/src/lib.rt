@@ -18,6 +18,7 @@ mod links;
 mod manner;
 mod session;
 mod short;
+mod standing;
 mod steps;
 mod tail;
 mod texts;

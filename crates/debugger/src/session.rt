@@ -68,7 +68,7 @@ pub fn extended_session<K: Keeper, R: Read, W: Write>(
         Talks (record { may_refuse = K.may_refuse; symbols = symbols.now; read = extended_request_of symbols.now; scenario = session.old.scenario }) (record { before = R.left commands.old; left = R.left commands.new }) (W.written out.old) (W.written out.new) result }
 
     // For each line that is read at most so many times the steps that there are are executed, besides those that are made: three
-    // times, and for `why` four times a link.
+    // times, for `where` four times, and for `why` four times a link.
     ensures cost { R.told ≡ true → OnOk result
         (session.new.meter ≤ session.old.meter + (efforts (extended_request_of symbols.now) (lines_heard (extended_request_of symbols.now) (command_lines (R.left commands.old))) + 1) * session.new.n) }
 

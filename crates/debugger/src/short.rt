@@ -188,7 +188,7 @@ impl Desk {
 
 /// The word at a place.
 #[tactic(auto, unfolding(crate::specs::History::history))]
-fn word_at(machine: &Machine, processor: &Processor, place: Linear) -> Word
+pub(crate) fn word_at(machine: &Machine, processor: &Processor, place: Linear) -> Word
     ensures { result ≡ memory_word (history processor.now.scenario) (sight processor.now.scenario.rope machine.now) place }
 {
     match place {

@@ -1,4 +1,3 @@
-use Rattle.std.proofs.Common.{◌≡◌, ◌≤◌, All, length, arith}
 use Rattle.agc_text.specs.Fields.{runs, texts}
 use Rattle.commands.proofs.ExtendedLaws.{fields-short, first-short, others-short, before_comment-short}
 use Rattle.commands.proofs.extended.extended_in.Goals as goal

@@ -1,6 +1,6 @@
-use Rattle.std.proofs.Common.{◌≡◌, drop, All}
+use Rattle.std.proofs.Common.{◌≡◌, drop}
 use Rattle.agc_text.specs.Tables.{value_in}
-use Rattle.commands.specs.Usages.{usages_of, IsShort}
+use Rattle.commands.specs.Usages.{usages_of}
 use Rattle.commands.proofs.usage.find_usage.Given as goal
 
 abbrev pub invariant-loop-text : goal.invariant-loop-text

@@ -1,4 +1,4 @@
-use Rattle.std.proofs.Common.{◌≡◌, ℕ, length, take, [], ap, arith}
+use Rattle.std.proofs.Common.{◌≡◌, length, take, [], ap, arith}
 use Rattle.std.specs.List.{flat_map}
 use Rattle.std.proofs.lemmas.List.Folds.{length-flat_map-take}
 use Rattle.commands.specs.Usages.{help_row}

@@ -1,5 +1,4 @@
-use Rattle.std.proofs.Common.{◌≡◌, ◌++◌, ◌+◌, cond, [], ℕ, List, refl, arith}
-use Rattle.std.specs.Prelude.{codes, decimal}
+use Rattle.std.proofs.Common.{refl, arith}
 use Rattle.std.specs.FinSet.{contains}
 use Rattle.debugger.proofs.Requested.{one_more}
 use Rattle.debugger.proofs.all_registers.push_each_requested.Goals as goal

@@ -1,4 +1,4 @@
-use Rattle.std.proofs.Common.{◌≡◌, ◌∙◌, ◌∷◌, ◌++◌, ◌+◌, ◌<◌, ℕ, List, codes, decimal, length, drop, slice_index_or, arith, sym, ap, refl, append_assoc, length-append}
+use Rattle.std.proofs.Common.{◌≡◌, ◌∙◌, ◌∷◌, ◌++◌, ◌+◌, ◌<◌, ℕ, List, codes, decimal, length, drop, slice_index_or, arith, sym, ap, refl, append_assoc}
 use Rattle.std.proofs.lemmas.List.{drop_more}
 use Rattle.words.proofs.Digits.{short_decimal}
 use Rattle.commands.specs.declared.command.Breakpoint.{Breakpoint}

@@ -1,4 +1,4 @@
-use Rattle.std.proofs.Common.{◌≡◌, ◌∙◌, None, Some, refl, sym, ap}
+use Rattle.std.proofs.Common.{◌≡◌, ◌∙◌, None, Some, refl, sym}
 use Rattle.commands.specs.declared.extended.ExtendedRequest.TheVariants.{On}
 use Rattle.debugger.specs.History.{history}
 use Rattle.debugger.specs.ExtendedReplies.{extended_reply, next_stop}

@@ -1,0 +1,58 @@
+-- Where the next instruction stands, symbols by their beginnings, and words one after another, step by step.
+use Rattle.std.proofs.Common.{◌≡◌, ℕ, zero, suc, ◌+◌, ◌-◌, ◌<◌, ◌≤◌, List, ◌∷◌, ◌++◌, length, drop, Option, None, Some, true, false, refl, ap, arith, ◌∙◌, sym, append_assoc}
+use Rattle.std.specs.Prelude.{codes, decimal, slice_get}
+use Rattle.std.specs.Option.{option_map, option_or}
+use Rattle.std.proofs.lemmas.List.{drop_more, drop_all}
+use Rattle.std.proofs.lemmas.Option.{slice_get_within, get_or_from_slice_get}
+use Rattle.space.specs.declared.place.Linear.{Linear}
+use Rattle.symbols.specs.declared.values.Value.{Value}
+use Rattle.symbols.specs.Values.{SymbolTable}
+use Rattle.trace.specs.TraceLines.{symbol_at}
+use Rattle.debugger.specs.History.{Sight, History}
+use Rattle.debugger.specs.Replies.{line}
+use Rattle.debugger.specs.Standing.{place_before, nearest, begins_with, found_line, found_from, place_after, word_there, words_from}
+
+-- one place further before
+nearest_more : (symbols : SymbolTable) (place : Linear) (d more : ℕ) → 0 < more
+    → nearest symbols place d more ≡ option_or (option_map (λ name. (name, d)) (symbol_at symbols (place_before place d))) (nearest symbols place (d + 1) (more - 1))
+nearest_more symbols place d zero h = absurd (omega (arith, h))
+nearest_more symbols place d (suc more) h = let e : suc more - 1 ≡ more = omega arith in rw e refl
+
+-- no symbol stands so many places before
+pub nearest_passed : (symbols : SymbolTable) (place : Linear) (d n : ℕ) (whole : Option (List ℕ × ℕ)) → d < n → nearest symbols place d (n - d) ≡ whole
+    → None ≡ symbol_at symbols (place_before place d) → nearest symbols place (d + 1) (n - (d + 1)) ≡ whole
+nearest_passed symbols place d n whole below so_far none =
+    let less : n - (d + 1) ≡ n - d - 1 = omega arith in
+    let one : nearest symbols place d (n - d) ≡ nearest symbols place (d + 1) (n - d - 1) = nearest_more symbols place d (n - d) (omega (arith, below)) ∙ rw (← none) refl in
+    rw less (sym one ∙ so_far)
+
+-- the symbols from one on
+dropped : (symbols : SymbolTable) (i : ℕ) (symbol : List ℕ × Value) → Some symbol ≡ slice_get symbols i → drop i symbols ≡ symbol ∷ drop (i + 1) symbols
+dropped symbols i symbol is =
+    drop_more symbols i symbol (slice_get_within symbols i symbol (sym is)) ∙ ap (λ (e : List ℕ × Value). e ∷ drop (i + 1) symbols) (get_or_from_slice_get symbols i symbol symbol (sym is))
+
+pub found_yes : (text : List ℕ) (symbols : SymbolTable) (n i : ℕ) (symbol : List ℕ × Value) → Some symbol ≡ slice_get symbols i → begins_with text symbol.0 ≡ true
+    → found_from n text (drop i symbols) ≡ found_line symbol ++ found_from (n + 1) text (drop (i + 1) symbols)
+found_yes text symbols n i symbol is begins = ap (found_from n text) (dropped symbols i symbol is) ∙ rw begins refl
+
+pub found_no : (text : List ℕ) (symbols : SymbolTable) (n i : ℕ) (symbol : List ℕ × Value) → Some symbol ≡ slice_get symbols i → begins_with text symbol.0 ≡ false
+    → found_from n text (drop i symbols) ≡ found_from n text (drop (i + 1) symbols)
+found_no text symbols n i symbol is begins = ap (found_from n text) (dropped symbols i symbol is) ∙ rw begins refl
+
+pub found_end : (text : List ℕ) (symbols : SymbolTable) (n i : ℕ) → length symbols ≤ i → found_from n text (drop i symbols) ≡ line (codes "COUNT " ++ decimal n)
+found_end text symbols n i past = ap (found_from n text) (drop_all i symbols past)
+
+-- one word further on
+words_more : (h : History) (seen : Sight) (place : Linear) (k more : ℕ) → 0 < more
+    → words_from h seen place k more ≡ word_there h seen (place_after place k) ++ words_from h seen place (k + 1) (more - 1)
+words_more h seen place k zero some = absurd (omega (arith, some))
+words_more h seen place k (suc more) some = let e : suc more - 1 ≡ more = omega arith in rw e refl
+
+pub words_pushed : (h : History) (seen : Sight) (place : Linear) (k count : ℕ) (text new whole : List ℕ) → k < count → text ++ words_from h seen place k (count - k) ≡ whole
+    → new ≡ text ++ word_there h seen (place_after place k) → new ++ words_from h seen place (k + 1) (count - (k + 1)) ≡ whole
+words_pushed h seen place k count text new whole below so_far is =
+    let row = word_there h seen (place_after place k) in
+    let less : count - (k + 1) ≡ count - k - 1 = omega arith in
+    let later = words_from h seen place (k + 1) (count - k - 1) in
+    let one : words_from h seen place k (count - k) ≡ row ++ later = words_more h seen place k (count - k) (omega (arith, below)) in
+    rw less (ap (λ (x : List ℕ). x ++ later) is ∙ append_assoc text row later ∙ ap (λ (x : List ℕ). text ++ x) (sym one) ∙ so_far)

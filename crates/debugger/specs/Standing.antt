@@ -1,0 +1,106 @@
+-- Where the next instruction stands; symbols by the beginnings of their names; and words one after another.
+use Rattle.std.specs.Prelude.{ℕ, zero, suc, ◌+◌, ◌-◌, not, Bool, List, [], ◌∷◌, ◌++◌, length, take, min, Option, None, Some, codes, decimal, if◌then◌else◌}
+use Rattle.std.specs.Option.{option_map, option_or}
+use Rattle.agc_text.specs.Tables.{same_name}
+use Rattle.words.specs.Numerals.{octal_text}
+use Rattle.space.specs.declared.place.Linear.{Linear}
+use Rattle.space.specs.declared.place.Linear.TheVariants.{Erasable, Fixed}
+use Rattle.symbols.specs.declared.values.Value.{Value}
+use Rattle.symbols.specs.Values.{SymbolTable, value_text}
+use Rattle.yayul.specs.Listing.{place_text}
+use Rattle.cpu.specs.State.{State, Scenario}
+use Rattle.cpu.specs.Effects.{next_address, place_in}
+use Rattle.cpu.specs.Run.{run}
+use Rattle.replay.specs.LastHit.{last_hit}
+use Rattle.trace.specs.TraceLines.{symbol_at, short_octal}
+use Rattle.debugger.specs.History.{Sight, History}
+use Rattle.debugger.specs.Replies.{line, memory_word}
+use Rattle.debugger.specs.Whys.{kind_part}
+
+-- how many places stand before a place, in its bank or in erasable memory; and the place so many before it
+abbrev pub places_before : Linear → ℕ
+places_before (Erasable p) = p
+places_before (Fixed bank offset) = offset
+
+abbrev pub place_before : Linear → ℕ → Linear
+place_before (Erasable p) d = Erasable (p - d)
+place_before (Fixed bank offset) d = Fixed bank (offset - d)
+
+-- the first symbol that stands nearest before a place, sought from so many places before on; and how far before it stands
+abbrev pub nearest : SymbolTable → Linear → ℕ → ℕ → Option (List ℕ × ℕ)
+nearest symbols place d zero = None
+nearest symbols place d (suc more) = option_or (option_map (λ name. (name, d)) (symbol_at symbols (place_before place d))) (nearest symbols place (d + 1) more)
+
+abbrev pub nearest_symbol : SymbolTable → Linear → Option (List ℕ × ℕ)
+nearest_symbol symbols place = nearest symbols place 0 (places_before place + 1)
+
+-- how far before, as it is added to a symbol
+abbrev pub distance_text : ℕ → List ℕ
+distance_text zero = []
+distance_text (suc d) = codes " +" ++ short_octal (suc d)
+
+abbrev pub nearest_text : Option (List ℕ × ℕ) → List ℕ
+nearest_text None = []
+nearest_text (Some symbol) = codes " " ++ symbol.0 ++ distance_text symbol.1
+
+-- the line of the next instruction's place: as a listing has it, and by a symbol
+abbrev pub where_line : SymbolTable → State → List ℕ
+where_line symbols s = let place = place_in s (next_address s) in line (codes "WHERE " ++ place_text place ++ nearest_text (nearest_symbol symbols place))
+
+-- the last step before p steps that no interrupt was served after
+abbrev pub last_outside : Scenario → ℕ → Option ℕ
+last_outside scenario p = last_hit (λ t. not (run scenario t).inside) p
+
+-- the line of the interrupt that is served, and of the step that entered it: the one after that step
+abbrev pub entered_line : SymbolTable → Scenario → ℕ → List ℕ
+entered_line symbols scenario t = line (codes "IN " ++ kind_part symbols scenario (run scenario t) ++ codes " BY " ++ decimal (t + 1))
+
+abbrev pub entered_text : SymbolTable → Scenario → Option ℕ → List ℕ
+entered_text symbols scenario None = []
+entered_text symbols scenario (Some t) = entered_line symbols scenario t
+
+abbrev pub inside_text : SymbolTable → Scenario → ℕ → List ℕ
+inside_text symbols scenario p = if (run scenario p).inside then entered_text symbols scenario (last_outside scenario p) else []
+
+-- where the next instruction stands after p steps, and the interrupt that is served, if any
+unfoldable pub where_text : SymbolTable → Scenario → ℕ → List ℕ
+where_text symbols scenario p = where_line symbols (run scenario p) ++ inside_text symbols scenario p
+
+-- a name begins so
+abbrev pub begins_with : List ℕ → List ℕ → Bool
+begins_with text name = same_name (take (length text) name) text
+
+-- the line of a symbol
+abbrev pub found_line : List ℕ × Value → List ℕ
+found_line symbol = line (codes "FIND " ++ symbol.0 ++ codes " " ++ value_text symbol.1)
+
+-- a line for each symbol whose name begins so, in order of definition, and how many there are, counted on from so many
+abbrev pub found_from : ℕ → List ℕ → SymbolTable → List ℕ
+found_from n text [] = line (codes "COUNT " ++ decimal n)
+found_from n text (symbol ∷ more) =
+    if begins_with text symbol.0 then found_line symbol ++ found_from (n + 1) text more
+    else found_from n text more
+
+unfoldable pub found_text : SymbolTable → List ℕ → List ℕ
+found_text symbols text = found_from 0 text symbols
+
+-- how many places there are from a place on, in its bank or in erasable memory; and the place so many after it
+abbrev pub places_from : Linear → ℕ
+places_from (Erasable p) = 0o4000 - p
+places_from (Fixed bank offset) = 0o2000 - offset
+
+abbrev pub place_after : Linear → ℕ → Linear
+place_after (Erasable p) k = Erasable (p + k)
+place_after (Fixed bank offset) k = Fixed bank (offset + k)
+
+-- the line of the word at a place, and the lines of so many from there on
+abbrev pub word_there : History → Sight → Linear → List ℕ
+word_there h seen place = line (codes "MEM " ++ place_text place ++ codes " " ++ octal_text 5 (memory_word h seen place))
+
+abbrev pub words_from : History → Sight → Linear → ℕ → ℕ → List ℕ
+words_from h seen place k zero = []
+words_from h seen place k (suc more) = word_there h seen (place_after place k) ++ words_from h seen place (k + 1) more
+
+-- so many words from a place on, up to the last of its bank or of erasable memory
+unfoldable pub words_text : History → Sight → Linear → ℕ → List ℕ
+words_text h seen place k = words_from h seen place 0 (min k (places_from place))

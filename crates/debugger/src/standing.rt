@@ -1,0 +1,310 @@
+//! Where the next instruction stands; symbols by the beginnings of their names; and words one after another.
+
+ghost use Rattle.std.specs.Prelude.{◌≡◌, ◌+◌, ◌-◌, ◌*◌, ◌<◌, ◌≤◌, ◌++◌, ◌^◌, min, length, true};
+ghost use Rattle.arrayvec.specs.ArrayVec.{array_vec_len};
+ghost use Rattle.words.specs.Devices.{Writes, failures_after};
+ghost use Rattle.cpu.specs.Run.{run};
+ghost use Rattle.trace.specs.TraceLines.{octal_digits};
+ghost use Rattle.debugger.specs.History.{history, sight};
+ghost use Rattle.debugger.specs.Replies.{memory_word};
+ghost use Rattle.debugger.specs.Whys.{kind_part};
+ghost use Rattle.debugger.specs.Standing.{places_before, place_before, nearest_symbol, distance_text, nearest_text, where_line, entered_line, entered_text, last_outside, inside_text, where_text, begins_with, found_line, found_text, places_from, place_after, word_there, words_from, words_text};
+ghost use Rattle.debugger.specs.Executions.{HasLooked};
+
+use crate::desk::Desk;
+use crate::link_texts::{Piece, kind_part};
+use crate::short::word_at;
+use crate::texts::{Text, number_line};
+use arrayvec::ArrayVec;
+use cpu::{Machine, Processor};
+use replay::{Keeper, Session};
+use space::numbers::{Eras, Offset};
+use space::place::Linear;
+use symbols::{Symbols, Value, value_text};
+use trace::{Names, place_text};
+use words::{Write, WriteFailed, push_all, push_decimal, push_octal, write_all};
+
+/// The most bytes of the lines of words: 18 for each of 2,048.
+const WORDS_TEXT: usize = 36_864;
+
+/// The lines of words.
+pub(crate) type WordsText = ArrayVec<u8, WORDS_TEXT>;
+
+/// The line of the next instruction, and whether an interrupt is served.
+#[derive(Drop)]
+struct Standing {
+    line: Text,
+    inside: bool,
+}
+
+impl Desk {
+    /// `where`: where the next instruction stands, and the interrupt that is served.
+    #[tactic(auto, unfolding(crate::specs::Standing::where_text))]
+    pub(crate) fn where_text<K: Keeper>(&self, session: &mut Session<K>, symbols: &Symbols) -> Text
+        requires { self.now.position ≤ session.old.n }
+        ensures text { result.items ≡ where_text symbols.now session.old.scenario self.now.position }
+        ensures looked { HasLooked session.old session.new (4 * session.old.n) }
+    {
+        let standing = self.standing(session, symbols);
+        let mut text = standing.line;
+        if standing.inside {
+            push_all(&mut text, self.entered_text(session, symbols).as_slice());
+        }
+        text
+    }
+
+    /// The line of the next instruction.
+    fn standing<K: Keeper>(&self, session: &mut Session<K>, symbols: &Symbols) -> Standing
+        requires { self.now.position ≤ session.old.n }
+        ensures line { result.line.items ≡ where_line symbols.now (run session.old.scenario self.now.position) }
+        ensures short { array_vec_len result.line ≤ 40 }
+        ensures inside { result.inside ≡ (run session.old.scenario self.now.position).inside }
+        ensures looked { HasLooked session.old session.new session.old.n }
+    {
+        match session.show(self.position) {
+            Ok(machine) => Standing {
+                line: where_line(symbols, machine),
+                inside: machine.inside(),
+            },
+            Err(_) => unreachable!(),
+        }
+    }
+
+    /// The line of the interrupt that is served.
+    fn entered_text<K: Keeper>(&self, session: &mut Session<K>, symbols: &Symbols) -> Text
+        requires { self.now.position ≤ session.old.n }
+        ensures text { result.items ≡ entered_text symbols.now session.old.scenario (last_outside session.old.scenario self.now.position) }
+        ensures short { array_vec_len result ≤ 76 }
+        ensures looked { HasLooked session.old session.new (3 * session.old.n) }
+    {
+        match session.seek_back(self.position, |machine| !machine.inside()) {
+            Some(step) => entered_line(session, symbols, step),
+            None => ArrayVec::new(),
+        }
+    }
+
+    /// `mem` of a place and a number: so many words from there on.
+    pub(crate) fn words<K: Keeper>(
+        &self,
+        session: &mut Session<K>,
+        place: &Linear,
+        count: u64,
+    ) -> WordsText
+        requires { self.now.position ≤ session.old.n }
+        ensures text { result.items ≡ words_text (history session.old.scenario) ((history session.old.scenario).after self.now.position) place.now count }
+        ensures looked { HasLooked session.old session.new session.old.n }
+    {
+        match session.with_present(self.position) {
+            Ok((machine, _, processor)) => words_text(machine, processor, place, count),
+            Err(_) => unreachable!(),
+        }
+    }
+}
+
+/// The line of the step that entered the interrupt that is served: the one after so many.
+#[tactic(auto, using(words::proofs::Digits::short_decimal))]
+fn entered_line<K: Keeper>(session: &mut Session<K>, symbols: &Symbols, step: u64) -> Text
+    requires within { step < session.old.n }
+    requires fits { step + 1 < 2 ^ 64 }
+    ensures items { result.items ≡ entered_line symbols.now session.old.scenario step }
+    ensures short { array_vec_len result ≤ 76 }
+    ensures looked { HasLooked session.old session.new (session.old.n - step) }
+{
+    let mut text = ArrayVec::new();
+    push_all(&mut text, b"IN ");
+    push_all(&mut text, kind_at(session, symbols, step).as_slice());
+    push_all(&mut text, b" BY ");
+    push_decimal(&mut text, step + 1);
+    push_all(&mut text, b"\n");
+    text
+}
+
+/// What the step is after so many.
+#[tactic(auto, using(crate::proofs::Looking::looked_near, crate::proofs::Looking::fits_at))]
+fn kind_at<K: Keeper>(session: &mut Session<K>, symbols: &Symbols, step: u64) -> Piece
+    requires { step < session.old.n }
+    ensures kind { result.items ≡ kind_part symbols.now session.old.scenario (run session.old.scenario step) }
+    ensures short { array_vec_len result ≤ 48 }
+    ensures looked { HasLooked session.old session.new (session.old.n - step) }
+{
+    match session.with_present(step) {
+        Ok((machine, _, processor)) => kind_part(symbols, processor, machine),
+        Err(_) => unreachable!(),
+    }
+}
+
+/// The line of the next instruction's place.
+fn where_line(symbols: &Symbols, machine: &Machine) -> Text
+    ensures items { result.items ≡ where_line symbols.now machine.now }
+    ensures short { array_vec_len result ≤ 40 }
+{
+    let mut text = ArrayVec::new();
+    push_all(&mut text, b"WHERE ");
+    push_all(&mut text, place_text(machine.next_place()).as_slice());
+    push_nearest(&mut text, symbols, &machine.next_place());
+    push_all(&mut text, b"\n");
+    text
+}
+
+/// Appends the symbol that stands nearest before a place, and how far before.
+fn push_nearest(text: &mut Text, symbols: &Symbols, place: &Linear)
+    requires { array_vec_len text.old ≤ 20 }
+    ensures items { text.new.items ≡ text.old.items ++ nearest_text (nearest_symbol symbols.now place.now) }
+    ensures short { array_vec_len text.new ≤ array_vec_len text.old + 16 }
+{
+    for distance in 0..places_before(place) + 1 {
+        if let Some(name) = symbols.symbol_at(&place_before(place, distance)) {
+            push_all(text, b" ");
+            push_all(text, name);
+            push_distance(text, distance);
+            return;
+        }
+    }
+}
+
+/// How many places stand before a place.
+fn places_before(place: &Linear) -> u16
+    ensures value { result ≡ places_before place.now }
+    ensures few { result < 0o4000 }
+{
+    match place {
+        Linear::Erasable(place) => place.number(),
+        Linear::Fixed(_, offset) => offset.number(),
+    }
+}
+
+/// The place so many before a place.
+fn place_before(place: &Linear, distance: u16) -> Linear
+    requires { distance ≤ places_before place.now }
+    ensures { result ≡ place_before place.now distance }
+{
+    match place {
+        Linear::Erasable(place) => Linear::Erasable(Eras::of_low_bits(place.number() - distance)),
+        Linear::Fixed(bank, offset) => {
+            Linear::Fixed(*bank, Offset::of_low_bits(offset.number() - distance))
+        }
+    }
+}
+
+/// Appends a distance as it is added to a symbol.
+#[tactic(auto, unfolding(trace::specs::TraceLines::short_octal))]
+fn push_distance(text: &mut Text, distance: u16)
+    requires room { array_vec_len text.old ≤ 100 }
+    requires few { distance < 0o4000 }
+    ensures items { text.new.items ≡ text.old.items ++ distance_text distance }
+    ensures short { array_vec_len text.new ≤ array_vec_len text.old + 6 }
+{
+    if distance > 0 {
+        push_all(text, b" +");
+        push_octal(text, octal_digits(distance), distance);
+    }
+}
+
+/// How many octal digits a number has.
+fn octal_digits(number: u16) -> usize
+    requires { number < 0o4000 }
+    ensures digits { result ≡ octal_digits number }
+    ensures few { result ≤ 4 }
+{
+    match number {
+        0..0o10 => 1,
+        0o10..0o100 => 2,
+        0o100..0o1000 => 3,
+        _ => 4,
+    }
+}
+
+/// `find`: the symbols whose names begin so.
+#[tactic(auto, unfolding(crate::specs::Standing::found_text))]
+pub(crate) fn find<W: Write>(
+    symbols: &Symbols,
+    beginning: &[u8],
+    out: &mut W,
+) -> Result<(), WriteFailed>
+    ensures writes { W.told ≡ true → Writes (W.written out.old) (W.written out.new) (found_text symbols.now beginning.now) result }
+    ensures failures { W.failures out.new ≡ failures_after (W.failures out.old) result }
+{
+    let mut found = 0;
+    for index in 0..symbols.len() {
+        let Some((name, value)) = symbols.entry(index) else {
+            unreachable!()
+        };
+        if begins_with(beginning, name) {
+            write_all(out, found_line(name, value).as_slice())?;
+            found += 1;
+        }
+    }
+    write_all(out, number_line(b"COUNT ", found).as_slice())
+}
+
+/// Whether a name begins so.
+fn begins_with(beginning: &[u8], name: &[u8]) -> bool
+    ensures { result ≡ begins_with beginning.now name.now }
+{
+    beginning.len() <= name.len() && &name[..beginning.len()] == beginning
+}
+
+/// The line of a symbol.
+fn found_line(name: &[u8], value: Value) -> Text
+    requires { length name.now ≤ 8 }
+    ensures { result.items ≡ found_line (name.now, value) }
+{
+    let mut text = ArrayVec::new();
+    push_all(&mut text, b"FIND ");
+    push_all(&mut text, name);
+    push_all(&mut text, b" ");
+    push_all(&mut text, value_text(value).as_slice());
+    push_all(&mut text, b"\n");
+    text
+}
+
+/// The lines of so many words from a place on.
+#[tactic(auto, unfolding(crate::specs::Standing::words_text))]
+fn words_text(machine: &Machine, processor: &Processor, place: &Linear, count: u64) -> WordsText
+    ensures { result.items ≡ words_text (history processor.now.scenario) (sight processor.now.scenario.rope machine.now) place.now count }
+{
+    let mut text = ArrayVec::new();
+    let places = places_from(place);
+    let count = count.min(u64::from(places)) as u16;
+    for index in 0..count {
+        push_word(&mut text, machine, processor, &place_after(place, index));
+    }
+    text
+}
+
+/// Appends the line of the word at a place.
+fn push_word(text: &mut WordsText, machine: &Machine, processor: &Processor, place: &Linear)
+    requires { array_vec_len text.old ≤ 36846 }
+    ensures items { text.new.items ≡ text.old.items ++ word_there (history processor.now.scenario) (sight processor.now.scenario.rope machine.now) place.now }
+    ensures len { array_vec_len text.new ≡ array_vec_len text.old + 18 }
+{
+    push_all(text, b"MEM ");
+    push_all(text, place_text(*place).as_slice());
+    push_all(text, b" ");
+    push_octal(text, 5, word_at(machine, processor, *place).to_u16());
+    push_all(text, b"\n");
+}
+
+/// How many places there are from a place on.
+fn places_from(place: &Linear) -> u16
+    ensures value { result ≡ places_from place.now }
+    ensures few { result ≤ 0o4000 }
+{
+    match place {
+        Linear::Erasable(place) => 0o4000 - place.number(),
+        Linear::Fixed(_, offset) => 0o2000 - offset.number(),
+    }
+}
+
+/// The place so many after a place.
+fn place_after(place: &Linear, words: u16) -> Linear
+    requires { words < places_from place.now }
+    ensures { result ≡ place_after place.now words }
+{
+    match place {
+        Linear::Erasable(place) => Linear::Erasable(Eras::of_low_bits(place.number() + words)),
+        Linear::Fixed(bank, offset) => {
+            Linear::Fixed(*bank, Offset::of_low_bits(offset.number() + words))
+        }
+    }
+}
