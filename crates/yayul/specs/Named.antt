@@ -3,11 +3,11 @@ use Rattle.std.specs.Prelude.{ℕ, ◌+◌, ◌*◌, Bool, true, false, List, []
 use Rattle.std.specs.Option.{option_map_or}
 use Rattle.agc_text.specs.Lines.{lines}
 use Rattle.rope.specs.Places.{bank_words, place_number}
-use Rattle.yayul.specs.Forms.{statement_of}
-use Rattle.yayul.specs.Layout.{Layout, start, line_effect, value_of}
+use Rattle.yayul.specs.Flight.{statement_in}
+use Rattle.yayul.specs.Layout.{Layout, start, line_effect, statement_on, value_of}
 use Rattle.yayul.specs.Listing.{Shown, shown}
 use Rattle.yayul.specs.Program.{Program}
-use Rattle.yayul.specs.Language.{Address, Addressed, Channel, Content, Erasable, ErasablePlace, FaultKind, Fixed, FixedAddress, FixedPlace, Gives, Num, Operand, Operation, Pair, Takes, Undefined, Value}
+use Rattle.yayul.specs.Language.{Address, Addressed, Channel, Content, Erasable, ErasablePlace, FaultKind, Fixed, FixedAddress, FixedPlace, Gives, Language, Location, Num, Operand, Operation, Pair, Takes, Undefined, Value}
 
 -- for each place of fixed memory by its number the erasable place that its word names, if any
 abbrev pub Named : Type 0
@@ -63,12 +63,16 @@ abbrev pub line_named : List (List ℕ × Value) → Named → Shown → Operati
 line_named table named shown says =
     option_map_or (λ word. set named (place_number word.0 word.1) (operation_names table says)) (slice_get shown.words 0) named
 
--- what is named once some lines are passed, the first of them with a number and what stands before it
-abbrev pub lines_named : List (List ℕ × Value) → Named → ℕ → Layout → List (List ℕ) → Named
-lines_named table named line s [] = named
-lines_named table named line s (text ∷ texts) =
-    lines_named table (line_named table named (shown s.location (statement_of text)) (statement_of text).operation) (line + 1) (line_effect line s text).after texts
+-- what a line gives in a language, which is the same wherever the line stands
+abbrev pub given_in : Language → List ℕ → Operation
+given_in language text = (statement_in language (Location.Fixed 2 0) text).operation
+
+-- what is named once some lines of a language are passed, the first of them with a number and what stands before it
+abbrev pub lines_named : Language → List (List ℕ × Value) → Named → ℕ → Layout → List (List ℕ) → Named
+lines_named language table named line s [] = named
+lines_named language table named line s (text ∷ texts) =
+    lines_named language table (line_named table named (shown s.location (statement_on s text)) (given_in language text)) (line + 1) (line_effect line s text).after texts
 
 -- the erasable places that the words of a program name, its symbols those of the whole source
 unfoldable pub named_places : Program → Named
-named_places p = lines_named p.symbols nothing_named 1 start (lines p.source)
+named_places p = lines_named p.source.language p.symbols nothing_named 1 (start p.source.language) (lines p.source.text)

@@ -105,7 +105,13 @@ impl Program {
     pub fn named_places(&self, alloc: Global) -> Result<NamedPlaces, AllocError>
         ensures { IfOk result (λ named. named ≡ named_places self.now) }
     {
-        NamedPlaces::of_lines(alloc, &self.symbols, &self.source, self.marks.as_slice())
+        NamedPlaces::of_lines(
+            alloc,
+            self.language,
+            &self.symbols,
+            &self.source,
+            self.marks.as_slice(),
+        )
     }
 
     /// Writes the listing: a row for each line of the source, with its number, its place, its word and its text, and then the

@@ -3,13 +3,13 @@
 ghost use Rattle.std.specs.Prelude.{◌≡◌, ◌<◌, IfOk, map};
 ghost use Rattle.agc_text.specs.Lines.{lines};
 ghost use Rattle.rope.specs.Places.{place_number};
-ghost use Rattle.yayul.specs.Forms.{statement_of};
-ghost use Rattle.yayul.specs.Named.{content_names, erasable_of, holds_address, line_named, named_at, named_words, nothing_named, operand_names, operation_names};
+ghost use Rattle.yayul.specs.Named.{content_names, erasable_of, given_in, holds_address, line_named, named_at, named_words, nothing_named, operand_names, operation_names};
 ghost use Rattle.yayul.specs.Inside.Names.{shown_named};
 ghost use Rattle.yayul.specs.Inside.Representation.{shown_by_mark};
 
 use crate::faults::FaultKind;
-use crate::language::{Content, Location, Operand, Operation, Takes};
+use crate::flight::flight_statement;
+use crate::language::{Content, Language, Location, Operand, Operation, Takes};
 use crate::listing::first_word;
 use crate::mark::Mark;
 use crate::statement::statement_of;
@@ -61,14 +61,15 @@ impl NamedPlaces {
         self.places[word_number(bank, offset)]
     }
 
-    /// What the words of some lines name, each by what it shows.
+    /// What the words of some lines of a language name, each by what it shows.
     pub(crate) fn of_lines(
         alloc: Global,
+        language: Language,
         symbols: &Symbols,
         source: &[u8],
         marks: &[Mark],
     ) -> Result<NamedPlaces, AllocError>
-        ensures { IfOk result (λ named. named ≡ shown_named symbols.now nothing_named (lines source.now) (map shown_by_mark marks.now)) }
+        ensures { IfOk result (λ named. named ≡ shown_named language symbols.now nothing_named (lines source.now) (map shown_by_mark marks.now)) }
     {
         let mut named = NamedPlaces::nothing(alloc)?;
         let mut rest = source;
@@ -76,19 +77,31 @@ impl NamedPlaces {
             let Some((text, after)) = next_line(rest) else {
                 return Ok(named);
             };
-            named.pass(symbols, text, mark);
+            named.pass(language, symbols, text, mark);
             rest = after;
         }
         Ok(named)
     }
 
     // Holds what the word of a line names.
-    fn pass(&mut self, symbols: &Symbols, text: &[u8], mark: &Mark)
-        ensures { self.new ≡ line_named symbols.now self.old (shown_by_mark mark.now) (statement_of text.now).operation }
+    fn pass(&mut self, language: Language, symbols: &Symbols, text: &[u8], mark: &Mark)
+        ensures { self.new ≡ line_named symbols.now self.old (shown_by_mark mark.now) (given_in language text.now) }
     {
         if let Some((bank, offset)) = first_word(mark) {
-            let place = operation_names(symbols, &statement_of(text).operation);
+            let place = operation_names(symbols, &given_in(language, text));
             self.places[word_number(bank, offset)] = place;
+        }
+    }
+}
+
+// What a line gives in a language, which is the same wherever the line stands.
+fn given_in(language: Language, text: &[u8]) -> Operation
+    ensures { result ≡ given_in language text.now }
+{
+    match language {
+        Language::Standard => statement_of(text).operation,
+        Language::Flight => {
+            flight_statement(Location::Fixed(FixedBank::two(), 0), text).operation
         }
     }
 }
