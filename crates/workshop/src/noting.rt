@@ -23,7 +23,7 @@ use space::numbers::Eras;
 use std::alloc::Global;
 use trace::PlaceNames;
 use words::{Read, Write};
-use yayul::{NamedPlaces, Symbols};
+use yayul::{Language, NamedPlaces, Symbols};
 
 /// The words of a program, its symbols, and the erasable places that its words name.
 #[derive(Drop)]
@@ -85,7 +85,7 @@ fn read_named<P: Read>(
         (reader P.told P.left P.failures program.old) (reader P.told P.left P.failures program.new) result }
 {
     match origin {
-        Origin::Source => read_named_source(alloc, program),
+        Origin::Source(language) => read_named_source(alloc, language, program),
         Origin::Image(version) => {
             let Ok(named) = NamedPlaces::nothing(alloc) else {
                 return Err(WorkshopFault::NoMemory);
@@ -100,12 +100,16 @@ fn read_named<P: Read>(
     }
 }
 
-/// Reads a source, and which erasable places its words name.
-fn read_named_source<P: Read>(alloc: Global, program: &mut P) -> Result<NamedCode, WorkshopFault>
-    ensures { Reads (λ old new. ReadsText (named_of (assembled old)) old new)
+/// Reads a source of a language, and which erasable places its words name.
+fn read_named_source<P: Read>(
+    alloc: Global,
+    language: Language,
+    program: &mut P,
+) -> Result<NamedCode, WorkshopFault>
+    ensures { Reads (λ old new. ReadsText (named_of (assembled language old)) old new)
         (reader P.told P.left P.failures program.old) (reader P.told P.left P.failures program.new) result }
 {
-    let assembled = read_program(alloc, program)?;
+    let assembled = read_program(alloc, language, program)?;
     let Ok(named) = assembled.named_places(alloc) else {
         return Err(WorkshopFault::NoMemory);
     };
