@@ -123,23 +123,28 @@ def check_examples(room):
     check_names()
 
 
+# How many steps a flight program is run for, and then its cycles and Z.
+FLIGHT_ENDS = {"bankcall": (60, b"100 4010"), "downlist": (40, b"73 2013")}
+
+
 def check_flight(room):
     """Programs in the language of flight programs: what they put out, from their sources and from their images; that this language alone takes them; and what --flight goes with."""
     rope, empty = f"{room}/flight.rope", f"{EXAMPLES}/empty.feed"
     for name in sorted(it.removesuffix(".agc") for it in os.listdir(f"{EXAMPLES}/flight") if it.endswith(".agc")):
+        steps, after = FLIGHT_ENDS[name]
         source, wanted = f"{EXAMPLES}/flight/{name}.agc", read(f"{EXAMPLES}/flight/{name}.out")
         told(f"the manual names flight/{name}", f"](../examples/flight/{name}.agc)" in text_of("docs/MANUAL.md"))
         compare(f"the listing of flight/{name}", agcws("asm", "--flight", source, rope), 0, read(f"{EXAMPLES}/flight/{name}.lst"))
-        compare(f"flight/{name}", agcws("run", "--flight", source, empty, "40"), 0, wanted)
-        compare(f"the image of flight/{name}", agcws("run", "--image", rope, empty, "40"), 0, wanted)
+        compare(f"flight/{name}", agcws("run", "--flight", source, empty, str(steps)), 0, wanted)
+        compare(f"the image of flight/{name}", agcws("run", "--image", rope, empty, str(steps)), 0, wanted)
         compare(f"flight/{name} beside its image", agcws("compare", "--only", "--flight", source, rope), 0, b"COUNT 0\n")
         status, report, _ = agcws("check", "--flight", source)
         told(f"a check of flight/{name}", status == 0 and re.search(rb"^0 errors, \d+ warnings?\n\Z", report, re.M), f"{status} {report!r}")
-        traced = agcws("trace", "--flight", source, empty, "40")[1]
+        traced = agcws("trace", "--flight", source, empty, str(steps))[1]
         told(f"a trace of flight/{name}", re.findall(rb"  (\d+ CH \d+ \d+)$", traced, re.M) == wanted.split(b"\n")[:-1], f"{traced!r}")
-        told(f"a profile of flight/{name}", agcws("cover", "--flight", source, empty, "40")[1].endswith(b"        40         %d TOTAL\n" % int(traced.split(b"\n")[39].split()[1])))
+        told(f"a profile of flight/{name}", agcws("cover", "--flight", source, empty, str(steps))[1].endswith(b"%10d %10d TOTAL\n" % (steps, int(traced.split(b"\n")[steps - 1].split()[1]))))
         session = Session(source, empty, "--flight")
-        session.ask(f"a session of flight/{name}", b"run 40\n", wanted + b"AT 40 73 2013\n")
+        session.ask(f"a session of flight/{name}", b"run %d\n" % steps, wanted + b"AT %d %b\n" % (steps, after))
         session.end(f"a session of flight/{name} ends")
         told(f"flight/{name} without --flight", agcws("asm", source, rope)[0] == 1)
     status, out, _ = agcws("run", "--flight", "--image", rope, empty, "1")

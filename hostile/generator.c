@@ -37,7 +37,8 @@ static const char *const SOUND_COMMANDS[] = {
 /* Lines that a source of flight programs may have alone; X begins a label of its own. */
 static const char *const FLIGHT_LINES[] = {
     "+3\tOCT\t5", " -1 DEC -5", "+12D", "\tCOUNT*\t$$/EXEC", " COUNT 05 05 05", "\tBNKSUM\t05", " SUBRO", "\tMEMORY\t120000 - 167777", "X\tEQUALS", "X =\t# here",
-    "\tBANK", " BLOCK", "\tOCTAL\t37777", "\tGENADR\t5777", " REMADR 4003 -3", "\t1DNADR\t0", "\t6DNADR\t3700 +77", "\tDNCHAN\t777"};
+    "\tBANK", " BLOCK", "\tOCTAL\t37777", "\tGENADR\t5777", " REMADR 4003 -3", "\t1DNADR\t0", "\t6DNADR\t3700 +77", "\tDNCHAN\t777",
+    "\tOCT\t-20000", " 2OCT 1234567012", " VN 0633", " 2DEC -.1", " 2DEC 1738090 B-29", " DEC 1.0 E4 B-14", " DEC +1 B-14", " -CADR 4000", " -2CADR 4000", "\tBBCON\t5777", " -CCS 0", " -6DNADR 154"};
 static const char ALPHABET[] = "\n\n\n\t    ##++--,.$=00112233445566778899ABCDEIKLNORSTUXacdeghkmnr";
 static const char *const INSERTED[] = {"\n", "\r\n", "\t", "#", "\377", "0", "7",
     "xxxxxxxxxxxxxxxxxxxxxxxxxxxxxxxxxxxxxxxxxxxxxxxxxxxxxxxxxxxxxxxxxxxxxxxxxxxxxxxxxxxxxxxxxxxxxxxxxxxxxxxxxxxxxxxxxxxxxxxxxxxxxxxxxxxx"};

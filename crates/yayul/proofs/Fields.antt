@@ -11,9 +11,9 @@ use Rattle.agc_text.specs.declared.fields.Field.{Field}
 use Rattle.agc_text.specs.declared.fields.Line.{Line}
 use Rattle.yayul.specs.Operators.{operators}
 use Rattle.yayul.specs.Forms.{operation_in, operation_of}
-use Rattle.yayul.specs.Flight.{flight_operator, flight_operation_of, flight_operation_in}
+use Rattle.yayul.specs.Flight.{flight_operator, flight_operation_of, flight_operation_in, scales_after}
 use Rattle.yayul.specs.Inside.Representation.{text_of, followed_by, arguments_of, operation_by, flight_operation_by}
-use Rattle.yayul.specs.Language.{FlightOperator, Location, Operation, Operator, Nothing, PassedOver}
+use Rattle.yayul.specs.Language.{FlightOperator, Location, Octals, Operation, Operator, Nothing, PassedOver, VerbNoun}
 use Rattle.agc_text.specs.Tables.{value_in}
 
 -- the text of a field is that of its piece
@@ -48,12 +48,19 @@ many (Some (Operator.Plain code)) a b c d more others = refl
 many (Some (Operator.Addressed code)) a b c d more others = refl
 many (Some (Operator.ToNext code)) a b c d more others = refl
 
-flight_many : (here : Location) (operator : Option FlightOperator) → Alike (flight_operation_of here operator)
-flight_many here None a b c d more others = refl
-flight_many here (Some PassedOver) a b c d more others = refl
-flight_many here (Some FlightOperator.Equals) a b c d more others = refl
-flight_many here (Some (FlightOperator.Bank taken)) a b c d more others = refl
-flight_many here (Some (FlightOperator.Standard operator)) a b c d more others = many (Some operator) a b c d more others
+flight_many : (here : Location) (scales : List (List ℕ)) (operator : Option FlightOperator) → Alike (flight_operation_of here scales operator)
+flight_many here scales None a b c d more others = refl
+flight_many here scales (Some PassedOver) a b c d more others = refl
+flight_many here scales (Some FlightOperator.Equals) a b c d more others = refl
+flight_many here scales (Some (FlightOperator.Bank taken)) a b c d more others = refl
+flight_many here scales (Some FlightOperator.Octal) a b c d more others = refl
+flight_many here scales (Some Octals) a b c d more others = refl
+flight_many here scales (Some VerbNoun) a b c d more others = refl
+flight_many here scales (Some (FlightOperator.Decimal precision)) a b c d more others = refl
+flight_many here scales (Some (FlightOperator.Complemented code)) a b c d more others = refl
+flight_many here scales (Some FlightOperator.FarComplement) a b c d more others = refl
+flight_many here scales (Some FlightOperator.BankWord) a b c d more others = refl
+flight_many here scales (Some (FlightOperator.Standard operator)) a b c d more others = many (Some operator) a b c d more others
 
 -- an operator says with fields what it says with the pieces after it
 with_arguments : (says : List (List ℕ) → Operation) → Alike says → (p : Piece) (rest : List Piece) → says (arguments_in (p ∷ rest)) ≡ says (texts rest)
@@ -82,20 +89,21 @@ operation_by-pieces l pieces operator operand offset more =
     by_first l.operator (arguments_of l) pieces operator a
 
 -- what the first piece says with the arguments in the language of flight programs
-flight_by_first : (here : Location) (operator : Option Field) (a : List (List ℕ)) (pieces : List Piece) → option_map piece operator ≡ slice_get pieces 0 → a ≡ arguments_in pieces
-    → option_map_or (λ f. flight_operation_of here (flight_operator f.text.now) a) operator Nothing ≡ flight_operation_in here pieces
-flight_by_first here None a [] first same = refl
-flight_by_first here None a (p ∷ ps) first same = cc
-flight_by_first here (Some f) a [] first same = cc
-flight_by_first here (Some f) a (p ∷ ps) first same =
-    ap (λ text. flight_operation_of here (flight_operator text) a) (ap (λ (q : Piece). q.text) (same_Some (piece f) p first))
-    ∙ ap (flight_operation_of here (flight_operator p.text)) same
-    ∙ with_arguments (flight_operation_of here (flight_operator p.text)) (flight_many here (flight_operator p.text)) p ps
+flight_by_first : (here : Location) (line : List ℕ) (operand : Option Piece) (operator : Option Field) (a : List (List ℕ)) (pieces : List Piece) → option_map piece operator ≡ slice_get pieces 0 → operand ≡ slice_get pieces 1
+    → a ≡ arguments_in pieces → option_map_or (λ f. flight_operation_of here (scales_after line operand) (flight_operator f.text.now) a) operator Nothing ≡ flight_operation_in here line pieces
+flight_by_first here line operand None a [] first second same = refl
+flight_by_first here line operand None a (p ∷ ps) first second same = cc
+flight_by_first here line operand (Some f) a [] first second same = cc
+flight_by_first here line operand (Some f) a (p ∷ ps) first second same =
+    ap (λ text. flight_operation_of here (scales_after line operand) (flight_operator text) a) (ap (λ (q : Piece). q.text) (same_Some (piece f) p first))
+    ∙ ap (λ o. flight_operation_of here (scales_after line o) (flight_operator p.text) a) second
+    ∙ ap (flight_operation_of here (scales_after line (slice_get ps 0)) (flight_operator p.text)) same
+    ∙ with_arguments (flight_operation_of here (scales_after line (slice_get ps 0)) (flight_operator p.text)) (flight_many here (scales_after line (slice_get ps 0)) (flight_operator p.text)) p ps
 
 -- so it is with a line of a flight program
-pub flight_operation_by-pieces : (here : Location) (l : Line) (pieces : List Piece) → option_map piece l.operator ≡ slice_get pieces 0 → option_map piece l.operand ≡ slice_get pieces 1 → option_map piece l.offset ≡ slice_get pieces 2
-    → l.more ≡ nat_lt 3 (length pieces) → flight_operation_by here l ≡ flight_operation_in here pieces
-flight_operation_by-pieces here l pieces operator operand offset more =
+pub flight_operation_by-pieces : (here : Location) (line : List ℕ) (l : Line) (pieces : List Piece) → option_map piece l.operator ≡ slice_get pieces 0 → option_map piece l.operand ≡ slice_get pieces 1
+    → option_map piece l.offset ≡ slice_get pieces 2 → l.more ≡ nat_lt 3 (length pieces) → flight_operation_by here line l ≡ flight_operation_in here line pieces
+flight_operation_by-pieces here line l pieces operator operand offset more =
     let a : arguments_of l ≡ arguments_in pieces =
     λ j. followed_by (text_of_piece l.operand (slice_get pieces 1) operand j) (followed_by (text_of_piece l.offset (slice_get pieces 2) offset j) (further (more j))) in
-    flight_by_first here l.operator (arguments_of l) pieces operator a
+    flight_by_first here line (option_map piece l.operand) l.operator (arguments_of l) pieces operator operand a

@@ -10,7 +10,7 @@ use Rattle.yayul.specs.Flight.{flight_operators, uncounted_statement}
 use Rattle.yayul.specs.Layout.{fault_number, start, line_effect, layout_after}
 use Rattle.yayul.specs.Words.{request_words, request_faults}
 use Rattle.yayul.specs.Program.{image_of, program}
-use Rattle.yayul.specs.Language.{Flight, Standard, FaultKind, BadLabel, TwiceDefined, UnknownOperator, BadOperand, BadBank, WrongKindOfAddress, OutOfRange}
+use Rattle.yayul.specs.Language.{Flight, Standard, FaultKind, BadLabel, TwiceDefined, UnknownOperator, BadOperand, BadBank, NotExtracode, WrongKindOfAddress, OutOfRange}
 
 -- a source of lines, each but the last followed by a semicolon here
 abbrev source : List ℕ → List ℕ
@@ -30,6 +30,13 @@ good =
     ∷ (codes " BLOCK 2; OCT 1; SETLOC 4000; BLOCK; OCT 2; BANK 5; BLOCK; OCT 3", (2, 0, 1) ∷ (2, 1, 2) ∷ (5, 0, 3) ∷ [])
     ∷ (codes " OCTAL 37777; BANK 5;X GENADR X; REMADR X", (2, 0, 0o37777) ∷ (5, 0, 0o2000) ∷ (5, 1, 0o2000) ∷ [])
     ∷ (codes " 1DNADR 100; 2DNADR 400; 3DNADR 400; 4DNADR 400; 5DNADR 400; 6DNADR 154; DNCHAN 30", (2, 0, 0o00100) ∷ (2, 1, 0o04400) ∷ (2, 2, 0o10400) ∷ (2, 3, 0o14400) ∷ (2, 4, 0o20400) ∷ (2, 5, 0o24154) ∷ (2, 6, 0o34030) ∷ [])
+    ∷ (codes " OCT -20000; OCTAL +5; OCT -0; OCT 5", (2, 0, 0o57777) ∷ (2, 1, 5) ∷ (2, 2, 0o77777) ∷ (2, 3, 5) ∷ [])
+    ∷ (codes " 2OCT 0000500000; 2OCT 1234567012", (2, 0, 5) ∷ (2, 1, 0) ∷ (2, 2, 0o12345) ∷ (2, 3, 0o67012) ∷ [])
+    ∷ (codes " DEC .5; DEC -1 B-14; DEC 1.0 E4 B-14; DEC 5.95 E-3 B+6; DEC 16383", (2, 0, 0o20000) ∷ (2, 1, 0o77776) ∷ (2, 2, 0o23420) ∷ (2, 3, 0o14137) ∷ (2, 4, 0o37777) ∷ [])
+    ∷ (codes " 2DEC .57735027; 2DEC 1738090 B-29; 2DEC -.1; 2DEC 3.986032 E10 B-36", (2, 0, 0o22363) ∷ (2, 1, 0o11643) ∷ (2, 2, 0o65) ∷ (2, 3, 0o1265) ∷ (2, 4, 0o74631) ∷ (2, 5, 0o63145) ∷ (2, 6, 0o22437) ∷ (2, 7, 0o16067) ∷ [])
+    ∷ (codes " VN 0633; VN 9999; VN 0000", (2, 0, 0o1441) ∷ (2, 1, 0o30743) ∷ (2, 2, 0) ∷ [])
+    ∷ (codes " -1DNADR 100; -2DNADR 400; -3DNADR 400; -4DNADR 400; -5DNADR 400; -6DNADR 154", (2, 0, 0o77677) ∷ (2, 1, 0o73377) ∷ (2, 2, 0o67377) ∷ (2, 3, 0o63377) ∷ (2, 4, 0o57377) ∷ (2, 5, 0o53623) ∷ [])
+    ∷ (codes " BANK 5;X -CADR X; -GENADR X; -CCS 100; EBANK= 1400; -2CADR X; BBCON X", (5, 0, 0o65777) ∷ (5, 1, 0o75777) ∷ (5, 2, 0o67677) ∷ (5, 3, 0o75777) ∷ (5, 4, 0o65774) ∷ (5, 5, 0o12003) ∷ [])
     ∷ []
 
 each_good : map {B = Bool × List (ℕ × ℕ × ℕ)} (λ row. (is_ok (program Flight (source row.0)), words (source row.0))) good ≡ map {B = Bool × List (ℕ × ℕ × ℕ)} (λ row. (true, row.1)) good
@@ -56,6 +63,27 @@ faulty =
     ∷ (codes " DNCHAN 1000", 1, WrongKindOfAddress)
     ∷ (codes " EXTEND; EDRUPT 0", 2, UnknownOperator)
     ∷ (codes " SBANK= LOWSUPER", 1, UnknownOperator)
+    ∷ (codes " OCT --5", 1, BadOperand)
+    ∷ (codes " OCT -100000", 1, OutOfRange)
+    ∷ (codes " 2OCT 123", 1, BadOperand)
+    ∷ (codes " 2DEC", 1, BadOperand)
+    ∷ (codes " 2DEC 2160000", 1, BadOperand)
+    ∷ (codes " DEC 5 E3", 1, BadOperand)
+    ∷ (codes " 2DEC .5 B-1 E1", 1, BadOperand)
+    ∷ (codes " 2DEC .5 E1 B-1 B-1", 1, BadOperand)
+    ∷ (codes " 2DEC .5 E12", 1, BadOperand)
+    ∷ (codes " 2DEC 1 B-51", 1, BadOperand)
+    ∷ (codes " 2DEC 1.0", 1, OutOfRange)
+    ∷ (codes " DEC .99999", 1, OutOfRange)
+    ∷ (codes " DEC 1 B", 1, BadOperand)
+    ∷ (codes " 2OCT 0000800000", 1, BadOperand)
+    ∷ (codes " VN 633", 1, BadOperand)
+    ∷ (codes " VN 06 33", 1, BadOperand)
+    ∷ (codes " -CCS 2000", 1, WrongKindOfAddress)
+    ∷ (codes " EXTEND; -CCS 100", 2, NotExtracode)
+    ∷ (codes " -2CADR X; BANK 43;X OCT 1", 1, WrongKindOfAddress)
+    ∷ (codes " BBCON X; BANK 30;X OCT 1", 1, WrongKindOfAddress)
+    ∷ (codes " -TC X", 1, UnknownOperator)
     ∷ (codes "X COUNT 5;X OCT 1", 2, TwiceDefined)
     ∷ []
 
@@ -76,6 +104,13 @@ refused =
     ∷ (codes " BLOCK", 1, BadOperand)
     ∷ (codes " OCTAL 5", 1, UnknownOperator)
     ∷ (codes " 2DNADR 400", 1, UnknownOperator)
+    ∷ (codes " OCT -20000", 1, BadOperand)
+    ∷ (codes " 2OCT 0000500000", 1, UnknownOperator)
+    ∷ (codes " VN 0633", 1, UnknownOperator)
+    ∷ (codes " 2DEC .5", 1, UnknownOperator)
+    ∷ (codes " DEC -1 B-14", 1, BadOperand)
+    ∷ (codes " -CADR 4000", 1, UnknownOperator)
+    ∷ (codes " BBCON 4000", 1, UnknownOperator)
     ∷ []
 
 each_refused : map (λ row. program Standard (source row.0)) refused ≡ map (λ row. Err (record { line = row.1; number = fault_number row.2 })) refused

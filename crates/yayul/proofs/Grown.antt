@@ -1,14 +1,15 @@
 -- What a name more in the table leaves as it is.
-use Rattle.std.proofs.Common.{◌≡◌, ◌≢◌, ℕ, Bool, false, List, [], ◌∷◌, ◌++◌, Option, Some, None, Result, Ok, Err, ◌⊎◌, inl, inr, refl, ap, sym, ◌∙◌}
+use Rattle.std.proofs.Common.{◌≡◌, ◌≢◌, ℕ, Bool, false, List, [], ◌∷◌, ◌++◌, map, Option, Some, None, Result, Ok, Err, ◌⊎◌, inl, inr, refl, ap, sym, ◌∙◌}
 use Rattle.std.proofs.lemmas.Bool.{cases_Bool}
 use Rattle.std.proofs.lemmas.List.Elements.{All-head, All-tail, All-weaker}
 use Rattle.std.specs.List.{flat_map}
+use Rattle.words.specs.Numbers.{neg}
 use Rattle.agc_text.specs.Tables.{same_name, value_in}
 use Rattle.rope.specs.Places.{Words, Placed, no_words, with_words}
 use Rattle.yayul.specs.Layout.{Request, and_then, moved_value, term_value, value_of}
-use Rattle.yayul.specs.Words.{addressed_word, far_address, fixed_place, content_words, request_words, request_faults}
+use Rattle.yayul.specs.Words.{addressed_word, bank_word, far_address, fixed_place, low_place, content_words, request_words, request_faults}
 use Rattle.yayul.specs.Program.{placed_from, least}
-use Rattle.yayul.specs.Language.{Addressed, Constant, Content, FarAddress, Fault, FaultKind, Fixed, Operand, Plain, Term, Undefined, Value}
+use Rattle.yayul.specs.Language.{Addressed, BankWord, Complemented, Constant, Constants, Content, FarAddress, FarComplement, Fault, FaultKind, Fixed, Operand, Plain, Term, Undefined, Value}
 use Rattle.yayul.specs.declared.language.Term.TheVariants as term
 use Rattle.yayul.specs.Inside.Waiting.{is_waiting, standing_words, standing_rope, standing_faults, Holds, AreKnown}
 
@@ -48,6 +49,12 @@ module _ (table more : List (List ℕ × Value)) where
   content-stays here extracode eb (Addressed i operand) = bind-stays (addressed_word i extracode) _ _ (value-stays here operand)
   content-stays here extracode eb (FarAddress operand) =
       bind-stays (λ place. Ok (far_address eb place.0 place.1)) _ _ (bind-stays fixed_place _ _ (value-stays here operand))
+  content-stays here extracode eb (Constants pair) = inr refl
+  content-stays here extracode eb (Complemented i operand) = bind-stays (λ words. Ok (map neg words)) _ _ (bind-stays (addressed_word i extracode) _ _ (value-stays here operand))
+  content-stays here extracode eb (FarComplement operand) =
+      bind-stays (λ place. Ok (map neg (far_address eb place.0 place.1))) _ _ (bind-stays low_place _ _ (bind-stays fixed_place _ _ (value-stays here operand)))
+  content-stays here extracode eb (BankWord operand) =
+      bind-stays (λ place. Ok (bank_word eb place.0 place.1 ∷ [])) _ _ (bind-stays low_place _ _ (bind-stays fixed_place _ _ (value-stays here operand)))
 
   request-stays : (r : Request) → Stays (request_words table r) (request_words (table ++ more) r)
   unfolding request_words

@@ -14,7 +14,7 @@ use Rattle.yayul.specs.Program.{Program, least, completed, program, unless_fault
 use Rattle.yayul.specs.Survey.{Survey, unmarked, known_after, extracode_known, moves, displaces, some_stands, wrong_byte, is_refused, layout_kinds, noted, passed_line, passed_lines, is_among, names_one, erases, is_same_byte, doubt, follows, kinds_in_order, is_one_of, finding, told_of, word_kinds, content_kinds, line_kinds, told_line, told_lines, looked_at, told}
 use Rattle.yayul.specs.Words.{content_words, request_words, request_faults, word_faults}
 use Rattle.yayul.specs.Inside.Answers.{lesser_kind, least_kind}
-use Rattle.yayul.specs.Language.{Language, Addressed, BadBank, BadLabel, BadOperand, Bank, BankFull, CodeInErasable, Constant, Content, Ebank, Equals, Erase, FarAddress, Fault, FaultKind, Gives, Label, LongLine, Malformed, Missing, Named, NeedsExtend, NoMemory, NotAscii, NotExtracode, Nothing, Operation, OutOfRange, PlaceTaken, Plain, Setloc, Term, TooManyLines, TwiceDefined, Undefined, Unknown, UnknownOperator, UsedTooEarly, Value, WrongKindOfAddress}
+use Rattle.yayul.specs.Language.{Language, Addressed, BadBank, BadLabel, BadOperand, Bank, BankFull, BankWord, CodeInErasable, Complemented, Constant, Constants, Content, Ebank, Equals, Erase, FarAddress, FarComplement, Fault, FaultKind, Gives, Label, LongLine, Malformed, Missing, Named, NeedsExtend, NoMemory, NotAscii, NotExtracode, Nothing, Operation, OutOfRange, PlaceTaken, Plain, Setloc, Term, TooManyLines, TwiceDefined, Undefined, Unknown, UnknownOperator, UsedTooEarly, Value, WrongKindOfAddress}
 use Rattle.yayul.specs.declared.doubt.Doubt.{Doubt}
 use Rattle.yayul.specs.declared.doubt.Known.{Known}
 use Rattle.yayul.specs.declared.finding.Finding.{Finding}
@@ -259,6 +259,10 @@ names_none operation = by_operation operation
     by_operation (Gives (Some (Plain i))) = refl
     by_operation (Gives (Some (Addressed i operand))) = among_none operand.term
     by_operation (Gives (Some (FarAddress operand))) = among_none operand.term
+    by_operation (Gives (Some (Constants pair))) = refl
+    by_operation (Gives (Some (Complemented i operand))) = among_none operand.term
+    by_operation (Gives (Some (FarComplement operand))) = among_none operand.term
+    by_operation (Gives (Some (BankWord operand))) = among_none operand.term
 
 same_as_none : (byte : Option ℕ) → is_same_byte byte None ≡ false
 same_as_none None = refl

@@ -1,13 +1,14 @@
 -- The words that stand for requests, while some wait.
-use Rattle.std.proofs.Common.{◌≡◌, ℕ, ◌+◌, Bool, true, false, ◌||◌, List, [], ◌∷◌, length, replicate, Option, Some, None, is_some, Result, Ok, Err, cond, refl, ap, ◌∙◌}
+use Rattle.std.proofs.Common.{◌≡◌, ℕ, ◌+◌, Bool, true, false, ◌||◌, List, [], ◌∷◌, length, map, replicate, Option, Some, None, is_some, Result, Ok, Err, cond, refl, ap, ◌∙◌}
 use Rattle.std.specs.List.{list_any}
 use Rattle.std.specs.Result.{result_unwrap_or}
 use Rattle.rope.specs.Places.{Words, no_words, stands}
 use Rattle.rope.proofs.PlaceLaws.{slot_at-no_words}
 use Rattle.yayul.specs.Operators.{field_size, bits_under}
 use Rattle.yayul.specs.Layout.{Request, and_then, width, stands_at, value_of}
-use Rattle.yayul.specs.Words.{addressed_word, far_address, fixed_place, field_of, content_words, request_words}
-use Rattle.yayul.specs.Language.{Addressed, Constant, Content, FarAddress, Fault, FaultKind, Fixed, Plain, Undefined, Value}
+use Rattle.words.specs.Numbers.{neg}
+use Rattle.yayul.specs.Words.{addressed_word, bank_word, far_address, low_place, fixed_place, field_of, content_words, request_words}
+use Rattle.yayul.specs.Language.{Addressed, BankWord, Complemented, Constant, Constants, Content, FarAddress, FarComplement, Fault, FaultKind, Fixed, Plain, Undefined, Value}
 use Rattle.yayul.specs.Inside.Waiting.{is_waiting, standing_words, standing_rope, Holds}
 use Rattle.yayul.proofs.Taken.{length-zeros, or-false, stands-with_words}
 
@@ -33,6 +34,27 @@ width-content_words table here extracode eb (Addressed i operand) = by_value (va
 width-content_words table here extracode eb (FarAddress operand) = by_place (and_then fixed_place (value_of Undefined table here operand))
   where
     by_place : (place : Result (ℕ × ℕ) FaultKind) → HasWidth 2 (and_then (λ p. Ok (far_address eb p.0 p.1)) place)
+    by_place (Ok place) = refl
+    by_place (Err kind) = tt
+width-content_words table here extracode eb (Constants None) = tt
+width-content_words table here extracode eb (Constants (Some words)) = refl
+width-content_words table here extracode eb (Complemented i operand) = by_value (value_of Undefined table here operand)
+  where
+    by_field : (field : Result ℕ FaultKind) → HasWidth 1 (and_then (λ words. Ok (map neg words)) (and_then (λ n. Ok ((i.least + n) ∷ [])) field))
+    by_field (Ok n) = refl
+    by_field (Err kind) = tt
+
+    by_value : (value : Result Value FaultKind) → HasWidth 1 (and_then (λ words. Ok (map neg words)) (and_then (addressed_word i extracode) value))
+    by_value (Ok value) = by_field (field_of i.takes (field_size (bits_under i.extracode i.bits extracode)) value)
+    by_value (Err kind) = tt
+width-content_words table here extracode eb (FarComplement operand) = by_place (and_then low_place (and_then fixed_place (value_of Undefined table here operand)))
+  where
+    by_place : (place : Result (ℕ × ℕ) FaultKind) → HasWidth 2 (and_then (λ p. Ok (map neg (far_address eb p.0 p.1))) place)
+    by_place (Ok place) = refl
+    by_place (Err kind) = tt
+width-content_words table here extracode eb (BankWord operand) = by_place (and_then low_place (and_then fixed_place (value_of Undefined table here operand)))
+  where
+    by_place : (place : Result (ℕ × ℕ) FaultKind) → HasWidth 1 (and_then (λ p. Ok (bank_word eb p.0 p.1 ∷ [])) place)
     by_place (Ok place) = refl
     by_place (Err kind) = tt
 

@@ -1,11 +1,13 @@
 -- The language of flight programs: what it has beyond the standard one, and what a line says in either.
-use Rattle.std.specs.Prelude.{ℕ, ◌+◌, ◌&&◌, Bool, List, [], ◌∷◌, length, drop, slice_get, codes, Option, None, Some, option_map, if◌then◌else◌}
-use Rattle.std.specs.Option.{option_or}
+use Rattle.std.specs.Prelude.{ℕ, ◌+◌, ◌*◌, ◌/◌, ◌%◌, ◌==◌, ◌&&◌, Bool, List, [], ◌∷◌, length, take, drop, slice_get, codes, Option, None, Some, option_map, if◌then◌else◌}
+use Rattle.std.specs.Option.{option_map_or, option_or}
+use Rattle.agc_text.specs.Digits.{number_of}
 use Rattle.agc_text.specs.Fields.{Piece, texts, fields, label_of, others_of}
 use Rattle.agc_text.specs.Tables.{value_in}
-use Rattle.yayul.specs.Operators.{operators, addressed}
-use Rattle.yayul.specs.Forms.{is_sign, first_is, is_digits, alone, number_in, moved_by, operand_in, operation_of, label_in, statement_of}
-use Rattle.yayul.specs.Language.{Address, All, Bank, BankRange, Channel, Equals, ErasablePlace, Flight, FlightOperator, Is, Language, Location, Nine, No, NoForm, Nothing, Numeral, Operand, Operation, Operator, PassedOver, Plus, Standard, Statement, Term, Twelve, TwoOrThree, Unknown}
+use Rattle.yayul.specs.Operators.{operators, addressed, code}
+use Rattle.yayul.specs.Forms.{is_sign, first_is, is_digits, alone, complemented, number_in, octal_in, with_form, moved_by, operand_in, operation_of, label_in, statement_of}
+use Rattle.yayul.specs.Scales.{decimal_content}
+use Rattle.yayul.specs.Language.{Address, All, Bank, BankRange, BankWord, Channel, Complemented, Constant, Constants, Content, Equals, ErasablePlace, FarComplement, FixedPlace, Flight, FlightOperator, Gives, Is, Language, Location, Nine, No, NoForm, Nothing, Numeral, Octals, One, Operand, Operation, Operator, PassedOver, Plus, Standard, Statement, Ten, Term, Twelve, Two, TwoOrThree, Unknown, VerbNoun}
 
 -- ## Counts
 -- a count: a sign and digits, which may end in `D`
@@ -42,7 +44,23 @@ flight_operators =
     ∷ (codes "BNKSUM", PassedOver)
     ∷ (codes "SUBRO", PassedOver)
     ∷ (codes "MEMORY", PassedOver)
-    ∷ (codes "OCTAL", FlightOperator.Standard Operator.Octal)
+    ∷ (codes "OCT", FlightOperator.Octal)
+    ∷ (codes "OCTAL", FlightOperator.Octal)
+    ∷ (codes "2OCT", Octals)
+    ∷ (codes "VN", VerbNoun)
+    ∷ (codes "DEC", FlightOperator.Decimal One)
+    ∷ (codes "2DEC", FlightOperator.Decimal Two)
+    ∷ (codes "BBCON", FlightOperator.BankWord)
+    ∷ (codes "-2CADR", FlightOperator.FarComplement)
+    ∷ (codes "-CADR", FlightOperator.Complemented (code 0 Twelve No FixedPlace))
+    ∷ (codes "-GENADR", FlightOperator.Complemented (code 0 Twelve No Address))
+    ∷ (codes "-CCS", FlightOperator.Complemented (code 0o10000 Ten No Address))
+    ∷ (codes "-1DNADR", FlightOperator.Complemented (code 0 Twelve No ErasablePlace))
+    ∷ (codes "-2DNADR", FlightOperator.Complemented (code 0o4000 Twelve No ErasablePlace))
+    ∷ (codes "-3DNADR", FlightOperator.Complemented (code 0o10000 Twelve No ErasablePlace))
+    ∷ (codes "-4DNADR", FlightOperator.Complemented (code 0o14000 Twelve No ErasablePlace))
+    ∷ (codes "-5DNADR", FlightOperator.Complemented (code 0o20000 Twelve No ErasablePlace))
+    ∷ (codes "-6DNADR", FlightOperator.Complemented (code 0o24000 Twelve No ErasablePlace))
     ∷ (codes "GENADR", FlightOperator.Standard (addressed 0 Twelve No Address))
     ∷ (codes "REMADR", FlightOperator.Standard (addressed 0 Twelve No Address))
     ∷ (codes "1DNADR", FlightOperator.Standard (addressed 0 Twelve No ErasablePlace))
@@ -73,25 +91,59 @@ abbrev pub bank_or_here : Location → BankRange → List (List ℕ) → Operati
 bank_or_here here taken [] = Bank All (bank_at here)
 bank_or_here here taken (text ∷ rest) = Bank taken (alone number_in (text ∷ rest))
 
--- what an operator says with the fields after it, where it stands at a location
-abbrev pub flight_operation_of : Location → Option FlightOperator → List (List ℕ) → Operation
-flight_operation_of here None rest = Unknown
-flight_operation_of here (Some PassedOver) rest = Nothing
-flight_operation_of here (Some FlightOperator.Equals) rest = Equals (operand_or_here rest)
-flight_operation_of here (Some (FlightOperator.Bank taken)) rest = bank_or_here here taken rest
-flight_operation_of here (Some (FlightOperator.Standard operator)) rest = operation_of (Some operator) rest
+-- octal digits; or a sign and octal digits, which a minus complements
+abbrev pub signed_octal_in : List ℕ → Numeral
+signed_octal_in text =
+    if first_is (λ byte. byte == 0o53) text then octal_in (drop 1 text)
+    else if first_is (λ byte. byte == 0o55) text then complemented (octal_in (drop 1 text))
+    else octal_in text
+
+-- two words of what two texts are as numbers
+abbrev pub both : Numeral → Numeral → Option Content
+both (Is first) (Is second) = Some (Constants (Some (record { first = first; second = second })))
+both _ _ = None
+
+-- ten octal digits, five to a word
+abbrev pub octals_in : List (List ℕ) → Option Content
+octals_in (text ∷ []) = if length text == 10 then both (octal_in (take 5 text)) (octal_in (drop 5 text)) else None
+octals_in _ = None
+
+-- a verb and a noun of two decimal digits each, the verb from the eighth bit on
+abbrev pub verb_noun_in : List ℕ → Numeral
+verb_noun_in text = if length text == 4 then option_map_or (λ n. Is (n / 100 * 0o200 + n % 100)) (number_of 10 4 text) NoForm else NoForm
+
+-- the fields after an operand, which are scales where it is a decimal constant
+abbrev pub scales_after : List ℕ → Option Piece → List (List ℕ)
+scales_after line None = []
+scales_after line (Some operand) = texts (fields (after_field line operand))
+
+-- what an operator says with the fields after it, where it stands at a location, and where these stand after its operand
+abbrev pub flight_operation_of : Location → List (List ℕ) → Option FlightOperator → List (List ℕ) → Operation
+flight_operation_of here scales None rest = Unknown
+flight_operation_of here scales (Some PassedOver) rest = Nothing
+flight_operation_of here scales (Some FlightOperator.Equals) rest = Equals (operand_or_here rest)
+flight_operation_of here scales (Some (FlightOperator.Bank taken)) rest = bank_or_here here taken rest
+flight_operation_of here scales (Some FlightOperator.Octal) rest = Gives (with_form Constant (alone signed_octal_in rest))
+flight_operation_of here scales (Some Octals) rest = Gives (octals_in rest)
+flight_operation_of here scales (Some VerbNoun) rest = Gives (with_form Constant (alone verb_noun_in rest))
+flight_operation_of here scales (Some (FlightOperator.Decimal precision)) [] = Gives None
+flight_operation_of here scales (Some (FlightOperator.Decimal precision)) (text ∷ rest) = Gives (decimal_content precision text scales)
+flight_operation_of here scales (Some (FlightOperator.Complemented i)) rest = Gives (option_map (Complemented i) (operand_in rest))
+flight_operation_of here scales (Some FlightOperator.FarComplement) rest = Gives (option_map FarComplement (operand_in rest))
+flight_operation_of here scales (Some FlightOperator.BankWord) rest = Gives (option_map BankWord (operand_in rest))
+flight_operation_of here scales (Some (FlightOperator.Standard operator)) rest = operation_of (Some operator) rest
 
 -- ## Statements
 -- what the fields besides the label say
-abbrev pub flight_operation_in : Location → List Piece → Operation
-flight_operation_in here [] = Nothing
-flight_operation_in here (operator ∷ rest) = flight_operation_of here (flight_operator operator.text) (texts rest)
+abbrev pub flight_operation_in : Location → List ℕ → List Piece → Operation
+flight_operation_in here line [] = Nothing
+flight_operation_in here line (operator ∷ rest) = flight_operation_of here (scales_after line (slice_get rest 0)) (flight_operator operator.text) (texts rest)
 
 -- what a line says that has no count
 unfoldable pub uncounted_statement : Location → List ℕ → Statement
 uncounted_statement here line = record {
   label = label_in (option_map (λ piece. piece.text) (label_of (fields line)));
-  operation = flight_operation_in here (others_of (fields line));
+  operation = flight_operation_in here line (others_of (fields line));
 }
 
 -- what a line says in a language, where it stands at a location

@@ -5,11 +5,11 @@ pub use Rattle.yayul.specs.declared.language.BankRange.TheVariants.{All, TwoOrTh
 pub use Rattle.yayul.specs.declared.language.Bits.{Bits}
 pub use Rattle.yayul.specs.declared.language.Bits.TheVariants.{Nine, Ten, Twelve}
 pub use Rattle.yayul.specs.declared.language.Content.{Content}
-pub use Rattle.yayul.specs.declared.language.Content.TheVariants.{Constant, Plain, Addressed, FarAddress}
+pub use Rattle.yayul.specs.declared.language.Content.TheVariants.{Constant, Plain, Addressed, FarAddress, Constants, Complemented, FarComplement, BankWord}
 pub use Rattle.yayul.specs.declared.language.Extracode.{Extracode}
 pub use Rattle.yayul.specs.declared.language.Extracode.TheVariants.{No, Yes, Either}
 pub use Rattle.yayul.specs.declared.language.FlightOperator.{FlightOperator}
-pub use Rattle.yayul.specs.declared.language.FlightOperator.TheVariants.{PassedOver}
+pub use Rattle.yayul.specs.declared.language.FlightOperator.TheVariants.{PassedOver, Octals, VerbNoun}
 pub use Rattle.yayul.specs.declared.language.Label.{Label}
 pub use Rattle.yayul.specs.declared.language.Label.TheVariants.{Missing, Malformed, Named}
 pub use Rattle.yayul.specs.declared.language.Language.{Language}
@@ -21,6 +21,8 @@ pub use Rattle.yayul.specs.declared.language.Operand.{Operand}
 pub use Rattle.yayul.specs.declared.language.Operation.{Operation}
 pub use Rattle.yayul.specs.declared.language.Operation.TheVariants.{Nothing, Unknown, Setloc, Bank, Erase, Equals, Ebank, Gives}
 pub use Rattle.yayul.specs.declared.language.Operator.{Operator}
+pub use Rattle.yayul.specs.declared.language.Precision.{Precision}
+pub use Rattle.yayul.specs.declared.language.Precision.TheVariants.{One, Two}
 pub use Rattle.yayul.specs.declared.language.Shift.{Shift}
 pub use Rattle.yayul.specs.declared.language.Shift.TheVariants.{Plus, Minus}
 pub use Rattle.yayul.specs.declared.language.Statement.{Statement}

@@ -11,7 +11,7 @@ use Rattle.symbols.specs.Values.{place_of}
 use Rattle.yayul.specs.Operators.{is_bank, stays_extended}
 use Rattle.yayul.specs.Forms.{greatest_number}
 use Rattle.yayul.specs.Flight.{statement_in}
-use Rattle.yayul.specs.Language.{Addressed, BadBank, BadLabel, BadOperand, Bank, BankFull, BankRange, CodeInErasable, Constant, Content, Ebank, Equals, Erasable, Erase, FarAddress, Fault, FaultKind, Fixed, Gives, Is, Label, Language, Location, LongLine, Malformed, Minus, Missing, Named, NeedsExtend, NoForm, NoMemory, NotAscii, NotExtracode, Nothing, Num, Numeral, Operand, Operation, OutOfRange, PlaceTaken, Plain, Plus, Setloc, Shift, Statement, Term, TooLarge, TooManyLines, TwiceDefined, Undefined, Unknown, UnknownOperator, UsedTooEarly, Value, WrongKindOfAddress}
+use Rattle.yayul.specs.Language.{Addressed, BadBank, BadLabel, BadOperand, Bank, BankFull, BankRange, BankWord, CodeInErasable, Complemented, Constant, Constants, Content, Ebank, Equals, Erasable, Erase, FarAddress, FarComplement, Fault, FaultKind, Fixed, Gives, Is, Label, Language, Location, LongLine, Malformed, Minus, Missing, Named, NeedsExtend, NoForm, NoMemory, NotAscii, NotExtracode, Nothing, Num, Numeral, Operand, Operation, OutOfRange, PlaceTaken, Plain, Plus, Setloc, Shift, Statement, Term, TooLarge, TooManyLines, TwiceDefined, Undefined, Unknown, UnknownOperator, UsedTooEarly, Value, WrongKindOfAddress}
 
 -- ## Faults
 -- the number that a kind of fault is told by
@@ -148,6 +148,10 @@ width (Constant number) = 1
 width (Plain i) = 1
 width (Addressed i operand) = 1
 width (FarAddress operand) = 2
+width (Constants pair) = 2
+width (Complemented i operand) = 1
+width (FarComplement operand) = 2
+width (BankWord operand) = 1
 
 -- a word of a request stands at a place
 abbrev pub stands_at : ℕ → ℕ → Request → Bool
@@ -258,7 +262,7 @@ abbrev pub extends : Content → Bool → Bool
 extends (Constant number) extracode = false
 extends (Plain i) extracode = i.extends
 extends (Addressed i operand) extracode = stays_extended i.extracode && extracode
-extends (FarAddress operand) extracode = false
+extends _ extracode = false
 
 -- a layout with the words of one request more
 abbrev pub asked : Layout → Request → Layout

@@ -1,6 +1,7 @@
 pub mod Language
 pub mod Operators
 pub mod Forms
+pub mod Scales
 pub mod Flight
 pub mod Layout
 pub mod Words

@@ -9,7 +9,7 @@ use Rattle.agc_text.specs.Tables.{value_in}
 use Rattle.yayul.specs.Layout.{Layout, start, word_place, standing, text_faults, fault_number, statement_on, line_effect, extends}
 use Rattle.yayul.specs.Words.{content_words, extracode_of, extracode_fault}
 use Rattle.std.specs.Result.{result_err}
-use Rattle.yayul.specs.Language.{Addressed, BadBank, BadLabel, BadOperand, Bank, BankFull, CodeInErasable, Content, Ebank, Equals, Erase, FarAddress, FaultKind, Fixed, Gives, Label, Language, LongLine, Malformed, Missing, Named, NeedsExtend, NotAscii, NoMemory, NotExtracode, Num, Operation, OutOfRange, PlaceTaken, Setloc, Term, TooManyLines, TwiceDefined, Undefined, Unknown, UnknownOperator, UsedTooEarly, Value, WrongKindOfAddress}
+use Rattle.yayul.specs.Language.{Addressed, BadBank, BadLabel, BadOperand, Bank, BankFull, BankWord, CodeInErasable, Complemented, Content, Ebank, Equals, Erase, FarAddress, FarComplement, FaultKind, Fixed, Gives, Label, Language, LongLine, Malformed, Missing, Named, NeedsExtend, NotAscii, NoMemory, NotExtracode, Num, Operation, OutOfRange, PlaceTaken, Setloc, Term, TooManyLines, TwiceDefined, Undefined, Unknown, UnknownOperator, UsedTooEarly, Value, WrongKindOfAddress}
 use Rattle.yayul.specs.declared.finding.Span.{Span}
 use Rattle.yayul.specs.declared.finding.Finding.{Finding}
 use Rattle.yayul.specs.declared.doubt.Known.{Known}
@@ -155,6 +155,9 @@ is_among table _ = false
 abbrev pub content_names_one : List (List ℕ × Value) → Content → Bool
 content_names_one table (Addressed i operand) = is_among table operand.term
 content_names_one table (FarAddress operand) = is_among table operand.term
+content_names_one table (Complemented i operand) = is_among table operand.term
+content_names_one table (FarComplement operand) = is_among table operand.term
+content_names_one table (BankWord operand) = is_among table operand.term
 content_names_one table _ = false
 
 abbrev pub names_one : List (List ℕ × Value) → Operation → Bool

@@ -1,11 +1,12 @@
 -- The words that lines ask for, once all symbols are known, and the faults of the kind word.
-use Rattle.std.specs.Prelude.{ℕ, ◌+◌, ◌*◌, ◌%◌, not, Bool, nat_lt, nat_le, List, [], ◌∷◌, flat_map, Option, None, Result, Ok, Err, ok_or, if◌then◌else◌}
+use Rattle.std.specs.Prelude.{ℕ, ◌+◌, ◌*◌, ◌%◌, not, Bool, nat_lt, nat_le, List, [], ◌∷◌, map, flat_map, Option, None, Result, Ok, Err, ok_or, if◌then◌else◌}
 use Rattle.std.specs.Result.{result_err}
+use Rattle.words.specs.Numbers.{neg}
 use Rattle.space.specs.Places.{window, fb_of, sup_of}
 use Rattle.space.specs.declared.place.Linear.TheVariants as linear
 use Rattle.yayul.specs.Operators.{field_size, bits_under}
 use Rattle.yayul.specs.Layout.{Request, fault_if, standing, on_line, and_then, value_of, location_at, erasable_place}
-use Rattle.yayul.specs.Language.{Address, Addressed, AddressedCode, Channel, Constant, Content, Either, Erasable, ErasablePlace, Extracode, FarAddress, Fault, FaultKind, Fixed, FixedAddress, FixedPlace, Location, NeedsExtend, No, NotExtracode, Num, OutOfRange, Pair, Plain, Takes, Undefined, Value, WrongKindOfAddress, Yes}
+use Rattle.yayul.specs.Language.{Address, Addressed, AddressedCode, BankWord, Channel, Complemented, Constant, Constants, Content, Either, Erasable, ErasablePlace, Extracode, FarAddress, FarComplement, Fault, FaultKind, Fixed, FixedAddress, FixedPlace, Location, NeedsExtend, No, NotExtracode, Num, OutOfRange, Pair, Plain, Takes, Undefined, Value, WrongKindOfAddress, Yes}
 
 -- the address of a value: a number below 010000 is its own, and a place has its window
 abbrev pub address_of : Value → Result ℕ FaultKind
@@ -61,6 +62,10 @@ bank_word eb bank offset = fb_of (linear.Fixed bank offset) * 0o2000 + (if sup_o
 abbrev pub far_address : ℕ → ℕ → ℕ → List ℕ
 far_address eb bank offset = window (linear.Fixed bank offset) ∷ bank_word eb bank offset ∷ []
 
+-- the place of a bank that no superbank bit selects: below 030
+abbrev pub low_place : ℕ × ℕ → Result (ℕ × ℕ) FaultKind
+low_place place = if nat_lt place.0 0o30 then Ok place else Err WrongKindOfAddress
+
 -- the words of a content at a fixed place, where extracode is in force or is not, with an EB, its symbols read in a table
 abbrev pub content_words : List (List ℕ × Value) → Value → Bool → ℕ → Content → Result (List ℕ) FaultKind
 content_words table here extracode eb (Constant number) = and_then (λ word. Ok (word ∷ [])) (ok_or number OutOfRange)
@@ -68,6 +73,12 @@ content_words table here extracode eb (Plain i) = Ok (i.code ∷ [])
 content_words table here extracode eb (Addressed i operand) = and_then (addressed_word i extracode) (value_of Undefined table here operand)
 content_words table here extracode eb (FarAddress operand) =
     and_then (λ place. Ok (far_address eb place.0 place.1)) (and_then fixed_place (value_of Undefined table here operand))
+content_words table here extracode eb (Constants pair) = and_then (λ words. Ok (words.first ∷ words.second ∷ [])) (ok_or pair OutOfRange)
+content_words table here extracode eb (Complemented i operand) = and_then (λ words. Ok (map neg words)) (and_then (addressed_word i extracode) (value_of Undefined table here operand))
+content_words table here extracode eb (FarComplement operand) =
+    and_then (λ place. Ok (map neg (far_address eb place.0 place.1))) (and_then low_place (and_then fixed_place (value_of Undefined table here operand)))
+content_words table here extracode eb (BankWord operand) =
+    and_then (λ place. Ok (bank_word eb place.0 place.1 ∷ [])) (and_then low_place (and_then fixed_place (value_of Undefined table here operand)))
 
 -- the words of a request
 unfoldable pub request_words : List (List ℕ × Value) → Request → Result (List ℕ) FaultKind

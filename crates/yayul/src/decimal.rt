@@ -27,7 +27,7 @@ pub(crate) fn decimal_in(text: &[u8]) -> Numeral
 }
 
 // The complement of a word.
-fn complemented(number: Numeral) -> Numeral
+pub(crate) fn complemented(number: Numeral) -> Numeral
     ensures { result ≡ complemented number }
 {
     match number {
@@ -52,7 +52,7 @@ fn magnitude_in(text: &[u8]) -> Numeral
 }
 
 // What stands before the first point.
-fn before_point(text: &[u8]) -> &[u8]
+pub(crate) fn before_point(text: &[u8]) -> &[u8]
     ensures value { result.now ≡ before_point text.now }
     ensures within { length result.now ≤ length text.now }
 {

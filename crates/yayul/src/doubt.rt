@@ -101,7 +101,10 @@ impl Content {
         match self {
             Content::Addressed(_, operand) => operand.is_among(symbols),
             Content::FarAddress(operand) => operand.is_among(symbols),
-            Content::Constant(_) | Content::Plain(_) => false,
+            Content::Complemented(_, operand) => operand.is_among(symbols),
+            Content::FarComplement(operand) => operand.is_among(symbols),
+            Content::BankWord(operand) => operand.is_among(symbols),
+            Content::Constant(_) | Content::Plain(_) | Content::Constants(_) => false,
         }
     }
 }

@@ -1,20 +1,26 @@
 //! What a line of a flight program says.
 
-ghost use Rattle.std.specs.Prelude.{◌≡◌, true, IfSome, drop, ◌+◌, length, Some};
+ghost use Rattle.std.specs.Prelude.{◌≡◌, true, IfSome, option_and_then, drop, ◌+◌, length, Some};
 ghost use Rattle.std.specs.Option.{option_map};
 ghost use Rattle.agc_text.specs.Tables.{value_in};
 ghost use Rattle.agc_text.specs.Views.{piece, IsSliceOf, end_of};
-ghost use Rattle.yayul.specs.Flight.{is_count, without_count, uncounted, flight_operators, flight_operator, operand_or_here, bank_at, bank_or_here, flight_operation_of, uncounted_statement};
+ghost use Rattle.yayul.specs.Flight.{is_count, without_count, uncounted, flight_operators, flight_operator, operand_or_here, scales_after, signed_octal_in, both, octals_in, verb_noun_in, bank_at, bank_or_here, flight_operation_of, uncounted_statement};
+ghost use Rattle.yayul.specs.Forms.{alone};
+ghost use Rattle.yayul.specs.Scales.{decimal_content};
 ghost use Rattle.yayul.specs.Inside.Codes.{flight_has_room};
 ghost use Rattle.yayul.specs.Inside.Representation.{arguments_of, flight_operation_by};
 
+use crate::decimal::complemented;
+use crate::instruction::AddressedInstruction;
 use crate::language::{
-    BankRange, FlightOperator, Location, Numeral, Operand, Operation, Shift, Statement, Term,
+    BankRange, Content, DoubleWord, FlightOperator, Location, Numeral, Operand, Operation,
+    Precision, Shift, Statement, Term,
 };
-use crate::number::{begins_with_sign, is_digits};
+use crate::number::{begins_with_sign, is_digits, octal_in};
 use crate::operator::flight_operator_of;
-use crate::statement::{bank_in, label_in, operand_in, operation_of};
-use agc_text::{Field, Line};
+use crate::scaled::decimal_content;
+use crate::statement::{bank_in, constant_of, label_in, operand_in, operation_of};
+use agc_text::{Field, Line, decimal};
 use words::Word;
 
 /// What a line says, where it stands at a location.
@@ -64,16 +70,17 @@ fn uncounted_statement(here: Location, text: &[u8]) -> Statement
     let line = Line::of(text);
     Statement {
         label: label_in(line.label),
-        operation: operation_by(here, &line),
+        operation: operation_by(here, text, &line),
     }
 }
 
 // What the fields besides the label say.
-fn operation_by(here: Location, line: &Line<'_>) -> Operation
-    ensures { result ≡ flight_operation_by here line.now }
+fn operation_by(here: Location, text: &[u8], line: &Line<'_>) -> Operation
+    requires { IfSome line.now.operand (IsSliceOf text.now) }
+    ensures { result ≡ flight_operation_by here text.now line.now }
 {
     match line.operator {
-        Some(operator) => flight_operation_of(here, flight_operator_of(operator.text), line),
+        Some(operator) => flight_operation_of(here, flight_operator_of(operator.text), text, line),
         None => Operation::Nothing,
     }
 }
@@ -82,17 +89,122 @@ fn operation_by(here: Location, line: &Line<'_>) -> Operation
 fn flight_operation_of(
     here: Location,
     operator: Option<FlightOperator>,
+    text: &[u8],
     line: &Line<'_>,
 ) -> Operation
-    requires { IfSome operator (λ operator. flight_has_room operator ≡ true) }
-    ensures { result ≡ flight_operation_of here operator (arguments_of line.now) }
+    requires fits { IfSome operator (λ operator. flight_has_room operator ≡ true) }
+    requires slice { IfSome line.now.operand (IsSliceOf text.now) }
+    ensures { result ≡ flight_operation_of here (scales_after text.now (option_map piece line.now.operand)) operator (arguments_of line.now) }
 {
     match operator {
         None => Operation::Unknown,
         Some(FlightOperator::PassedOver) => Operation::Nothing,
         Some(FlightOperator::Equals) => Operation::Equals(operand_or_here(line)),
         Some(FlightOperator::Bank(banks)) => bank_or_here(here, banks, line),
+        Some(FlightOperator::Octal) => Operation::Gives(constant_of(signed_octal_alone(line))),
+        Some(FlightOperator::Octals) => Operation::Gives(octals_alone(line)),
+        Some(FlightOperator::VerbNoun) => Operation::Gives(constant_of(verb_noun_alone(line))),
+        Some(FlightOperator::Decimal(precision)) => {
+            Operation::Gives(decimal_on(precision, text, line))
+        }
+        Some(FlightOperator::Complemented(code)) => Operation::Gives(match operand_in(line) {
+            Some(operand) => Some(Content::Complemented(AddressedInstruction::new(code), operand)),
+            None => None,
+        }),
+        Some(FlightOperator::FarComplement) => Operation::Gives(match operand_in(line) {
+            Some(operand) => Some(Content::FarComplement(operand)),
+            None => None,
+        }),
+        Some(FlightOperator::BankWord) => Operation::Gives(match operand_in(line) {
+            Some(operand) => Some(Content::BankWord(operand)),
+            None => None,
+        }),
         Some(FlightOperator::Standard(operator)) => operation_of(Some(operator), line),
+    }
+}
+
+// The octal digits, where no further field stands.
+fn signed_octal_alone(line: &Line<'_>) -> Numeral
+    ensures { result ≡ alone signed_octal_in (arguments_of line.now) }
+{
+    match (line.operand, line.offset) {
+        (Some(operand), None) => signed_octal_in(operand.text),
+        _ => Numeral::NoForm,
+    }
+}
+
+// Octal digits, or a sign and octal digits, which a minus complements.
+fn signed_octal_in(text: &[u8]) -> Numeral
+    ensures { result ≡ signed_octal_in text.now }
+{
+    match text {
+        [b'+', digits @ ..] => octal_in(digits),
+        [b'-', digits @ ..] => complemented(octal_in(digits)),
+        _ => octal_in(text),
+    }
+}
+
+// Ten octal digits, where no further field stands.
+fn octals_alone(line: &Line<'_>) -> Option<Content>
+    ensures { result ≡ octals_in (arguments_of line.now) }
+{
+    match (line.operand, line.offset) {
+        (Some(operand), None) if operand.text.len() == 10 => {
+            both(octal_in(&operand.text[..5]), octal_in(&operand.text[5..]))
+        }
+        _ => None,
+    }
+}
+
+// Two words of what two texts are as numbers.
+fn both(first: Numeral, second: Numeral) -> Option<Content>
+    ensures { result ≡ both first second }
+{
+    let Numeral::Is(first) = first else {
+        return None;
+    };
+    let Numeral::Is(second) = second else {
+        return None;
+    };
+    Some(Content::Constants(Some(DoubleWord { first, second })))
+}
+
+// The verb and the noun, where no further field stands.
+fn verb_noun_alone(line: &Line<'_>) -> Numeral
+    ensures { result ≡ alone verb_noun_in (arguments_of line.now) }
+{
+    match (line.operand, line.offset) {
+        (Some(operand), None) => verb_noun_in(operand.text),
+        _ => Numeral::NoForm,
+    }
+}
+
+// The decimal constant of a line, with its scales.
+fn decimal_on(precision: Precision, text: &[u8], line: &Line<'_>) -> Option<Content>
+    requires { IfSome line.now.operand (IsSliceOf text.now) }
+    ensures { result ≡ option_and_then (λ f. decimal_content precision f.text.now (scales_after text.now (Some (piece f)))) line.now.operand }
+{
+    let operand = line.operand?;
+    decimal_content(
+        precision,
+        operand.text,
+        &text[operand.start + operand.text.len()..],
+    )
+}
+
+// A verb and a noun of two decimal digits each, the verb from the eighth bit on.
+fn verb_noun_in(text: &[u8]) -> Numeral
+    ensures { result ≡ verb_noun_in text.now }
+{
+    if text.len() != 4 {
+        return Numeral::NoForm;
+    }
+    match decimal(text, 4) {
+        Some(number) => {
+            let word = number / 100 * 0o200 + number % 100;
+            Numeral::Is(Word::of_low_bits(word as u16))
+        }
+        None => Numeral::NoForm,
     }
 }
 

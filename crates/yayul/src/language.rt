@@ -107,6 +107,13 @@ pub(crate) enum Operator {
     ToNext(AddressedCode),
 }
 
+/// How many words a constant has.
+#[derive(Clone, Copy, Drop)]
+pub(crate) enum Precision {
+    One,
+    Two,
+}
+
 /// What an operator of the language of flight programs does.
 #[derive(Clone, Copy, Drop)]
 pub(crate) enum FlightOperator {
@@ -116,6 +123,20 @@ pub(crate) enum FlightOperator {
     Equals,
     /// Moves the location past the words of a bank, or of its own.
     Bank(BankRange),
+    /// Gives a word of octal digits, which a sign may stand before.
+    Octal,
+    /// Gives two words of five octal digits each.
+    Octals,
+    /// Gives a word of a verb and a noun.
+    VerbNoun,
+    /// Gives the words of a decimal constant, which may have scales.
+    Decimal(Precision),
+    /// Gives the complement of the word of a code with an operand in its field.
+    Complemented(AddressedCode),
+    /// Gives the complements of the words of 2CADR.
+    FarComplement,
+    /// Gives the second word of 2CADR.
+    BankWord,
     /// What an operator of the standard language does.
     Standard(Operator),
 }
@@ -167,6 +188,13 @@ pub(crate) enum Label {
     Named(Name),
 }
 
+/// Two words, one after the other.
+#[derive(Clone, Copy, Drop)]
+pub(crate) struct DoubleWord {
+    pub(crate) first: Word,
+    pub(crate) second: Word,
+}
+
 /// What the words of a line are made of.
 #[derive(Drop)]
 pub(crate) enum Content {
@@ -178,6 +206,14 @@ pub(crate) enum Content {
     Addressed(AddressedInstruction, Operand),
     /// Two words: the address of a fixed place, and what selects it.
     FarAddress(Operand),
+    /// Two constants, if they are in their range.
+    Constants(Option<DoubleWord>),
+    /// The complement of the word of a code and the operand of its field.
+    Complemented(AddressedInstruction, Operand),
+    /// The complements of the address of a fixed place, and of what selects it.
+    FarComplement(Operand),
+    /// What selects a fixed place.
+    BankWord(Operand),
 }
 
 /// What the fields besides the label say. An operand or a content that stands is of its form, and no further field stands.

@@ -28,6 +28,7 @@ mod operand;
 mod operator;
 mod placing;
 mod request;
+mod scaled;
 mod source_rows;
 mod statement;
 mod survey;

@@ -10,7 +10,8 @@ ghost use Rattle.yayul.specs.Inside.Codes.{has_room, flight_has_room};
 
 use crate::faults::FaultKind;
 use crate::language::{
-    AddressedCode, BankRange, Bits, Extracode, FlightOperator, Operator, PlainCode, Takes,
+    AddressedCode, BankRange, Bits, Extracode, FlightOperator, Operator, PlainCode, Precision,
+    Takes,
 };
 use symbols::FixedBank;
 
@@ -118,6 +119,13 @@ macro_rules! to_next {
     };
 }
 
+// The complement of a basic code with a field.
+macro_rules! complement {
+    ($least:literal, $bits:ident, $takes:ident) => {
+        FlightOperator::Complemented(code!($least, $bits, No, $takes))
+    };
+}
+
 // Each operator by its name, in a table for each length of names.
 const OPERATORS_OF_ONE: [(&str, Operator); 1] = [("=", Operator::Equals)];
 
@@ -207,7 +215,7 @@ const OPERATORS_OF_SIX: [(&str, Operator); 11] = [
 ];
 
 // Each operator that the standard language lacks, or has with fewer forms.
-const FLIGHT_OPERATORS: [(&str, FlightOperator); 19] = [
+const FLIGHT_OPERATORS: [(&str, FlightOperator); 35] = [
     ("EQUALS", FlightOperator::Equals),
     ("=", FlightOperator::Equals),
     ("BANK", FlightOperator::Bank(BankRange::All)),
@@ -217,7 +225,23 @@ const FLIGHT_OPERATORS: [(&str, FlightOperator); 19] = [
     ("BNKSUM", FlightOperator::PassedOver),
     ("SUBRO", FlightOperator::PassedOver),
     ("MEMORY", FlightOperator::PassedOver),
-    ("OCTAL", FlightOperator::Standard(Operator::Octal)),
+    ("OCT", FlightOperator::Octal),
+    ("OCTAL", FlightOperator::Octal),
+    ("2OCT", FlightOperator::Octals),
+    ("VN", FlightOperator::VerbNoun),
+    ("DEC", FlightOperator::Decimal(Precision::One)),
+    ("2DEC", FlightOperator::Decimal(Precision::Two)),
+    ("BBCON", FlightOperator::BankWord),
+    ("-2CADR", FlightOperator::FarComplement),
+    ("-CADR", complement!(0o0, Twelve, FixedPlace)),
+    ("-GENADR", complement!(0o0, Twelve, Address)),
+    ("-CCS", complement!(0o10000, Ten, Address)),
+    ("-1DNADR", complement!(0o0, Twelve, ErasablePlace)),
+    ("-2DNADR", complement!(0o4000, Twelve, ErasablePlace)),
+    ("-3DNADR", complement!(0o10000, Twelve, ErasablePlace)),
+    ("-4DNADR", complement!(0o14000, Twelve, ErasablePlace)),
+    ("-5DNADR", complement!(0o20000, Twelve, ErasablePlace)),
+    ("-6DNADR", complement!(0o24000, Twelve, ErasablePlace)),
     ("GENADR", FlightOperator::Standard(constant!(Address))),
     ("REMADR", FlightOperator::Standard(constant!(Address))),
     ("1DNADR", FlightOperator::Standard(constant!(ErasablePlace))),

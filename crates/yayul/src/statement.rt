@@ -48,6 +48,10 @@ impl Content {
             Content::Plain(_) => 1,
             Content::Addressed(..) => 1,
             Content::FarAddress(_) => 2,
+            Content::Constants(_) => 2,
+            Content::Complemented(..) => 1,
+            Content::FarComplement(_) => 2,
+            Content::BankWord(_) => 1,
         }
     }
 
@@ -60,6 +64,10 @@ impl Content {
             Content::Plain(plain) => plain.code().extracode,
             Content::Addressed(addressed, _) => addressed.code().extracode,
             Content::FarAddress(_) => Extracode::No,
+            Content::Constants(_) => Extracode::No,
+            Content::Complemented(..) => Extracode::No,
+            Content::FarComplement(_) => Extracode::No,
+            Content::BankWord(_) => Extracode::No,
         }
     }
 
@@ -74,6 +82,10 @@ impl Content {
                 extracode && matches!(addressed.code().extracode, Extracode::Either)
             }
             Content::FarAddress(_) => false,
+            Content::Constants(_) => false,
+            Content::Complemented(..) => false,
+            Content::FarComplement(_) => false,
+            Content::BankWord(_) => false,
         }
     }
 }
@@ -168,7 +180,7 @@ pub(crate) fn operand_in(line: &Line<'_>) -> Option<Operand>
 }
 
 // A constant, where it has a number's form.
-fn constant_of(number: Numeral) -> Option<Content>
+pub(crate) fn constant_of(number: Numeral) -> Option<Content>
     ensures { result ≡ with_form content.Constant number }
 {
     match number {

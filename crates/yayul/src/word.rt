@@ -1,10 +1,11 @@
 //! The words that a line gives.
 
-ghost use Rattle.std.specs.Prelude.{◌≡◌, ◌+◌, ◌<◌, ◌≤◌, ◌∷◌, [], true, false, length, replicate, nat_le, IfOk, Ok};
+ghost use Rattle.std.specs.Prelude.{◌≡◌, ◌+◌, ◌<◌, ◌≤◌, ◌∷◌, [], true, false, length, map, replicate, nat_le, IfOk, Ok};
 ghost use Rattle.std.specs.Result.{result_err, result_map_both};
 ghost use Rattle.rope.specs.Places.{bank_words, stands, with_words};
 ghost use Rattle.yayul.specs.Layout.{standing, width, value_of, and_then};
-ghost use Rattle.yayul.specs.Words.{accepted, addressed_word, address_of, address_below, channel_in, complete_address, fixed_place, bank_word, far_address, field_of, content_words, request_words, request_faults, extracode_of, extracode_fault};
+ghost use Rattle.words.specs.Numbers.{neg};
+ghost use Rattle.yayul.specs.Words.{low_place, accepted, addressed_word, address_of, address_below, channel_in, complete_address, fixed_place, bank_word, far_address, field_of, content_words, request_words, request_faults, extracode_of, extracode_fault};
 ghost use Rattle.yayul.specs.Program.{placed, placed_from};
 ghost use Rattle.yayul.specs.Inside.Answers.{least_kind};
 ghost use Rattle.yayul.specs.Inside.Codes.{greatest_code, greatest_field, greatest_with_field};
@@ -30,6 +31,18 @@ pub(crate) enum LineWords {
     Two(Word, Word),
 }
 
+impl LineWords {
+    // Their complements.
+    fn complemented(self) -> LineWords
+        ensures { words_in result ≡ map neg (words_in self) }
+    {
+        match self {
+            LineWords::One(word) => LineWords::One(word.neg()),
+            LineWords::Two(first, second) => LineWords::Two(first.neg(), second.neg()),
+        }
+    }
+}
+
 impl Content {
     // As many words of zero as it gives.
     pub(crate) fn zeros(&self) -> LineWords
@@ -40,6 +53,10 @@ impl Content {
             Content::Plain(_) => LineWords::One(Word::ZERO),
             Content::Addressed(..) => LineWords::One(Word::ZERO),
             Content::FarAddress(_) => LineWords::Two(Word::ZERO, Word::ZERO),
+            Content::Constants(_) => LineWords::Two(Word::ZERO, Word::ZERO),
+            Content::Complemented(..) => LineWords::One(Word::ZERO),
+            Content::FarComplement(_) => LineWords::Two(Word::ZERO, Word::ZERO),
+            Content::BankWord(_) => LineWords::One(Word::ZERO),
         }
     }
 }
@@ -138,6 +155,22 @@ pub(crate) fn words_at(
             let value = known_value(symbols, place, operand)?;
             let place = fixed_place(value)?;
             Ok(far_address(eb, place.0, place.1))
+        }
+        Content::Constants(pair) => {
+            let words = pair.ok_or(FaultKind::OutOfRange)?;
+            Ok(LineWords::Two(words.first, words.second))
+        }
+        Content::Complemented(instruction, operand) => {
+            let value = known_value(symbols, place, operand)?;
+            Ok(addressed_word(instruction.code(), extracode, value)?.complemented())
+        }
+        Content::FarComplement(operand) => {
+            let place = low_place(known_value(symbols, place, operand)?)?;
+            Ok(far_address(eb, place.0, place.1).complemented())
+        }
+        Content::BankWord(operand) => {
+            let place = low_place(known_value(symbols, place, operand)?)?;
+            Ok(LineWords::One(bank_word(eb, place.0, place.1)))
         }
     }
 }
@@ -244,6 +277,18 @@ fn fixed_place(value: Value) -> Result<(FixedBank, Offset), FaultKind>
     match location_at(value)?.word_place() {
         Some(place) => Ok(place),
         None => Err(FaultKind::WrongKindOfAddress),
+    }
+}
+
+// The place of a bank that no superbank bit selects.
+fn low_place(value: Value) -> Result<(FixedBank, Offset), FaultKind>
+    ensures { result ≡ and_then low_place (fixed_place value) }
+{
+    let place = fixed_place(value)?;
+    if place.0.bank().number() < 0o30 {
+        Ok(place)
+    } else {
+        Err(FaultKind::WrongKindOfAddress)
     }
 }
 

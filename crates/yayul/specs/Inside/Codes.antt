@@ -44,4 +44,11 @@ abbrev pub flight_has_room : FlightOperator → Bool
 flight_has_room flight.PassedOver = true
 flight_has_room flight.Equals = true
 flight_has_room (flight.Bank taken) = true
+flight_has_room flight.Octal = true
+flight_has_room flight.Octals = true
+flight_has_room flight.VerbNoun = true
+flight_has_room (flight.Decimal precision) = true
+flight_has_room (flight.Complemented i) = nat_le (greatest_with_field i) greatest_code
+flight_has_room flight.FarComplement = true
+flight_has_room flight.BankWord = true
 flight_has_room (flight.Standard operator) = has_room operator

@@ -4,6 +4,7 @@ use Rattle.std.specs.Coded.{Coded, code_by, coded×, coded_ℕ, coded_list}
 use Rattle.std.specs.FinMap as map
 use Rattle.std.specs.Option.{option_map, option_map_or}
 use Rattle.agc_text.specs.Tables.{value_in}
+use Rattle.agc_text.specs.Views.{piece}
 use Rattle.agc_text.specs.declared.fields.Field.{Field}
 use Rattle.agc_text.specs.declared.fields.Line.{Line}
 use Rattle.rope.specs.Places.{Words, stands}
@@ -12,7 +13,7 @@ use Rattle.symbols.specs.contracts.values.Value as value
 use Rattle.symbols.specs.declared.values.Value.{Value}
 use Rattle.symbols.specs.declared.values.Value.TheVariants.{Num, Erasable, Fixed}
 use Rattle.yayul.specs.Forms.{operation_of}
-use Rattle.yayul.specs.Flight.{flight_operation_of, flight_operator}
+use Rattle.yayul.specs.Flight.{flight_operation_of, flight_operator, scales_after}
 use Rattle.yayul.specs.Language.{BadBank, BadOperand, BankRange, FaultKind, Is, Location, NoForm, Numeral, TooLarge, Undefined}
 use Rattle.yayul.specs.Layout.{Request, Layout, word_place, after_words, statement_on, line_effect}
 use Rattle.yayul.specs.Listing.{Margin, Shown, nothing, line_rows, shown}
@@ -48,8 +49,9 @@ abbrev pub operation_by : Line → Operation
 operation_by l = option_map_or (λ f. operation_of (value_in operators f.text.now) (arguments_of l)) l.operator Nothing
 
 -- the same in the language of flight programs, where the line stands at a location
-abbrev pub flight_operation_by : Location → Line → Operation
-flight_operation_by here l = option_map_or (λ f. flight_operation_of here (flight_operator f.text.now) (arguments_of l)) l.operator Nothing
+abbrev pub flight_operation_by : Location → List ℕ → Line → Operation
+flight_operation_by here text l =
+    option_map_or (λ f. flight_operation_of here (scales_after text (option_map piece l.operand)) (flight_operator f.text.now) (arguments_of l)) l.operator Nothing
 
 -- the value of a kind and a number, which may be past the last of its kind
 abbrev pub value_at : Point → Value

@@ -12,5 +12,5 @@ returns c =
     let says = c.of-line.ensures in
     λ j. record {
       label = (c.label_in.ensures ∙ ap label_in (text_of_piece line.label (label_of (fields c.args.text.now)) says.label)) j;
-      operation = (c.operation_by.ensures ∙ flight_operation_by-pieces c.args.here line (others_of (fields c.args.text.now)) says.operator says.operand says.offset says.more) j;
+      operation = (c.operation_by.ensures ∙ flight_operation_by-pieces c.args.here c.args.text.now line (others_of (fields c.args.text.now)) says.operator says.operand says.offset says.more) j;
     }
