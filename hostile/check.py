@@ -408,7 +408,7 @@ def endless_inputs(made):
 def few_of_the_system(writing):
     """No memory is to be had beyond what the program starts with; and no second file."""
     for words in writing:
-        ran = limited(words, resource.RLIMIT_DATA, 1 << 17)
+        ran = limited(words, resource.RLIMIT_DATA, 5 << 15)
         told(f"devices: {name_of(words)}, with little memory", ran == (3, b"", b"agcws: E2\n"), f"{ran}")
         if len([it for it in words if "/" in it]) > 1:
             # three are the standard streams, and three stand in for those of them that may be closed

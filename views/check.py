@@ -842,9 +842,9 @@ def text_at(path):
 
 
 def operators_of_manual():
-    """The operators that the tables of sections 2 and 4 name, and EQUALS and =, which stand in a sentence."""
+    """The operators that the tables of sections 2 and 4 name, but for those of flight programs alone, and EQUALS and =, which stand in a sentence."""
     manual = examples.text_of("docs/MANUAL.md")
-    sections = re.findall(r"^## [24]\. .*?(?=^## )", manual, re.M | re.S)
+    sections = re.findall(r"^## [24]\. .*?(?=^## |^### Forms of flight programs)", manual, re.M | re.S)
     cells = re.findall(r"^\| ([^|]*) \|", "".join(sections), re.M)
     return {*(it.split()[0] for it in re.findall(r"`([^`]+)`", " ".join(cells))), *re.search(r"^`(EQUALS) K`, or `(=) K`", manual, re.M).groups()}
 
