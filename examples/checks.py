@@ -71,6 +71,8 @@ WARNINGS = [
     (" EXTEND; MP 7; INDEX 5; CA 5D", [(2, 5, 2)]),
     (" SETLOC 100;X ERASE;Y ERASE +1; SETLOC 4000; DXCH X; DXCH Y; DAS X; EXTEND; DCA X; EXTEND; DCS X +1; TS X", [(5, 7, 3), (7, 6, 3), (9, 6, 3)]),
     ("X OCT 1; CA Y;Y OCT 2", [(1, 1, 8)]),
+    # an address to which INDEX adds is no number
+    (" INDEX X; CA 0; NDX X;; MASK 1; CA 2;X OCT 1", [(6, 5, 2)]),
 ]
 # A fault and warnings on one line and beside it.
 BOTH = " CA 5;CA FIV; AD 6"
@@ -124,9 +126,9 @@ def check_warnings(program, room, told):
 def check_examples_quiet(program, told, folder):
     """No example that runs draws a warning."""
     names = sorted({line.split()[0] for line in open(f"{folder}/runs.txt") if line.strip() and not line.startswith("#")})
-    for name in names:
+    for name in [*names, "flight/downlist", "flight/bankcall"]:
         path = f"{folder}/{name}.agc"
-        ran = subprocess.run([program, "check", path], capture_output=True, timeout=60)
+        ran = subprocess.run([program, "check", *(["--flight"] if "/" in name else []), path], capture_output=True, timeout=60)
         told(f"no warning in {name}.agc", (ran.returncode, ran.stdout) == (0, b"0 errors, 0 warnings\n"), str(ran.stdout[:300]))
 
 

@@ -25,6 +25,7 @@ warned_rows =
     ∷ (codes " TC CA;CA TC CA", (2, 1, 2, 1) ∷ [])
     ∷ (codes " CA 5", (1, 5, 1, 2) ∷ [])
     ∷ (codes " CA 60; CA 61; CS 0; TS 5; CA 5 +1; CA 00005", (1, 5, 2, 2) ∷ (3, 5, 1, 2) ∷ (6, 5, 5, 2) ∷ [])
+    ∷ (codes " INDEX X; CA 0; NDX X;; MASK 1; CA 2;X ERASE", (6, 5, 1, 2) ∷ [])
     ∷ (codes "X ERASE;Y ERASE +1; DXCH X; DXCH Y; DAS X +1; DCA X; TS X", (3, 7, 1, 3) ∷ (6, 6, 1, 3) ∷ [])
     ∷ (codes "X OCT 1; CA Y;Y OCT 2", (1, 1, 1, 8) ∷ [])
     ∷ (codes "CA FIV;LONGLABEL OCT 5", (1, 1, 2, 1) ∷ (1, 1, 2, 8) ∷ [])

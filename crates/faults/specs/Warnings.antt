@@ -71,8 +71,18 @@ readers = codes "CA" ∷ codes "CAE" ∷ codes "CS" ∷ codes "AD" ∷ codes "MA
 abbrev pub is_register_number : List ℕ → Bool
 is_register_number text = option_map_or (λ number. nat_lt number 0o61) (digits_value 8 text) false
 
-abbrev pub number_warnings : ℕ → Parts → List Finding
-number_warnings line parts = at_field (λ p. warned_if (has_alone readers parts && is_register_number p.text) line 2 p) parts.operand
+-- operators that add to the address of the next word
+abbrev pub index_operators : List (List ℕ)
+index_operators = codes "INDEX" ∷ codes "NDX" ∷ []
+
+-- whether one of them stands last before what follows a line, by whether one does before it
+abbrev pub indexed_after : Bool → Parts → Bool
+indexed_after indexed parts = if is_some parts.operator then has_operator index_operators parts else indexed
+
+-- after one of them the number is a part of an address alone
+abbrev pub number_warnings : Bool → ℕ → Parts → List Finding
+number_warnings indexed line parts =
+    at_field (λ p. warned_if (not indexed && has_alone readers parts && is_register_number p.text) line 2 p) parts.operand
 
 -- ## 3: two words of a name for which one is reserved
 abbrev pub pair_operators : List (List ℕ)
@@ -108,17 +118,18 @@ names_of texts = record {
   operands = fold (λ names text. with_field names (parts_of text).operand) [] texts;
 }
 
--- the warnings of a line, in the order of its fields; those of labels that nothing names where they are asked for
-abbrev pub line_warnings : Bool → Names → ℕ → Parts → List Finding
-line_warnings unused names line parts =
+-- the warnings of a line, in the order of its fields, after a word that adds to its address or another; those of labels that nothing names where they are asked for
+abbrev pub line_warnings : Bool → Names → Bool → ℕ → Parts → List Finding
+line_warnings unused names indexed line parts =
     label_warnings line parts ++ (if unused then unused_warnings names.operands line parts else [])
-    ++ number_warnings line parts ++ pair_warnings names.singles line parts
+    ++ number_warnings indexed line parts ++ pair_warnings names.singles line parts
 
 -- the warnings of some lines, the first of them with a number
-abbrev pub warned_lines : Bool → Names → ℕ → List (List ℕ) → List Finding
-warned_lines unused names line [] = []
-warned_lines unused names line (text ∷ texts) = line_warnings unused names line (parts_of text) ++ warned_lines unused names (line + 1) texts
+abbrev pub warned_lines : Bool → Names → Bool → ℕ → List (List ℕ) → List Finding
+warned_lines unused names indexed line [] = []
+warned_lines unused names indexed line (text ∷ texts) =
+    line_warnings unused names indexed line (parts_of text) ++ warned_lines unused names (indexed_after indexed (parts_of text)) (line + 1) texts
 
 -- the warnings of a source, of as many lines as are looked at for faults
 unfoldable pub warnings : Bool → List ℕ → List Finding
-warnings unused source = warned_lines unused (names_of (looked_at source)) 1 (looked_at source)
+warnings unused source = warned_lines unused (names_of (looked_at source)) false 1 (looked_at source)

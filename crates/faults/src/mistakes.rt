@@ -1,12 +1,12 @@
 //! What in a source is likely a mistake, though it is no fault.
 
-ghost use Rattle.std.specs.Prelude.{◌≡◌, ◌≤◌, ◌++◌, map, length, take, IfOk, OnOk};
+ghost use Rattle.std.specs.Prelude.{◌≡◌, ◌≤◌, ◌++◌, map, length, take, false, IfOk, OnOk};
 ghost use Rattle.std.specs.List.{fold};
 ghost use Rattle.std.specs.Option.{option_map};
 ghost use Rattle.agc_text.specs.Fields.{fields, label_of};
 ghost use Rattle.agc_text.specs.Views.{piece};
 ghost use Rattle.yayul.specs.Survey.{field_at, looked_at, span_of};
-ghost use Rattle.faults.specs.Warnings.{parts_of, parts_in, is_among, has_operator, has_alone, warned_if, at_field, operator_names, label_warnings, readers, is_register_number, number_warnings, pair_operators, erase_operators, reserves_one, with_field, with_single, pair_warnings, unused_warnings, names_of, line_warnings, warned_lines, warnings};
+ghost use Rattle.faults.specs.Warnings.{parts_of, parts_in, is_among, has_operator, has_alone, warned_if, at_field, operator_names, label_warnings, readers, is_register_number, index_operators, indexed_after, number_warnings, pair_operators, erase_operators, reserves_one, with_field, with_single, pair_warnings, unused_warnings, names_of, line_warnings, warned_lines, warnings};
 
 use crate::findings::line_texts;
 use crate::names::{NameSet, is_among, is_short};
@@ -82,10 +82,13 @@ impl Names {
         found: &mut Vec<Finding>,
     ) -> Result<(), AllocError>
         requires { length lines.now ≤ LINES }
-        ensures { OnOk result (found.new.items ≡ found.old.items ++ warned_lines unused self.now 1 (map (λ text. text.now) lines.now)) }
+        ensures { OnOk result (found.new.items ≡ found.old.items ++ warned_lines unused self.now false 1 (map (λ text. text.now) lines.now)) }
     {
+        let mut indexed = false;
         for (index, text) in lines.iter().enumerate() {
-            self.warn_of(unused, index as u32 + 1, &parts_of(text), found)?;
+            let parts = parts_of(text);
+            self.warn_of(unused, indexed, index as u32 + 1, &parts, found)?;
+            indexed = indexed_after(indexed, &parts);
         }
         Ok(())
     }
@@ -94,17 +97,18 @@ impl Names {
     fn warn_of(
         &self,
         unused: bool,
+        indexed: bool,
         line: u32,
         parts: &Line<'_>,
         found: &mut Vec<Finding>,
     ) -> Result<(), AllocError>
-        ensures { OnOk result (found.new.items ≡ found.old.items ++ line_warnings unused self.now line (parts_in parts.now)) }
+        ensures { OnOk result (found.new.items ≡ found.old.items ++ line_warnings unused self.now indexed line (parts_in parts.now)) }
     {
         warn_of_label(line, parts, found)?;
         if unused {
             warn_of_unused(&self.operands, line, parts, found)?;
         }
-        warn_of_number(line, parts, found)?;
+        warn_of_number(indexed, line, parts, found)?;
         warn_of_pair(&self.singles, line, parts, found)
     }
 }
@@ -191,13 +195,29 @@ fn warn_of_unused(
     }
 }
 
-// The number of a register or a counter where a word is read.
-fn warn_of_number(line: u32, parts: &Line<'_>, found: &mut Vec<Finding>) -> Result<(), AllocError>
-    ensures { OnOk result (found.new.items ≡ found.old.items ++ number_warnings line (parts_in parts.now)) }
+// Whether a word that adds to the next address stands last before what follows a line.
+fn indexed_after(indexed: bool, parts: &Line<'_>) -> bool
+    ensures { result ≡ indexed_after indexed (parts_in parts.now) }
+{
+    if parts.operator.is_some() {
+        has_operator(index_operators(), parts)
+    } else {
+        indexed
+    }
+}
+
+// The number of a register or a counter where a word is read, and nothing is added to its address.
+fn warn_of_number(
+    indexed: bool,
+    line: u32,
+    parts: &Line<'_>,
+    found: &mut Vec<Finding>,
+) -> Result<(), AllocError>
+    ensures { OnOk result (found.new.items ≡ found.old.items ++ number_warnings indexed line (parts_in parts.now)) }
 {
     match parts.operand {
         Some(operand) => {
-            let reads = has_alone(readers(), parts) && is_register_number(operand.text);
+            let reads = !indexed && has_alone(readers(), parts) && is_register_number(operand.text);
             warn_if(reads, line, 2, operand, found)
         }
         None => Ok(()),
@@ -247,6 +267,8 @@ const READERS: [&str; 10] = [
     "CA", "CAE", "CS", "AD", "MASK", "MSK", "CCS", "MP", "DV", "SU",
 ];
 
+const INDEX_OPERATORS: [&str; 2] = ["INDEX", "NDX"];
+
 const PAIR_OPERATORS: [&str; 4] = ["DXCH", "DAS", "DCA", "DCS"];
 
 const ERASE_OPERATORS: [&str; 1] = ["ERASE"];
@@ -264,6 +286,12 @@ fn readers() -> &'static [&'static str]
     ensures { map (λ name. name.now) result.now ≡ readers }
 {
     &READERS
+}
+
+fn index_operators() -> &'static [&'static str]
+    ensures { map (λ name. name.now) result.now ≡ index_operators }
+{
+    &INDEX_OPERATORS
 }
 
 fn pair_operators() -> &'static [&'static str]
