@@ -1,11 +1,12 @@
 -- What is said of faults on single lines, by the definitions alone.
-use Rattle.std.proofs.Common.{◌≡◌, ℕ, List, [], ◌∷◌, Option, None, Some, is_some, refl, map, unwrap_or}
+use Rattle.std.specs.List.{list_all}
+use Rattle.std.proofs.Common.{◌≡◌, ℕ, List, [], ◌∷◌, ◌++◌, true, Option, None, Some, is_some, refl, map, unwrap_or}
 use Rattle.std.specs.Fmt.{digits}
 use Rattle.std.specs.Prelude.{codes}
 use Rattle.agc_text.specs.Fields.{runs}
 use Rattle.yayul.specs.Operators.{operators}
 use Rattle.yayul.specs.declared.finding.Finding.{Finding}
-use Rattle.faults.specs.Causes.{Cause, fault_cause, filled, near_label}
+use Rattle.faults.specs.Causes.{Cause, bank_operators, block_operators, channel_operators, decimal_operators, erasable_operators, erasable_readers, fault_cause, filled, fixed_operators, is_operator, jump_operators, label_refusers, near_label, octal_operators, plain_operators, writers}
 use Rattle.faults.specs.Warnings.{parts_of}
 
 -- a fault with a number, where it begins
@@ -63,3 +64,13 @@ lines_with_causes =
 each_told : map {B = List ℕ × List ℕ} (λ r. told r.0) lines_with_causes ≡ map {B = List ℕ × List ℕ} (λ r. r.1) lines_with_causes
 unfolding runs operators digits
 each_told = refl
+
+-- each operator of a class stands in the table of operators
+classes : List (List ℕ)
+classes =
+    label_refusers ++ octal_operators ++ decimal_operators ++ bank_operators ++ block_operators ++ plain_operators ++ channel_operators
+    ++ erasable_operators ++ fixed_operators ++ jump_operators ++ writers ++ erasable_readers
+
+all_are_operators : list_all is_operator classes ≡ true
+unfolding operators classes
+all_are_operators = refl
