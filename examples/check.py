@@ -1,5 +1,5 @@
 #!/usr/bin/env python3
-"""Runs the built program on the examples and on what README.md, examples/README.md and docs/MANUAL.md show, and compares what it writes, byte for byte.
+"""Runs the built program on the examples and on what README.md, examples/README.md, docs/MANUAL.md and docs/WALKS.md show, and compares what it writes, byte for byte.
 
 In these each fenced block says by its first word what it is:
   agc      a source, which stands in the file my.agc until the next one
@@ -13,7 +13,7 @@ In these each fenced block says by its first word what it is:
   shell    commands, each after '$ ', and what each writes, run in a folder with my.agc, my.feed and examples/, where agcws is found;
            a last line '..' stands for the rest
   text     nothing that a program takes or writes, as a picture
-and a row of a table of refusals, as `| E14 | cause | `source;lines` | 2 |`, a source (or, from E30 on, a feed) that is refused so; in
+and a row of a table of refusals, as `| E14 | cause | `source;lines` | 2 |`, a source (or, from E30 on, a feed, and of E36 a table of names) that is refused so; in
 it `\r`, `\f` and `\xFF` stand for bytes.
 
 Each program of examples/ is run, as runs.txt says, and gives NAME.out, or is assembled, and gives the listing NAME.lst. Each operator of the
@@ -47,8 +47,8 @@ from traces import check_trace
 
 PROGRAM = f"{ROOT}/crates/agcws/out/agcws"
 IMAGE_BYTES = 73728
-# The most seconds that a reply is awaited, and that one is after a wrong one.
-WAIT, WAIT_AFTER_WRONG = 60, 0.1
+# The most seconds that a reply is awaited, that one is after a wrong one, and that one of a later session is.
+WAIT, WAIT_AFTER_WRONG, WAIT_LATER = 60, 0.1, 2
 
 
 def agcws(*words):
@@ -60,9 +60,12 @@ def agcws(*words):
 class Session:
     """A session of `agcws debug` through pipes: the replies to each command are awaited before the next one is sent."""
 
+    # The most seconds that a reply is awaited, by what was replied so far in any session
+    longest = WAIT
+
     def __init__(self, source, feed, *options):
         self.ran = subprocess.Popen([PROGRAM, "debug", *options, source, feed], stdin=subprocess.PIPE, stdout=subprocess.PIPE, stderr=subprocess.PIPE)
-        self.wait = WAIT
+        self.wait = Session.longest
 
     def ask(self, label, command, replies):
         """Sends a command with its line feed, and compares as many bytes as the replies have."""
@@ -74,7 +77,7 @@ class Session:
                 break
             got += part
         if got != replies:
-            self.wait = WAIT_AFTER_WRONG
+            self.wait, Session.longest = WAIT_AFTER_WRONG, WAIT_LATER
         told(f"{label}: {command!r}", got == replies, f"wanted {replies[:300]!r}, got {got[:300]!r}")
 
     def writes(self):
@@ -124,7 +127,7 @@ def check_examples(room):
 
 
 # How many steps a flight program is run for, and then its cycles and Z.
-FLIGHT_ENDS = {"bankcall": (60, b"100 4010"), "downlist": (40, b"73 2013")}
+FLIGHT_ENDS = {"bankcall": (60, b"100 4010"), "downlist": (40, b"73 2013"), "waitlist": (530, b"641 2012")}
 
 
 def check_flight(room):
@@ -133,17 +136,18 @@ def check_flight(room):
     for name in sorted(it.removesuffix(".agc") for it in os.listdir(f"{EXAMPLES}/flight") if it.endswith(".agc")):
         steps, after = FLIGHT_ENDS[name]
         source, wanted = f"{EXAMPLES}/flight/{name}.agc", read(f"{EXAMPLES}/flight/{name}.out")
+        feed = f"{EXAMPLES}/flight/{name}.feed" if os.path.exists(f"{EXAMPLES}/flight/{name}.feed") else empty
         told(f"the manual names flight/{name}", f"](../examples/flight/{name}.agc)" in text_of("docs/MANUAL.md"))
         compare(f"the listing of flight/{name}", agcws("asm", "--flight", source, rope), 0, read(f"{EXAMPLES}/flight/{name}.lst"))
-        compare(f"flight/{name}", agcws("run", "--flight", source, empty, str(steps)), 0, wanted)
-        compare(f"the image of flight/{name}", agcws("run", "--image", rope, empty, str(steps)), 0, wanted)
+        compare(f"flight/{name}", agcws("run", "--flight", source, feed, str(steps)), 0, wanted)
+        compare(f"the image of flight/{name}", agcws("run", "--image", rope, feed, str(steps)), 0, wanted)
         compare(f"flight/{name} beside its image", agcws("compare", "--only", "--flight", source, rope), 0, b"COUNT 0\n")
         status, report, _ = agcws("check", "--flight", source)
         told(f"a check of flight/{name}", status == 0 and re.search(rb"^0 errors, \d+ warnings?\n\Z", report, re.M), f"{status} {report!r}")
-        traced = agcws("trace", "--flight", source, empty, str(steps))[1]
+        traced = agcws("trace", "--flight", source, feed, str(steps))[1]
         told(f"a trace of flight/{name}", re.findall(rb"  (\d+ CH \d+ \d+)$", traced, re.M) == wanted.split(b"\n")[:-1], f"{traced!r}")
-        told(f"a profile of flight/{name}", agcws("cover", "--flight", source, empty, str(steps))[1].endswith(b"%10d %10d TOTAL\n" % (steps, int(traced.split(b"\n")[steps - 1].split()[1]))))
-        session = Session(source, empty, "--flight")
+        told(f"a profile of flight/{name}", agcws("cover", "--flight", source, feed, str(steps))[1].endswith(b"%10d %10d TOTAL\n" % (steps, int(traced.split(b"\n")[steps - 1].split()[1]))))
+        session = Session(source, feed, "--flight")
         session.ask(f"a session of flight/{name}", b"run %d\n" % steps, wanted + b"AT %d %b\n" % (steps, after))
         session.end(f"a session of flight/{name} ends")
         told(f"flight/{name} without --flight", agcws("asm", source, rope)[0] == 1)
@@ -255,7 +259,7 @@ def check_links():
     for name in sorted(with_ending(".agc")):
         told(f"the manual names {name}", f"](../examples/{name}.agc)" in manual)
         told(f"examples/README.md names {name}", f"| [`{name}`]({name}.agc) |" in list_of_examples)
-    for document in ["README.md", "docs/MANUAL.md", "examples/README.md"]:
+    for document in ["README.md", "docs/MANUAL.md", "docs/WALKS.md", "examples/README.md"]:
         for target in re.findall(r"\]\(([^)]+)\)", text_of(document)):
             path, _, heading = target.partition("#")
             path = os.path.normpath(f"{os.path.dirname(document)}/{path}" if path else document).lstrip("/")
@@ -351,7 +355,7 @@ def check_documents(room):
     """What the README, the manual, the examples and the worked rows show."""
     os.symlink(PROGRAM, f"{room}/agcws")
     os.symlink(EXAMPLES, f"{room}/examples")
-    for name in ["README.md", "examples/README.md", "examples/rows/sessions.md", "docs/MANUAL.md"]:
+    for name in ["README.md", "examples/README.md", "examples/rows/sessions.md", "docs/MANUAL.md", "docs/WALKS.md"]:
         Document(room, name).check()
     fences = re.findall(r"^```.*$", text_of("docs/MANUAL.md"), re.M)
     told("each block of the manual says what it is", "```" not in fences[::2] and set(fences[1::2]) == {"```"})
@@ -364,7 +368,10 @@ def bytes_of(shown):
 
 
 def check_refusal(room, number, text, line):
-    """A source, or from E30 on a feed, that is refused on a line: one line of error output, and no image."""
+    """A source, or from E30 on a feed, or a table of names, that is refused on a line: one line of error output, and no image."""
+    if number == 36:
+        compare("E36 by words", agcws("words", "--symbols", write(f"{room}/refused.names", text), f"{EXAMPLES}/empty.feed"), 1, b"", f"agcws: E36 LINE {line}\n".encode())
+        return
     source, feed, rope = f"{room}/refused.agc", f"{room}/refused.feed", f"{room}/refused.rope"
     write(source, b"" if number >= 30 else text)
     write(feed, text if number >= 30 else b"")
@@ -478,7 +485,7 @@ def check_debugger(room):
     ran = subprocess.run([PROGRAM, "debug", source, empty], input=b"step 1\nquit\nstep 1\n", capture_output=True, timeout=WAIT)
     compare("quit", (ran.returncode, ran.stdout, ran.stderr), 0, b"AT 1 2 4001\n")
     ran = subprocess.run([PROGRAM, "debug", source, empty], input=b"\n" * 16777211 + b"tail\ntail\n", capture_output=True, timeout=WAIT)
-    compare("the most bytes of commands", (ran.returncode, ran.stdout, ran.stderr), 0, b"TAIL 0\n")
+    compare("the most bytes of commands", (ran.returncode, ran.stdout, ran.stderr), 0, b"TAIL 0\n", b"agcws: commands end after 16777216 bytes\n")
     with open("/dev/full", "wb") as full:
         ran = subprocess.run([PROGRAM, "debug", source, empty], input=b"step 1\n", stdout=full, stderr=subprocess.PIPE, timeout=WAIT)
     told("replies that cannot be written", (ran.returncode, ran.stderr) == (3, b"agcws: E7\n"))
@@ -606,6 +613,91 @@ def check_parities(room):
         compare(f"the parity of an image that is {label}", agcws("parity", path), 1, b"", b"agcws: " + error + b"\n")
 
 
+def words_of_image(image):
+    """The words of each bank of an image of version 2, by rising offsets."""
+    pairs = [high << 8 | low for high, low in zip(image[::2], image[1::2])]
+    order = [{0: 2, 1: 3, 2: 0, 3: 1}.get(bank, bank) for bank in range(36)]
+    return pairs, [pairs[1024 * it : 1024 * it + 1024] for it in order]
+
+
+def check_form_sums(room):
+    """The sums of images in both orders of the bits, of programs with check words and of random words."""
+    path, hardware = f"{room}/summed.rope", f"{room}/summed.hardware"
+    for name in ("bank_sum", "bank_call", 1, 2, 3):
+        if isinstance(name, str):
+            agcws("asm", "--sums", f"{EXAMPLES}/{name}.agc", path)
+        else:
+            chance = random.Random(name)
+            words = [chance.randrange(32768) for _ in range(IMAGE_BYTES // 2)]
+            write(path, b"".join((2 * word + (bin(word).count("1") + 1) % 2).to_bytes(2, "big") for word in words))
+        pairs, _ = words_of_image(read(path))
+        write(hardware, b"".join((pair & 0x8000 | (pair & 1) << 14 | pair >> 1 & 0x3FFF).to_bytes(2, "big") for pair in pairs))
+        for file in (path, hardware):
+            lines = []
+            for bank, words in enumerate(words_of_image(read(file))[1]):
+                sums = [0, 0]
+                for pair in words:
+                    sums = [ones_sum(sums[0], pair >> 1), ones_sum(sums[1], pair >> 15 << 14 | pair & 0x3FFF)]
+                held = [form for form, total in zip(("written", "hardware"), sums) if total in (bank, 32767 - bank)]
+                lines.append(f"{bank:02o} {sums[0]:05o} {sums[1]:05o} {' '.join(held) or '-'}\n")
+            compare(f"both sums of {name} in {os.path.basename(file)}", agcws("sums", "--forms", file), 0, "".join(lines).encode())
+
+
+def named(table, bank, address):
+    """How an address at a word of a bank is written with a table of names: of each place the first."""
+    if 0o1400 <= address < 0o2000 or 0o2000 <= address < 0o4000 and bank in (2, 3):
+        return f"{address:04o}"
+    there = ("E", address) if address < 0o1400 else (bank, address - 0o2000) if address < 0o4000 else (address // 0o2000, address % 0o2000)
+    if there[0] == "E" and address < 7:
+        return ["A", "L", "Q", "EB", "FB", "Z", "BB"][address]
+    for before in range(there[1] + 1):
+        name = table.get((there[0], there[1] - before))
+        if name:
+            return f"{name} +{before:o}" if before else name
+    return f"{address:04o}"
+
+
+def check_names_of_images(room):
+    """Images with names: traces, profiles and sessions as those of their sources; and the words of random images with random names."""
+    image, listing, table = f"{room}/named.rope", f"{room}/named.lst", f"{room}/names"
+    with open(f"{EXAMPLES}/runs.txt", encoding="utf-8") as file:
+        rows = [line.split() for line in file if line.strip() and not line.startswith("#")]
+    for name, feed, steps in rows:
+        source, feed, steps = f"{EXAMPLES}/{name}.agc", f"{EXAMPLES}/{feed}", str(min(int(steps), 2000))
+        write(listing, agcws("asm", source, image)[1])
+        names = ("--image", "--symbols", listing, image, feed)
+        compare(f"the trace of {name} with its names", agcws("trace", *names, steps), *agcws("trace", source, feed, steps))
+        commands = b"run %s\nsym START\nmem 4000\nwhere\nfind \n" % steps.encode() + b"".join(b"sym %s\nmem %s\n" % (it, it) for it in re.findall(rb"^(\S+) +(?:FIXED|ERASABLE) ", read(listing), re.M)[:20])
+        ran = [subprocess.run([PROGRAM, "debug", "--extended", *words], input=commands, capture_output=True, timeout=WAIT) for words in (names, (source, feed))]
+        told(f"a session of {name} with its names", ran[0].stdout == ran[1].stdout and (ran[0].returncode, ran[0].stderr) == (0, b""), f"{ran}")
+        words, rows_of = agcws("words", "--symbols", listing, image), agcws("cover", *names, steps)
+        told(f"the profile of {name} with its names", [it[22:] for it in rows_of[1].splitlines()[:36864]] == words[1].splitlines() and rows_of[0] == 0)
+    for seed in range(4):
+        chance = random.Random(seed)
+        word_list = [chance.randrange(32768) for _ in range(IMAGE_BYTES // 2)]
+        write(image, b"".join((2 * word + (bin(word).count("1") + 1) % 2).to_bytes(2, "big") for word in word_list))
+        places = [("E", chance.randrange(0o4000)) if chance.randrange(3) == 0 else (chance.choice((2, 3, 4, 0o27, 0o43)), chance.randrange(0o2000)) for _ in range(60)]
+        names = [(f"N{number}", place) for number, place in enumerate(places)]
+        first_names = {place: name for name, place in reversed(names)}
+        write(table, "".join(f"{name}\t{shown_place(chance, place)} # {name}\n" for name, place in names).encode())
+        for bank in ("02", "04", "43"):
+            wanted = []
+            for line in agcws("words", image, bank)[1].decode().splitlines():
+                place, word, *code = line.split()
+                is_address = len(code) == 2 and len(code[1]) == 4
+                wanted.append(" ".join([place, word, code[0], *([named(first_names, int(bank, 8), int(code[1], 8))] if is_address else code[1:])]))
+            compare(f"the words of image {seed}, bank {bank}, with names", agcws("words", "--symbols", table, image, bank), 0, "".join(f"{it}\n" for it in wanted).encode())
+
+
+def shown_place(chance, place):
+    """A place in one of the forms that a table takes."""
+    bank, offset = place
+    if bank == "E":
+        return chance.choice((f"{offset:o}", f"{offset:05o}", f"ERASABLE {offset:04o}", f"E{offset >> 8},{offset if offset < 0o1400 else 0o1400 + offset % 0o400:04o}"))
+    first = {2: 0o4000, 3: 0o6000}.get(bank, 0o2000)
+    return chance.choice((f"{bank:o},{offset:o}", f"FIXED {bank:02o},{offset:04o}", f"{bank:02o},{first + offset:04o}", *([f"{first + offset:o}"] if bank in (2, 3) else [])))
+
+
 def ones_sum(total, word):
     """The sum of two words by their values, where one that overflows comes back by 2^14 - 1; -0 is 77777, and +0 comes of zeros alone."""
     value = (total - 32767 if total >= 16384 else total) + (word - 32767 if word >= 16384 else word)
@@ -676,7 +768,7 @@ def check_command_line():
     version = re.search(rb'PROGRAM_VERSION: &str = "(.*)";', read(f"{ROOT}/crates/agcws/src/command_line.rt")).group(1)
     compare("agcws --version", agcws("--version"), 0, b"agcws " + version + b"\n")
     source, empty = f"{EXAMPLES}/five_plus_five.agc", f"{EXAMPLES}/empty.feed"
-    for words in [[], ["fly"], ["asm", source], ["asm", "--sums", source], ["run", source, empty], ["run", source, empty, "-1"], ["run", source, empty, "1099511627775"], ["asm", "--rope", "3", source, "x"], ["debug", source], ["upgrade", source], ["words"], ["words", source, "44"], ["words", source, "8"], ["words", source, "002"], ["compare", source], ["sums"], ["parity"], ["words", "--parity", "odd", source], ["run", "--parity", "ignore", source, empty, "4"], ["run", "--rope", "1", source, empty, "4"]]:
+    for words in [[], ["fly"], ["asm", source], ["asm", "--sums", source], ["run", source, empty], ["run", source, empty, "-1"], ["run", source, empty, "1099511627775"], ["asm", "--rope", "3", source, "x"], ["debug", source], ["upgrade", source], ["words"], ["words", source, "44"], ["words", source, "8"], ["words", source, "002"], ["compare", source], ["sums"], ["parity"], ["words", "--parity", "odd", source], ["words", "--symbols", source], ["words", "--source", "--symbols", source, source], ["trace", "--symbols", source, source, empty, "4"], ["sums", "--forms", "--parity", "ignore", source], ["sums", "--forms", "--form", "hardware", source], ["run", "--parity", "ignore", source, empty, "4"], ["run", "--rope", "1", source, empty, "4"]]:
         status, out, err = agcws(*words)
         told(f"agcws {' '.join(words[:1])} with {len(words)} words", (status, out) == (2, b"") and err)
     compare("+4 steps", agcws("run", source, empty, "+4"), 0, b"7 CH 010 00012\n")
@@ -974,6 +1066,8 @@ def main():
         check_parities(room)
         check_sums_made(room)
         check_sources_of_ropes(room)
+        check_form_sums(room)
+        check_names_of_images(room)
         check_command_line()
         check_targets(room)
         check_whole_images(room)

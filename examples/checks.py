@@ -61,6 +61,34 @@ SAID = [
     (" 2DEC 1.5", [(1, 2, "E15: 2DEC is no operator of this assembler", "two words: a DEC for each")]),
     (" OCT 1 # \xdc", [(1, 10, "E10: this byte is not ASCII, and a line holds ASCII alone, its comment too", "")]),
 ]
+# Feeds, a stroke between two lines, and what is said of each: the line and the column of its first fault, the number with its words, and the cure where one is sure; the first are the mistakes of the manual's rows.
+FEEDS = [
+    ("", None),
+    ("5 CHAN 15 21|5 RUPT 10|EVERY 0 853 1 600 TIME1 PINC # a clock||9 TIME6 DINC", None),
+    ("CHAN 15 21", (1, 1, "E30: no cycle stands before CHAN", "a line begins with its cycle, in decimal digits")),
+    ("-1 TIME1 PINC", (1, 1, "E30: -1 is no cycle, which is 1 to 15 decimal digits", "")),
+    ("1000000000000000 TIME1 PINC", (1, 1, "E30: a cycle has 15 digits at most", "")),
+    ("5, CHAN 15 21", (1, 1, "E30: 5, is no cycle, which is 1 to 15 decimal digits", "")),
+    ("5 KEYRUPT1", (1, 3, "E30: KEYRUPT1 is no counter, and neither CHAN nor RUPT", "")),
+    ("5 time1 pinc", (1, 3, "E30: time1 is no counter, and neither CHAN nor RUPT", "did you mean TIME1?")),
+    ("5 TIME1", (1, 3, "E30: nothing follows TIME1", "CHAN with a channel and a word, RUPT with a number, or a counter with a sequence")),
+    ("5 TIME1 PINC 1", (1, 14, "E30: 1 follows the whole input", "a comment begins with #")),
+    ("0 CHAN 1 5", (1, 8, "E30: 1 is no channel of inputs, which are 0 and 3 to 777 in octal", "")),
+    ("5 CHAN 18 0", (1, 8, "E30: channels are octal, and 18 has a digit 8 or 9", "")),
+    ("5 CHAN 15 100000", (1, 11, "E30: 100000 is no word, which is 0 to 77777 in octal", "")),
+    ("0 RUPT 11", (1, 8, "E30: 11 is no interrupt, which are 1 to 10", "")),
+    ("5 TIME1 PINC\r", (1, 13, "E30: a carriage return ends the line; only a line feed may", "")),
+    ("5 TIME1 PINC # " + 106 * "x", (1, 121, "E30: the line has more than 120 bytes", "part the comment into two lines")),
+    ("EVERY 0 853 5 TIME1 PINC", (1, 15, "E30: a number is missing before TIME1", "EVERY FIRST NUM DEN COUNT, and an input without its cycle")),
+    ("EVERY 0 0 1 5 TIME1 PINC", (1, 9, "E30: NUM, DEN and COUNT are 1 or more", "")),
+    ("EVERY 0 1000000000 1 5 TIME1 PINC", (1, 9, "E30: NUM, DEN and COUNT have 9 digits at most", "")),
+    ("EVERY 0 853 1 5 0 TIME1 PINC", (1, 17, "E30: 0 stands where CHAN, RUPT or a counter does", "one cycle stands before an input, and none before that of a series")),
+    ("5 TIME1 PINC|EVERY 0 853 1 5 TIME1 PINC|4 RUPT 1|x", (3, 1, "E31: the cycle is below that of the input before it, on line 1", "inputs stand in the order of their cycles, and EVERY anywhere")),
+    ("5 TIME1 PINC|" + "9 RUPT 1|" * 65536, (65537, 1, "E32: the feed has more than 65,536 inputs besides its series", "")),
+    ("0 TIME6 PINC", (1, 9, "E33: the counter does not take PINC", "TIME6 takes DINC")),
+    (" 0 CDUX PINC|5", (1, 9, "E33: the counter does not take PINC", "CDUX takes PCDU and MCDU")),
+    ("# series|" + "EVERY 0 853 1 5 TIME1 PINC|" * 17, (18, 1, "E35: the feed has more than 16 series", "")),
+]
 # Sources with what is likely a mistake, and the warnings that are told of each with --unused, in order. START, DONE and what is reserved last are named by a line of their own.
 WARNINGS = [
     (" OCT 1", []),
@@ -142,9 +170,9 @@ def check_mistakes(program, room, told):
         told(f"check of {shown}", (status, found, errors) == (int(bool(wanted)), wanted, b"") and end[0].startswith(count + b", "), f"wanted {wanted}, got {found} {end}")
 
 
-def said_by(program, path):
-    """What a check says of each fault: line and column, the number with its words, and the cure."""
-    ran = subprocess.run([program, "check", path], capture_output=True, timeout=60)
+def said_by(program, path, *before):
+    """What a check says of each fault of a file, after others: line and column, the number with its words, and the cure."""
+    ran = subprocess.run([program, "check", *before, path], capture_output=True, timeout=60)
     found = []
     for row in ran.stdout.decode("latin-1").split("\n"):
         if fault := re.match(re.escape(path) + r":(\d+):(\d+): error (E\d+: .+)$", row):
@@ -161,6 +189,52 @@ def check_said(program, room, told):
             file.write(shown.replace("|", "\n").encode("latin-1") + b"\n")
         got = said_by(program, path)
         told(f"what check says of {shown}", got == wanted, f"wanted {wanted}, got {got}")
+
+
+def written(path, text):
+    with open(path, "wb") as file:
+        file.write(text)
+    return path
+
+
+def check_feeds(program, room, told):
+    source = written(f"{room}/good.agc", b" OCT 1\n")
+    for shown, wanted in FEEDS:
+        feed = written(f"{room}/said.feed", shown.replace("|", "\n").encode() + b"\n")
+        got = said_by(program, feed, source)
+        told(f"what check says of the feed {shown[:40]}", got == ([wanted] if wanted else []), f"wanted {wanted}, got {got}")
+        refused = subprocess.run([program, "run", source, feed, "0"], capture_output=True, timeout=60).stderr
+        told(f"check and run of the feed {shown[:40]}", bool(refused) == bool(wanted) and (not wanted or refused.startswith(b"agcws: " + wanted[2].partition(":")[0].encode())), f"{refused}")
+
+
+def check_files(program, room, told):
+    """What is told of several files, what stays told where a file cannot be read, and files of another kind."""
+    source, good, bad = written(f"{room}/a.agc", b" CA FIV\n"), written(f"{room}/good.feed", b"5 RUPT 1\n"), written(f"{room}/bad.feed", b"5 RUPT 11\n")
+    ran = lambda *files: subprocess.run([program, "check", *files], capture_output=True, timeout=60)
+    of_source = f"{source}:1:5: error E17: no line defines FIV\n    1 |  CA FIV\n      |     ^^^\n"
+    of_feed = f"{bad}:1:8: error E30: 11 is no interrupt, which are 1 to 10\n    1 | 5 RUPT 11\n      |        ^^\n"
+    got = ran(source, bad, good, bad)
+    told("check of a source and three feeds", (got.returncode, got.stdout.decode(), got.stderr) == (1, of_source + of_feed + of_feed + "3 errors, 0 warnings\n", b""), f"{got}")
+    got = ran(source, bad, room)
+    told("check of a feed that cannot be read", (got.returncode, got.stdout.decode(), got.stderr) == (3, of_source + of_feed, b"agcws: E6\n"), f"{got}")
+    got = ran(source, bad, f"{room}/none")
+    told("check of a feed that is not there", (got.returncode, got.stdout, got.stderr) == (3, b"", b"agcws: E6\n"), f"{got}")
+    got = ran(source, bad, written(f"{room}/long.feed", b"#" * 8388609))
+    told("check of a feed that is too long", (got.returncode, got.stdout.decode(), got.stderr) == (1, of_source + of_feed, b"agcws: E34\n"), f"{got}")
+    image = f"{room}/a.rope"
+    subprocess.run([program, "asm", written(f"{room}/one.agc", b" OCT 1\n"), image], capture_output=True, check=True)
+    kinds = {
+        (image,): f"{image}: this is a rope image, and no source: run, trace, cover and debug take it with --image",
+        (good,): f"{good}: this is a feed, and no source: it stands after the source",
+        (f"{room}/one.agc", image): f"{image}: this is a rope image, and no feed: run, trace, cover and debug take it with --image, before the feed",
+        (f"{room}/one.agc", source): f"{source}: this is a source, and no feed: it stands first",
+    }
+    for files, wanted in kinds.items():
+        got = ran(*files)
+        lines = got.stdout.decode("latin-1").split("\n")
+        told(f"check of a file of another kind: {wanted[-40:]}", (got.returncode, lines[-3], lines.count(wanted)) == (1, wanted, 1), f"{lines[-5:]}")
+    for files in ((source, good), (f"{room}/one.agc", good)):
+        told("check of files of their kinds", b": this is " not in ran(*files).stdout, f"{ran(*files)}")
 
 
 def check_excerpt(program, room, told):
@@ -205,7 +279,7 @@ def check_rows(program, manual, told):
 def check_numbers(program, told):
     ran = lambda *words: subprocess.run([program, "explain", *words], capture_output=True, timeout=60)
     numbers = [int(it) for it in re.findall(rb"^E(\d+): .", ran().stdout, re.M)]
-    told("explain lists the numbers", numbers == [*range(2, 8), *range(10, 27), *range(30, 36)], str(numbers))
+    told("explain lists the numbers", numbers == [*range(2, 8), *range(10, 27), *range(30, 37)], str(numbers))
     told("explain 17 is explain E17", ran("17") == ran("E17") or ran("17").stdout == ran("E17").stdout)
     for word in ("99", "E1", "X", "E", "256"):
         got = ran(word)
@@ -238,6 +312,8 @@ def check_agreement(program, room, told, count=400, seed="agreement"):
 def check_checks(program, room, told, manual):
     check_mistakes(program, room, told)
     check_said(program, room, told)
+    check_feeds(program, room, told)
+    check_files(program, room, told)
     check_excerpt(program, room, told)
     check_warnings(program, room, told)
     check_examples_quiet(program, told, os.path.dirname(os.path.abspath(__file__)))

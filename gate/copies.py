@@ -1,4 +1,4 @@
-"""Copies of functions: a wrong body stands in a copy of its function, under a name of its own, so that one check tries several of one function, and nothing that calls it waits.
+"""Copies of functions: a wrong edit stands in a copy of its function, under a name of its own, so that one check tries several of one function, and nothing that calls it waits.
 
 A copy is judged by its own contract, as the function is. It is only made where it shows what the function would: of a function outside traits and their impls that does not name itself,
 and stands in no cycle; and of an edit that changes nothing else. Its proof files, which are found by its name, are copied too.

@@ -9,7 +9,8 @@ Why nothing stale passes:
 - Of the crates below it covers all that can be cited: specs/, proofs/ but the files that are private to a function, and src/ but the bodies of functions, since the toolchain
   lets no proof open the routine of another function, but in a cycle of calls, and no cycle leaves its crate.
 - The body of a const fn counts, since a constant above may be computed by it, and so does all of a file in which a body has no end by the layout of `rt fmt`.
-- What is built or run rests on the bodies below too: its sum covers every file below.
+- Tests that are run rest on the bodies of the crates that they are for too.
+- The program as it is run on examples rests on its own bytes, and on every file outside of the crates.
 - The sums stand in out/ at the top, outside of the commits: a fresh clone has none, and tries all. CI=true and `./check --all` look none up.
 """
 import contextlib
@@ -23,6 +24,8 @@ import re
 import toolchain
 
 FOLDER = "out"
+# Folders that hold nothing of the repository.
+LEFT_OUT = (FOLDER, ".git", "__pycache__")
 PRIVATE = ("Answers.antt", "Invariants.antt", "Proof.antt")
 
 
@@ -62,7 +65,7 @@ class Sums:
     """The sums of crates as their files stand now. Each file is read once."""
 
     def __init__(self):
-        for name in ("texts_of", "own", "stated", "proof", "whole"):
+        for name in ("texts_of", "own", "stated", "proof", "whole", "others"):
             setattr(self, name, functools.lru_cache(maxsize=None)(getattr(self, name)))
         self.times = []
 
@@ -95,6 +98,16 @@ class Sums:
     def whole(self, crate):
         """A sum of all that a crate is built from."""
         return sum_of(self.own(crate), [self.own(it) for it in crate.below()])
+
+    def others(self):
+        """A sum of all files outside of the crates."""
+        found = []
+        for folder, folders, names in os.walk("."):
+            folders[:] = sorted(it for it in folders if it not in LEFT_OUT and (folder, it) != (".", "crates"))
+            for path in sorted(f"{folder}/{it}" for it in names):
+                found.append((path, content_of(path)))
+                self.times.append((path, os.stat(path, follow_symlinks=False).st_mtime_ns))
+        return sum_of(found)
 
 
 class Trial:

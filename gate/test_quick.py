@@ -181,14 +181,16 @@ class WholeRuns(unittest.TestCase):
         write_text(f"{self.room}/{path}", text.replace(old, new))
 
     def quick(self, *wanted, counts=None, others=()):
-        """Runs quick: lines that it says and none that it doesn't, and its last one."""
+        """Runs quick: lines that it says and none that it doesn't, and how many things pass and fail beside the files whose words are read."""
         ran = run(self.room)
         for it in wanted:
             self.assertIn(it, ran.stdout, ran.stderr)
         for it in others:
             self.assertNotIn(it, ran.stdout, ran.stderr)
         if counts:
-            self.assertEqual((last(ran), ran.returncode), (counts, int(not counts.endswith(" 0 failed"))), ran.stdout + ran.stderr)
+            passes, fails = counts
+            passes += int(last(run(self.room, "gate/words")).split()[0])
+            self.assertEqual((last(ran), ran.returncode), (f"{passes} passed, {fails} failed", int(fails > 0)), ran.stdout + ran.stderr)
 
     def tried(self):
         """How many wrong edits are tried, of one."""
@@ -199,9 +201,9 @@ class WholeRuns(unittest.TestCase):
     def test_changes_are_found_and_nothing_else_is_done(self):
         all_new = "changed: words workshop agcws; tests to run: low_tests; the program is to be built"
         # two edits read, their page, a row of definitions, four links and files that pages name, three crates, tests, examples, views, hostile inputs
-        self.quick(all_new, "low_tests: tests passed", "not done by --quick: ", counts="15 passed, 0 failed")
+        self.quick(all_new, "low_tests: tests passed", "not done by --quick: ", counts=(15, 0))
         nothing = "changed: no crate; tests to run: none; the program is as it was built"
-        self.quick(nothing, counts="11 passed, 0 failed", others=["proof passed"])
+        self.quick(nothing, counts=(8, 0), others=["proof passed", "examples and manual:"])
         self.assertEqual(last(run(self.room, "gate/wrong_bodies", "--all")), "1 passed, 0 failed")
         self.assertEqual(self.tried(), "0 passed, 0 failed")
         self.documents_and_examples()
@@ -220,22 +222,22 @@ class WholeRuns(unittest.TestCase):
             ("crates/workshop/wrong-bodies/two_more_adds_one.edit", "(x) + 1", "(x) + 9", "wrong edits, read: 1 passed, 1 failed"),
         ):
             self.put(path, old, new)
-            self.quick(said, counts="10 passed, 1 failed")
+            self.quick(said, counts=(10, 1))
             self.put(path, new, old)
 
     def bodies(self):
-        """A wrong body at the top, and at the bottom; a right body at the bottom leaves what stands on it, and its edits, as they are."""
+        """A wrong edit at the top, and at the bottom; a right one at the bottom leaves what stands on it, and its edits, as they are."""
         self.put("crates/workshop/src/lib.rt", "one_more(x) + 1", "one_more(x) + 0")
         self.put("crates/workshop/wrong-bodies/two_more_adds_one.edit", "old:     one_more(x) + 1", "old:     one_more(x) + 0")
-        self.quick("changed: workshop; tests to run: none; the program is to be built", "fn workshop::two_more: no proof", others=["words: proof passed"])
+        self.quick("changed: workshop; tests to run: none; the program stays as it was built", "fn workshop::two_more: no proof", others=["words: proof passed"])
         self.assertIn("to be tried: 1 of workshop", run(self.room, "gate/wrong_bodies", "--read").stdout)
         self.put("crates/workshop/src/lib.rt", "one_more(x) + 0", "one_more(x) + 1")
         self.put("crates/workshop/wrong-bodies/two_more_adds_one.edit", "old:     one_more(x) + 0", "old:     one_more(x) + 1")
         self.assertIn("to be tried: none", run(self.room, "gate/wrong_bodies", "--read").stdout)
         self.put("crates/words/src/lib.rt", "u16::from(x) + 1", "u16::from(x) + 2")
-        self.quick("fn words::one_more: no proof", "workshop: proof LEFT", "low_tests: tests LEFT", "the program is not built")
+        self.quick("fn words::one_more: no proof", "low_tests: tests LEFT")
         self.put("crates/words/src/lib.rt", "u16::from(x) + 2", "1 + u16::from(x)")
-        self.quick("changed: words; tests to run: low_tests; the program is to be built", "words: proof passed", others=["workshop: proof passed"], counts="14 passed, 0 failed")
+        self.quick("changed: words; tests to run: low_tests; the program stays as it was built", "words: proof passed", "the program with its new bodies", others=["workshop: proof passed", "examples and manual:"], counts=(10, 0))
         self.assertEqual(self.tried(), "0 passed, 0 failed")
 
     def definitions(self):

@@ -3,6 +3,7 @@
 It was written for the kit WRITTEN_FOR. What another kit no longer has under these names is told by its name, when a script starts; where a script fails
 in another way under another kit, this file is what to compare with the kit's rt and rtlib.py.
 """
+import contextlib
 import copy
 import functools
 import hashlib
@@ -13,9 +14,9 @@ import shutil
 import sys
 import tempfile
 
-WRITTEN_FOR = "rattle-kit-13b logic dac8208d650f15bf"
+WRITTEN_FOR = "rattle-kit-13f logic dac8208d650f15bf"
 # Of rt, and of rtlib, which rt loads.
-NAMES = "KIT checked edited edits_of free in_lanes must_fail_all processors rtlib unread".split()
+NAMES = "KIT checked edited edits_of free in_lanes linked processors rtlib share_work unread work_for".split()
 LIBRARY_NAMES = "PARTS STALE crates_below files_of fmt guarded lock".split()
 CRATE_NAMES = "below build_and_run build_rlib check count has_tests is_built makes_rlib run".split()
 
@@ -42,8 +43,10 @@ rt = load()
 
 
 def start():
-    """Has what a script starts end with it. To be called first, by the main thread: it sets a signal's handler."""
+    """Has what a script starts end with it, and what it proves shared with the other checkouts of this machine. To be called first, by the main thread: it
+    sets a signal's handler."""
     rt.rtlib.guarded()
+    rt.share_work(True)
 
 
 @functools.lru_cache(maxsize=None)
@@ -68,6 +71,8 @@ must_fail_of = rt.edits_of
 # Whether a line of a check says that a text cannot be read.
 is_unread = rt.unread
 processors, free = rt.processors, rt.free
+# Copies a folder of kept work. What was proved is linked: a check replaces such a file, and changes none.
+linked = rt.linked
 
 
 def said_by(crate, work):
@@ -115,6 +120,17 @@ def checked(crate, texts, flags, kept):
             for it in new:
                 os.makedirs(f"{room}/{it}", exist_ok=True)
         return rt.checked(crate, texts, flags, kept)
+
+
+def begin(crate, folder):
+    """Makes a folder that holds what a check on this machine last kept of a crate, if one did, in this checkout or another. Checks over the folder leave that as it was."""
+    found = rt.work_for(crate)
+    if found:
+        # (another command may write what is copied)
+        with contextlib.suppress(OSError, shutil.Error):
+            return linked(found, folder)
+        shutil.rmtree(folder, ignore_errors=True)
+    os.mkdir(folder)
 
 
 def has_stale(said):

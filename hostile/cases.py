@@ -1,6 +1,7 @@
 """What the program is tried on: cases of hostile bytes (generator.c), the calls that they are tried by, and the refusals that a text of each kind may meet."""
 import ctypes
 import os
+import re
 import shutil
 import subprocess
 
@@ -14,6 +15,9 @@ IMAGE_BYTES, MOST_BYTES = 73728, 1 << 18
 KINDS = ["source", "feed", "commands", "image"]
 REFUSALS = {"source": range(10, 27), "feed": (30, 31, 32, 33, 35), "commands": (), "image": (3, 4, 5)}
 FIVE, KEY_ECHO, LOST_SUM, SECONDS = (f"{EXAMPLES}/{name}.agc" for name in ("five_plus_five", "key_echo", "lost_sum", "seconds"))
+NAMES = f"{EXAMPLES}/names.lst"
+# The refusals of a table of names, and of the image without an end that is read after it.
+TABLE_REFUSALS = (4, 36)
 EMPTY, CLOCK, KEYS = (f"{EXAMPLES}/{name}.feed" for name in ("empty", "clock", "key_echo"))
 
 # The calls by which the cases of a kind are tried in turn: 'case' is the case, 'twin' an image that differs a little from it, 'made' a file that is not there yet.
@@ -40,13 +44,21 @@ CALLS = {
 
 # Calls by which cases are tried besides, in processes of their own alone.
 FURTHER_CALLS = {
-    "source": [["asm", "--flight", "case", "made"], ["run", "--flight", "case", EMPTY, "200"]],
+    "source": [["asm", "--flight", "case", "made"], ["run", "--flight", "case", EMPTY, "200"], ["words", "--symbols", "case", "--rope=1", "/dev/zero"]],
+    "feed": [["debug", "--image", "--symbols", "case", "--rope=1", "/dev/zero", EMPTY]],
     "image": [
         ["parity", "case"],
         ["parity", "--form=hardware", "case"],
         ["words", "--source", "--parity=ignore", "case"],
         ["words", "--form=hardware", "case", "02"],
         ["sums", "--parity=ignore", "--form=hardware", "case"],
+        ["sums", "--forms", "case"],
+        ["sums", "--forms", "--rope=1", "case"],
+        ["words", "--symbols", NAMES, "--parity=ignore", "case"],
+        ["words", "--symbols", NAMES, "case", "02"],
+        ["trace", "--image", "--symbols", NAMES, "--parity=ignore", "case", EMPTY, "300"],
+        ["cover", "--image", "--symbols", NAMES, "case", EMPTY, "300"],
+        ["debug", "--image", "--symbols", NAMES, "--parity=ignore", "case", EMPTY],
         ["compare", "--parity=ignore", "--new-form=hardware", "case", "twin"],
         ["compare", "--only", FIVE, "case"],
         ["run", "--image", "--parity=ignore", "case", EMPTY, "300"],
@@ -56,12 +68,13 @@ FURTHER_CALLS = {
     ],
 }
 
-# A session of 42 commands, two of which add an input, and eleven of which only an extended session has.
+# A session of 48 commands, two of which add an input, and seventeen of which only an extended session has.
 ADDED = b"add 5000 TIME1 PINC"
 COMMANDS = b"""run 100
 break at FIVE
 break word 25 3
 break chan 10 12
+break chan 10 2 7
 seek
 back 5
 %s
@@ -80,9 +93,13 @@ goto 3
 on 40
 regs all
 until 400
+over 40
+out 40
+inputs
 why
 why 25
 why CH010 40
+trace 12
 where
 mem 02,4000 12
 mem 24 +2
@@ -91,6 +108,7 @@ find S
 clear
 run 900
 mem 25
+inputs
 goto 0
 regs
 goto 60
@@ -129,11 +147,19 @@ def with_ending(ending):
     return [f"{EXAMPLES}/{name}" for name in sorted(os.listdir(EXAMPLES)) if name.endswith(ending)]
 
 
+def operators():
+    """The operators of the source language, as an example has each."""
+    with open(f"{EXAMPLES}/operators.agc", encoding="utf-8") as lines:
+        fields = [re.match(r"[^#\s]*[ \t]+([^#\s]+)", it) for it in lines]
+    return list(dict.fromkeys(it[1] for it in fields if it))
+
+
 class Made:
     """What is made once: the libraries, and files of each kind that the program takes, from which cases are changed (those of the repository, and images made of them)."""
 
     def __init__(self, room):
         self.room = room
+        write(f"{room}/operators.h", "".join(f'    "{it}",\n' for it in operators()).encode())
         self.generator, self.in_process = build(room, "generator"), build(room, "in_process", "generator")
         self.commands = write(f"{room}/commands", COMMANDS)
         self.sound = {"source": with_ending(".agc"), "feed": with_ending(".feed"), "commands": [self.commands], "image": []}
@@ -147,7 +173,7 @@ class Made:
 def build(room, name, *others):
     """Builds a library of C."""
     library = f"{room}/{name}.so"
-    subprocess.run(["cc", "-O2", "-shared", "-fPIC", "-o", library, *(f"{HERE}/{it}.c" for it in (name, *others))], check=True)
+    subprocess.run(["cc", "-O2", "-shared", "-fPIC", f"-I{room}", "-o", library, *(f"{HERE}/{it}.c" for it in (name, *others))], check=True)
     return library
 
 

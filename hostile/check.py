@@ -104,7 +104,8 @@ def memory(room):
     source, feed, made, old, new, other = write(f"{room}/source", SOURCE), write(f"{room}/feed", FEED), f"{room}/made", f"{room}/old", f"{room}/new", f"{room}/other"
     for words in (("asm", source, old, "--rope", "1"), ("asm", source, new), ("asm", FIVE, other)):
         agcws(*words)
-    sessions_of = {"debug": ("debug", source, feed), "debug --image": ("debug", "--image", new, feed), "debug --extended": ("debug", "--extended", source, feed)}
+    names = ("--symbols", write(f"{room}/names", agcws("asm", source, new)[1]))
+    sessions_of = {"debug": ("debug", source, feed), "debug --image": ("debug", "--image", new, feed), "debug --extended": ("debug", "--extended", source, feed), "debug with names": ("debug", "--image", *names, new, feed)}
     calls = {
         "asm": ("asm", source, made),
         "run": ("run", source, feed, "300"),
@@ -123,16 +124,23 @@ def memory(room):
         "words": ("words", new),
         "words of a bank": ("words", "--rope", "1", old, "02"),
         "words as a source": ("words", "--source", new),
+        "words with names": ("words", *names, new, "02"),
+        "trace with names": ("trace", "--image", *names, new, feed, "300"),
+        "cover with names": ("cover", "--image", *names, new, feed, "300"),
+        "a refused table": ("words", "--symbols", source, new),
         "compare with a source": ("compare", "--only", source, other),
         "compare": ("compare", "--old", "1", old, other),
         "compare of equal images": ("compare", "--old", "1", old, new),
         "sums": ("sums", new),
+        "sums in both orders": ("sums", "--forms", new),
+        "where an image is refused": ("words", "--where", "--rope", "1", new),
         "parity": ("parity", old),
         "asm --flight": ("asm", "--flight", DOWNLIST, made),
         "run --flight": ("run", "--flight", DOWNLIST, feed, "300"),
         "check": ("check", source),
         "check of a source with faults": ("check", feed),
         "check of labels": ("check", "--unused", source),
+        "check of feeds": ("check", source, feed, old),
         "explain": ("explain",),
         "explain of a number": ("explain", "E16"),
         "a refused source": ("run", feed, feed, "300"),
@@ -283,8 +291,8 @@ def files_without_memory(refusing, source, feed, old, made):
     if os.path.exists(made):
         os.remove(made)
     upgrade, images = ("upgrade", old, made), ("--image", "--rope=1", old, feed)
-    calls = [(("asm", source, made), (source, made)), (("run", source, feed, "1"), (source, feed)), (("trace", source, feed, "1"), (source, feed)), (("cover", source, feed, "1"), (source, feed)), (("debug", source, feed), (source, feed)), (("check", source), (source,)), (upgrade, (old, made))]
-    calls += [(("words", "--rope=1", old), (old,)), (("sums", "--rope=1", old), (old,)), (("run", *images, "1"), (old, feed)), (("debug", *images), (old, feed))]
+    calls = [(("asm", source, made), (source, made)), (("run", source, feed, "1"), (source, feed)), (("trace", source, feed, "1"), (source, feed)), (("cover", source, feed, "1"), (source, feed)), (("debug", source, feed), (source, feed)), (("check", source), (source,)), (("check", source, feed), (source, feed)), (upgrade, (old, made))]
+    calls += [(("words", "--symbols", feed, "--rope=1", old), (feed, old)), (("debug", "--symbols", feed, *images), (feed, old)), (("words", "--rope=1", old), (old,)), (("sums", "--rope=1", old), (old,)), (("run", *images, "1"), (old, feed)), (("debug", *images), (old, feed))]
     for words, files in calls:
         for file in files:
             (status, out, err), _ = refusing.run(words, REFUSE_OPEN=file)
@@ -310,8 +318,8 @@ def devices(room):
     # Calls that write some output, the last two a session's.
     writing = [("run", FIVE, EMPTY, "100"), ("trace", FIVE, EMPTY, "100"), ("cover", FIVE, EMPTY, "100"), ("run", "--end", FIVE, EMPTY, "100"), ("run", "--progress", FIVE, EMPTY, "100"), ("run", "--notes", FIVE, EMPTY, "100"), ("run", "--image", "--rope=1", other, EMPTY, "100"), ("asm", FIVE, made), ("words", "--rope=1", image)]
     writing += [("asm", "--flight", DOWNLIST, made), ("run", "--flight", DOWNLIST, EMPTY, "100")]
-    writing += [("check", FIVE), ("check", "--unused", FIVE), ("explain",), ("explain", "17")]
-    writing += [("compare", "--old=1", "--new=1", image, other), ("sums", "--rope=1", image), ("parity", image), ("--help",), ("words", "--help"), ("--version",)]
+    writing += [("check", FIVE), ("check", FIVE, EMPTY, FIVE), ("check", "--unused", FIVE), ("explain",), ("explain", "17")]
+    writing += [("compare", "--old=1", "--new=1", image, other), ("sums", "--rope=1", image), ("sums", "--forms", "--rope=1", image), ("words", "--symbols", EMPTY, "--rope=1", image), ("trace", "--image", "--symbols", EMPTY, "--rope=1", other, EMPTY, "100"), ("cover", "--image", "--symbols", EMPTY, "--rope=1", other, EMPTY, "100"), ("parity", image), ("--help",), ("words", "--help"), ("--version",)]
     writing += [("debug", FIVE, EMPTY), ("debug", "--image", "--rope=1", other, EMPTY)]
     outputs_that_fail(writing)
     for words in (("asm", FIVE, "/dev/full"), ("asm", "--sums", FIVE, "/dev/full"), ("upgrade", image, "/dev/full"), ("asm", FIVE, folder), ("upgrade", image, folder), ("asm", FIVE, f"{folder}/none/rope"), ("upgrade", image, f"{folder}/none/rope")):
@@ -320,9 +328,10 @@ def devices(room):
     if os.path.exists(made):
         os.remove(made)
     for bad in (none, folder):
-        reading = [("run", bad, EMPTY, "1"), ("run", FIVE, bad, "1"), ("trace", bad, EMPTY, "1"), ("trace", FIVE, bad, "1"), ("cover", bad, EMPTY, "1"), ("cover", FIVE, bad, "1"), ("asm", bad, made), ("debug", bad, EMPTY), ("debug", FIVE, bad), ("upgrade", bad, made), ("words", bad), ("words", bad, "02"), ("sums", bad), ("parity", bad)]
+        reading = [("run", bad, EMPTY, "1"), ("run", FIVE, bad, "1"), ("trace", bad, EMPTY, "1"), ("trace", FIVE, bad, "1"), ("cover", bad, EMPTY, "1"), ("cover", FIVE, bad, "1"), ("asm", bad, made), ("debug", bad, EMPTY), ("debug", FIVE, bad), ("upgrade", bad, made), ("words", bad), ("words", bad, "02"), ("sums", bad), ("sums", "--forms", bad), ("parity", bad)]
+        reading += [("words", "--symbols", bad, "--rope=1", image), ("words", "--symbols", EMPTY, bad), ("trace", "--image", "--symbols", bad, "--rope=1", other, EMPTY, "1"), ("cover", "--image", "--symbols", bad, "--rope=1", other, EMPTY, "1"), ("debug", "--image", "--symbols", bad, "--rope=1", other, EMPTY)]
         reading += [("compare", bad, image), ("compare", "--old=1", image, bad), ("run", "--image", bad, EMPTY, "1"), ("run", "--image", "--rope=1", image, bad, "1")]
-        reading += [("debug", "--image", bad, EMPTY), ("debug", "--image", "--rope=1", image, bad), ("check", bad)]
+        reading += [("debug", "--image", bad, EMPTY), ("debug", "--image", "--rope=1", image, bad), ("check", bad), ("check", FIVE, bad), ("check", FIVE, EMPTY, bad)]
         for words in reading:
             answer = agcws(*words)
             told(f"devices: {name_of(words)}", answer == (3, b"", E6), f"{answer}")
@@ -393,6 +402,9 @@ def endless_inputs(made):
         (("words", "--rope=1", zeros), b"E4"),
         (("words", zeros), b"E5"),
         (("sums", "--rope=1", zeros), b"E4"),
+        (("sums", "--forms", "--rope=1", zeros), b"E4"),
+        (("words", "--symbols", zeros, zeros), b"E34"),
+        (("debug", "--image", "--symbols", zeros, zeros, EMPTY), b"E34"),
         (("parity", zeros), b"E4"),
         (("compare", "--old=1", zeros, zeros), b"E4"),
         (("run", "--image", "--rope=1", zeros, EMPTY, "1"), b"E4"),
@@ -402,7 +414,7 @@ def endless_inputs(made):
         told(f"devices: {name_of(words)}, which has no end", answer == (1, b"", b"agcws: " + error + b"\n") and not os.path.exists(made), f"{answer}")
     with open(zeros, "rb") as endless:
         ran = subprocess.run([PROGRAM, "debug", FIVE, EMPTY], stdin=endless, capture_output=True, timeout=60)
-    told("devices: commands without an end", (ran.returncode, ran.stdout, ran.stderr) == (0, b"E51 LONG\n", b""), f"{ran.returncode} {ran.stdout[-200:]} {ran.stderr}")
+    told("devices: commands without an end", (ran.returncode, ran.stdout, ran.stderr) == (0, b"E51 LONG\n", b"agcws: commands end after 16777216 bytes\n"), f"{ran.returncode} {ran.stdout[-200:]} {ran.stderr}")
 
 
 def few_of_the_system(writing):
@@ -452,7 +464,7 @@ def sizes(room):
     most = 8_388_608
     zeros = write(f"{room}/zeros", bytes(IMAGE_BYTES))
     large = write(f"{room}/large", b"#" * 100 + b"\n" * (most - 99))
-    for words in (("run", large, EMPTY, "1"), ("run", FIVE, large, "1"), ("trace", FIVE, large, "1"), ("asm", large, f"{room}/rope"), ("debug", FIVE, large), ("run", "--image", "--rope=1", zeros, large, "1"), ("debug", "--image", "--rope=1", zeros, large)):
+    for words in (("run", large, EMPTY, "1"), ("run", FIVE, large, "1"), ("trace", FIVE, large, "1"), ("asm", large, f"{room}/rope"), ("debug", FIVE, large), ("run", "--image", "--rope=1", zeros, large, "1"), ("debug", "--image", "--rope=1", zeros, large), ("words", "--symbols", large, "--rope=1", zeros), ("trace", "--image", "--symbols", large, "--rope=1", zeros, EMPTY, "1")):
         answer = agcws(*words)
         told(f"sizes: {words[0]} of {most + 1} bytes", answer == (1, b"", b"agcws: E34\n"), f"{answer}")
     whole = write(f"{room}/whole", b" SETLOC 4000\n TCF 4000\n" + b"#\n" * 65_534)
@@ -465,6 +477,14 @@ def sizes(room):
     told(f"sizes: the image and the listing of {len(longest)} bytes", (status, err) == (0, b"") and os.path.getsize(made) == IMAGE_BYTES and out.endswith(b"SYMBOLS 0\n"), f"{status} {out[-80:]} {err}")
     write(whole, b" SETLOC 4000\n TCF 4000\n" + b"#\n" * 65_535)
     told("sizes: a source of 65,537 lines", agcws("run", whole, EMPTY, "5") == (1, b"", b"agcws: E12 LINE 65537\n"), f"{agcws('run', whole, EMPTY, '5')}")
+    write(whole, b" SETLOC 10000\n TCF 4000\n" + b"#\n" * 262_142)
+    told("sizes: a flight source of 262,144 lines", agcws("asm", "--flight", whole, made)[::2] == (0, b""), f"{agcws('asm', '--flight', whole, made)[2]}")
+    write(whole, b" SETLOC 10000\n TCF 4000\n" + b"#\n" * 262_143)
+    told("sizes: a flight source of 262,145 lines", agcws("asm", "--flight", whole, made) == (1, b"", b"agcws: E12 LINE 262145\n"), f"{agcws('asm', '--flight', whole, made)}")
+    write(whole, b" " * 119 + b"#" * (most - 120) + b"\n")
+    told("sizes: a flight source that is a comment", agcws("asm", "--flight", whole, made)[::2] == (0, b""), f"{agcws('asm', '--flight', whole, made)[2]}")
+    write(whole, b" " * 120 + b"#" * (most - 121) + b"\n")
+    told("sizes: a flight line of 120 bytes and a comment", agcws("asm", "--flight", whole, made) == (1, b"", b"agcws: E11 LINE 1\n"), f"{agcws('asm', '--flight', whole, made)}")
     inputs = write(f"{room}/inputs", b"7 TIME1 PINC\n" * 65_536)
     told("sizes: 65,536 inputs", agcws("run", FIVE, inputs, "5")[0] == 0)
     write(inputs, b"7 TIME1 PINC\n" * 65_537)
@@ -472,8 +492,11 @@ def sizes(room):
     # A line that is too long, and a command whose last byte is the last that counts.
     commands = b"x" * (16_777_216 - 8) + b"\nstep 1\n"
     right = agcws("debug", FIVE, EMPTY, commands=b"x" * 81 + b"\nstep 1\n")
-    told("sizes: commands of 16,777,216 bytes", agcws("debug", FIVE, EMPTY, commands=commands) == right)
-    told("sizes: commands of more bytes", agcws("debug", FIVE, EMPTY, commands=commands + b"step 5\n") == right)
+    ended = (*right[:2], b"agcws: commands end after 16777216 bytes\n")
+    told("sizes: commands of 16,777,216 bytes", agcws("debug", FIVE, EMPTY, commands=commands) == ended)
+    told("sizes: commands of more bytes", agcws("debug", FIVE, EMPTY, commands=commands + b"step 5\n") == ended)
+    told("sizes: commands of a byte less", agcws("debug", FIVE, EMPTY, commands=commands[1:]) == right)
+    told("sizes: an extended session of more bytes", agcws("debug", "--extended", FIVE, EMPTY, commands=commands + b"echo on\n") == (0, b"E51 LONG\nAT 1 2 02,4001\non\n", b""))
     image_sizes(room, zeros)
 
 
@@ -548,7 +571,8 @@ class Worker:
             is_silent = re.fullmatch(rb"END STEPS \d+ CYCLES \d+ OUTPUTS \d+ Z [0-7]{4}\n", err) if "--end" in words else not err
             return "" if is_silent and is_made else f"done, with {err!r}"
         number = re.fullmatch(rb"agcws: E(\d+)(?: LINE [1-9]\d*)?\n", err)
-        if status != 1 or not number or int(number[1]) not in REFUSALS[kind]:
+        refusals = cases.TABLE_REFUSALS if "--symbols" in words and kind != "image" else REFUSALS[kind]
+        if status != 1 or not number or int(number[1]) not in refusals:
             return f"status {status}, {err!r}"
         return "" if not out and not has_made else "refused, with some output"
 

@@ -6,11 +6,10 @@
 #define COUNT_OF(list) (sizeof(list) / sizeof((list)[0]))
 #define PICK(numbers, list) ((list)[below(numbers, COUNT_OF(list))])
 
+/* Each operator of the language once, which cases.py takes from examples/operators.agc, and some that are none. */
 static const char *const OPERATORS[] = {
-    "TC", "CCS", "TCF", "DAS", "LXCH", "INCR", "ADS", "CA", "CAE", "CAF", "CS", "INDEX", "DXCH", "TS", "XCH", "AD", "MASK", "READ", "WRITE", "RAND", "WAND",
-    "ROR", "WOR", "RXOR", "EDRUPT", "DV", "BZF", "MSU", "QXCH", "AUG", "DIM", "DCA", "DCS", "SU", "BZMF", "MP", "EXTEND", "INHINT", "RELINT", "RESUME", "NOOP",
-    "TCR", "NDX", "MSK", "XXALQ", "XLQ", "RETURN", "DDOUBL", "ZL", "COM", "DTCF", "DTCB", "OVSK", "TCAA", "DOUBLE", "ZQ", "DCOM", "SQUARE", "CYR", "OCT",
-    "OCTAL", "DEC", "2CADR", "CADR", "FCADR", "ECADR", "ADRES", "EBANK=", "SETLOC", "BANK", "BLOCK", "EQUALS", "=", "ERASE", "COUNT", "2DEC", "FROB"};
+#include "operators.h"
+    "EDRUPT", "CYR", "OCTAL", "COUNT", "2DEC", "FROB"};
 static const char *const NAMES[] = {"X", "Y", "SUM", "LOOP", "START", "TABLE", "A", "Q", "+5", "-3", "12D", "NAME.OF8", "ABCDEFGHI", "#", ""};
 static const char *const OPERANDS[] = {
     "X", "Y", "SUM", "LOOP", "START", "TABLE", "A", "Q", "+5", "-3", "12D", "NAME.OF8", "ABCDEFGHI", "#", "", "0", "5", "7", "10", "44", "100", "377", "1400",
@@ -25,20 +24,21 @@ static const char *const SOUND_INPUTS[] = {
 static const char *const PERIODS[] = {"0", "1", "3", "2560", "999999999", "1234567890"};
 static const char *const DIVISORS[] = {"0", "1", "3", "999999999"};
 static const char *const TIMES[] = {"1", "4", "600", "999999999"};
-static const char *const COMMANDS[] = {"step", "run", "back", "goto", "seek", "break", "clear", "regs", "mem", "chan", "last", "sym", "changed", "tail", "add", "quit", "breaks", "echo", "help", "why", "where", "find"};
+static const char *const COMMANDS[] = {"step", "run", "back", "goto", "seek", "break", "clear", "regs", "mem", "chan", "last", "sym", "changed", "tail", "add", "quit", "breaks", "echo", "help", "why", "where", "find", "inputs"};
 /* (Of step and run none asks for so many steps that a call is slow; others may ask for any.) */
 static const char *const WORDS[] = {"at", "word", "chan", "0", "1", "4", "17", "100", "4000", "02,4001", "43,0017", "SUM", "START", "-1", "TIME1", "PINC", "#", "2,0", "02,4005", "E3,1400", "E0,0024", "A", "Z", "+3", "+1777",
     "xxxxxxxxxxxxxxxxxxxxxxxxxxxxxxxxxxxxxxxxxxxxxxxxxxxxxxxxxxxxxxxxxxxxxx", "999999999999999", "1099511627775", "9999999999999999"};
 enum { LARGE_WORDS = 3 };
 static const char *const SOUND_COMMANDS[] = {
     "step 1", "step 7", "step 90", "run 3", "run 50", "run 400", "back 1", "back 30", "goto 0", "goto 5", "goto 60", "seek", "break at 4001", "break at FIVE",
-    "break word 5 4002", "break chan 10 12", "clear", "clear 1", "breaks", "echo # 1", "help", "help mem", "regs", "regs all", "why", "why 25", "why SUM 40", "why A 3", "why CH010", "why SUM +1", "where", "find S", "find ", "mem 0 40", "mem 02,4000 9", "mem E3,1400 +2", "mem A", "last L", "break at 02,4001", "break word SUM +1 3", "mem 0", "mem FIVE", "mem 25", "chan 10", "last 0", "last 25", "sym START", "sym FIVE", "changed 0",
+    "break word 5 4002", "break chan 10 12", "break chan 10 2 7", "clear", "clear 1", "breaks", "echo # 1", "help", "help mem", "regs", "regs all", "why", "why 25", "why SUM 40", "why A 3", "why CH010", "why SUM +1", "trace 0", "trace 5", "trace 60", "where", "find S", "find ", "over 40", "over 3", "out 40", "out 5", "inputs", "mem 0 40", "mem 02,4000 9", "mem E3,1400 +2", "mem A", "last L", "break at 02,4001", "break word SUM +1 3", "mem 0", "mem FIVE", "mem 25", "chan 10", "last 0", "last 25", "sym START", "sym FIVE", "changed 0",
     "changed 3", "tail", "add 50 TIME1 PINC", "add 900 CHAN 15 21", "add 3000 RUPT 4", ""};
 /* Lines that a source of flight programs may have alone; X begins a label of its own. */
 static const char *const FLIGHT_LINES[] = {
     "+3\tOCT\t5", " -1 DEC -5", "+12D", "\tCOUNT*\t$$/EXEC", " COUNT 05 05 05", "\tBNKSUM\t05", " SUBRO", "\tMEMORY\t120000 - 167777", "X\tEQUALS", "X =\t# here",
     "\tBANK", " BLOCK", "\tOCTAL\t37777", "\tGENADR\t5777", " REMADR 4003 -3", "\t1DNADR\t0", "\t6DNADR\t3700 +77", "\tDNCHAN\t777",
-    "\tOCT\t-20000", " 2OCT 1234567012", " VN 0633", " 2DEC -.1", " 2DEC 1738090 B-29", " DEC 1.0 E4 B-14", " DEC +1 B-14", " -CADR 4000", " -2CADR 4000", "\tBBCON\t5777", " -CCS 0", " -6DNADR 154"};
+    "\tOCT\t-20000", " 2OCT 1234567012", " VN 0633", " 2DEC -.1", " 2DEC 1738090 B-29", " DEC 1.0 E4 B-14", " DEC +1 B-14", " -CADR 4000", " -2CADR 4000", "\tBBCON\t5777", " -CCS 0", " -6DNADR 154",
+    " TC 10000", " CA 12000 +5", " TCF 77777 -1", " EBANK= 1400 # of any length", "X EQUALS 10000", " DXCH 100 # -1"};
 static const char ALPHABET[] = "\n\n\n\t    ##++--,.$=00112233445566778899ABCDEIKLNORSTUXacdeghkmnr";
 static const char *const INSERTED[] = {"\n", "\r\n", "\t", "#", "\377", "0", "7",
     "xxxxxxxxxxxxxxxxxxxxxxxxxxxxxxxxxxxxxxxxxxxxxxxxxxxxxxxxxxxxxxxxxxxxxxxxxxxxxxxxxxxxxxxxxxxxxxxxxxxxxxxxxxxxxxxxxxxxxxxxxxxxxxxxxxxx"};
@@ -312,16 +312,21 @@ static struct numbers numbers_of(const char *seed, enum kind kind, uint64_t numb
     return numbers;
 }
 
-/* Gives a number of steps to each `on` that has none: it would go on without an end where no breakpoint holds. */
+/* The commands that go on without an end where they take no number of steps, and come to none. */
+static const char *const ENDLESS[] = {"on", "over", "out"};
+
+/* Gives a number of steps to each of these that has none. */
 static void bound_each_on(struct made *made)
 {
     int begins = 1;
     for (size_t at = 0; at < made->length; at++) {
         unsigned char byte = made->bytes[at];
-        if (begins && byte == 'o' && at + 1 < made->length && made->bytes[at + 1] == 'n') {
-            size_t next = at + 2;
+        for (size_t it = 0; begins && it < sizeof ENDLESS / sizeof *ENDLESS; it++) {
+            size_t next = at + strlen(ENDLESS[it]);
+            if (next > made->length || memcmp(made->bytes + at, ENDLESS[it], next - at) != 0) continue;
+            size_t end = next;
             while (next < made->length && (made->bytes[next] == ' ' || made->bytes[next] == '\t')) next++;
-            if (next == made->length || made->bytes[next] < '0' || made->bytes[next] > '9') insert(made, at + 2, " 40 ", 4);
+            if (next == made->length || made->bytes[next] < '0' || made->bytes[next] > '9') insert(made, end, " 40 ", 4);
         }
         begins = byte == '\n' || (begins && (byte == ' ' || byte == '\t'));
     }

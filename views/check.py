@@ -62,7 +62,7 @@ def check_session(room):
     """Whatever a command replies, its reply is told apart from the next one."""
     with pipe.Session(f"{EXAMPLES}/five_plus_five.agc", EMPTY) as session:
         for command, reply in [
-            ("step 1", ["AT 1 2 4001"]),
+            ("step 1", ["AT 1 2 02,4001"]),
             ("", []),
             ("# a comment", []),
             ("!", ["E50 COMMAND no command !"]),
@@ -72,7 +72,7 @@ def check_session(room):
             ("sym NONE", ["E17 UNDEFINED"]),
             ("goto 2", ["E41 NOT YET"]),
             ("x" * 81, ["E51 LONG"]),
-            ("run 7", ["7 CH 010 00012", "AT 8 13 4003"]),
+            ("run 7", ["7 CH 010 00012", "AT 8 13 02,4003"]),
             ("changed 0", ["0000", "0005", "COUNT 2"]),
         ]:
             same(f"the reply to {command!r}", session.ask(command), reply)
@@ -107,14 +107,14 @@ def check_readings(room):
 
 def check_calls(room):
     """What all views do alike: help, files that are not there, a program that is not there, an output that nobody reads."""
-    for view in ["talk", "dap", "shake", "wave", "dsky", "bridge", "report"]:
+    for view in ["talk", "dap", "shake", "chain", "wave", "dsky", "bridge", "report"]:
         status, out, err = call(view, "--help")
         told(f"{view} --help", (status, err) == (0, "") and out.startswith(f"usage: {view} "), f"{out} {err}")
     same("a feed that is not there", call("shake", LOST[0], "4", "RUPT 1", "--feed", f"{room}/none"), (3, "", f"shake: {room}/none: No such file or directory\n"))
     same("a source that is not there", call("wave", f"{room}/none", EMPTY, "4"), (3, "", "agcws: E6\n"))
     same("lines that are not there", call("dsky", f"{room}/none"), (3, "", f"dsky: {room}/none: No such file or directory\n"))
     status, out, err = call("wave", *LOST, "4", env={**os.environ, "AGCWS": f"{room}/none"})
-    same("a program that is not there", (status, out, err), (3, "", f"{room}/none is not there: ./agcws --help builds the program first\n"))
+    same("a program that is not there", (status, out, err), (3, "", f"{room}/none is not there: ./agcws --help builds it, or AGCWS names another, as crates/agcws/out/unproved/agcws after ./agcws --unproved --help\n"))
     with subprocess.Popen([f"{VIEWS}/wave", f"{EXAMPLES}/seconds.agc", EMPTY, "50000"], stdout=subprocess.PIPE, stderr=subprocess.PIPE) as ran:
         ran.stdout.close()
         same("an output that nobody reads", ran.stderr.read(), b"")
@@ -129,6 +129,17 @@ def talk(commands, *words, **more):
     same(f"the end of talk about {commands[:2]}", (status, err), (0, ""))
     parts = re.split(r"^\(\d+\) .*\n", out, flags=re.M)
     return [it.splitlines() for it in parts]
+
+
+def check_watches(room):
+    """Registers that have a symbol are watched as steps tell them; what steps do not tell is refused. Lists go by an erasable symbol too."""
+    source = write(f"{room}/watch.agc", b"EB EQUALS 3\n SETLOC 100\nX ERASE\n SETLOC 4000\n CA BANK3\n TS EB\n TS X\nDONE TCF DONE\nBANK3 OCT 1400\n")
+    shown = talk(["watch EB", "c", "watch Z", "watch BB", "watch 4001", "list X"], source, EMPTY)
+    same("a register with a symbol is watched", shown[1], ["EB 00000 = 0 = +0.00000 = 000 000 000 000 000"])
+    same("and stops a move", shown[2][:2], ["changed: EB 00000 -> 01400", "step 2, cycle 4: TS EB  EB=01400"])
+    same("what steps do not tell", shown[3:6], [["Z changes at each step"], ["BB is EB and FB: watch these"], ["fixed memory does not change"]])
+    told("a list by an erasable symbol", "      3 E0,0100        X ERASE" in shown[6], f"{shown[6]}")
+    same("a flight source", talk(["step"], "--flight", f"{EXAMPLES}/flight/downlist.agc", EMPTY)[1][0][:7], "step 1,")
 
 
 def check_talk(room):
@@ -334,7 +345,7 @@ def check_dap(room):
     while len(sums) < 9 and client.go("reverseContinue")[0] == "data breakpoint":
         sums.append(client.words(2)["SUM"])
     same("the sum's words, backwards", sums, ["00075", "00063", "00037", "00001", "77715"])
-    same("a command of the console", client.evaluate("goto 22"), "AT 22 41 4111")
+    same("a command of the console", client.evaluate("goto 22"), "AT 22 41 02,4111")
     same("where the sum goes wrong", client.stop(), ("goto", 30, "LOOP +5"))
     same("a step back", client.go("stepBack")[0], "step")
     same("A is wrong already", (client.words(1)["A"], client.words(2)["SUM"]), ("000001", "77715"))
@@ -410,6 +421,10 @@ def check_shake(room):
     same("where it does so", lines[at + 1], "  26-29 37-38")
     wanted = "without it: CH 012 00075\n1 of 1 cycles: the same\n  60\n"
     same("a second pulse, with a feed", call("shake", LOST[0], "200", "TIME3 PINC", "--feed", LOST[1], "--from", "60", "--to", "60", "--jobs", "1"), (0, wanted, ""))
+    # A loop without an end, and a routine that is RESUME alone: the last words of N steps come later
+    source = write(f"{room}/loop.agc", b"X EQUALS 100\n SETLOC 4000\n RELINT\nLOOP INCR X\n CA X\n EXTEND\n WRITE 10\n TCF LOOP\n SETLOC 4024\n RESUME\n")
+    status, out, _ = call("shake", source, "40", "CHAN 15 21", "--to", "30")
+    told("words that come later", (status, out.splitlines()[1:]) == (0, ["30 of 30 cycles: the same", "  1-30"]), out)
     # A word of its own, and one that is put out before or after that of the routine
     source = write(f"{room}/two.agc", b" SETLOC 4000\n RELINT\n CAF FIVE\n EXTEND\n WRITE 10\nDONE TCF DONE\nFIVE OCT 5\n SETLOC 4024\n EXTEND\n WRITE 11\n RESUME\n")
     other = "without it: CH 010 00005\n6 of 6 cycles: CH 011 word 1 is 00005 in place of none\n  1-6\n"
@@ -464,6 +479,18 @@ class Dump:
 
 # What a session is asked for the word of a signal.
 ASKED = {"channels": lambda it: f"chan {it[2:]}", "cells": lambda it: f"mem {it}", "registers": lambda it: f"mem {'A L Q EB FB Z BB'.split().index(it)}"}
+
+
+def check_chain(room):
+    drawn = examples.text_of("docs/pictures/lost_sum.svg")
+    same("the picture of a chain", call("chain", *LOST, "60", "SUM", "--mark", "20"), (0, drawn, ""))
+    # (by the manual: the steps 43 and 42, which read SUM's A, and TABLE)
+    status, out, err = call("chain", *LOST, "60", "SUM", "--most", "2")
+    same("a chain of two steps", (status, re.findall(r'class="step"[^>]*>(\d+)<', out), err), (0, ["42", "43"], ""))
+    same("the words of a chain", re.findall(r'class="(word|never)"[^>]*>(\d+)<', out), [("never", "000063"), ("never", "00012"), ("word", "000075"), ("word", "00075")])
+    same("a chain of no steps", call("chain", *LOST, "0", "SUM"), (1, "", "why SUM: START SUM 00000\n"))
+    same("a chain of no place", call("chain", *LOST, "4", "SUMM")[0], 1)
+    same("a mark at no step of a chain", call("chain", *LOST, "60", "SUM", "--most", "2", "--mark", "20"), (2, "", "step 20 is none of the chain: --mark takes one of 42, 43\n"))
 
 
 def check_wave(room):
@@ -890,10 +917,8 @@ def check_operators(room):
     named = {group: rules[group][1].split("|") for group in GROUPS}
     operators = [it for group in GROUPS for it in named[group]]
     same("the operators of the grammar", sorted(operators), sorted(operators_of_manual()))
-    vim, emacs = text_at(f"{EDITORS}/vim/syntax/agc.vim"), text_at(f"{EDITORS}/emacs/agc-mode.el")
-    for group in GROUPS:
-        same(f"each {group} in Vim", re.search(rf"^syntax match agc{group.title()} /\\%\((.*?)\\\)\\ze", vim, re.M)[1].split("\\|"), named[group])
-        same(f"each {group} in Emacs", re.findall(r'"(\S+?)"', re.search(rf"^\(defconst agc-{group}s\n(.*?)^$", emacs, re.M | re.S)[1]), named[group])
+    ran = subprocess.run([f"{EDITORS}/make", "--check"], capture_output=True, text=True, check=False)
+    same("the lists of the editors", (ran.returncode, ran.stdout, ran.stderr), (0, "", ""))
     for it in [*operators, "FROB"]:
         source = write(f"{room}/operator.agc", f" {it}\n".encode())
         told(f"{it} is {'none' if it == 'FROB' else 'an operator'} of the program", ("E15" in str(refusal(lambda: pipe.listing_of(source)))) == (it == "FROB"))
@@ -990,8 +1015,10 @@ def main():
         check_readings(room)
         check_calls(room)
         check_talk(room)
+        check_watches(room)
         check_dap(room)
         check_shake(room)
+        check_chain(room)
         check_wave(room)
         check_dsky()
         check_bridge(room)

@@ -15,6 +15,14 @@ MOST_STEPS, MOST_TOLD = 1_099_511_627_774, 100_000_000
 PART_SECONDS = 0.1
 
 
+# The least address of fixed memory.
+FIXED = 0o2000
+# Registers, which steps tell by letters whatever symbols have their places.
+REGISTERS = {"0000": "A", "0001": "L", "0002": "Q", "0003": "EB", "0004": "FB"}
+# Those that steps do not tell, and why.
+UNTOLD = {"0005": "Z changes at each step", "0006": "BB is EB and FB: watch these"}
+
+
 class Coming(NamedTuple):
     """What stands at the position: the step that led there, or None; the next step; and the row that is executed next, or None."""
 
@@ -32,7 +40,7 @@ class Desk:
         try:
             self.commands = [line.split()[1] for line in self.session.ask("help")]
             is_image = "--image" in words
-            self.rows, self.symbols = (pipe.words_of(words[-1], *words[1:-1]), {}) if is_image else pipe.listing_of(words[-1])
+            self.rows, self.symbols = (pipe.words_of(words[-1], *words[1:-1]), {}) if is_image else pipe.listing_of(*words)
         except pipe.Refused:
             self.session.end()
             raise
@@ -182,24 +190,30 @@ class Desk:
         return None
 
     def watch(self, place):
-        """Watches a place: the name by which steps tell it, or None where there is no such place."""
-        word = self.word(place)
-        name = word and self.name_of(place)
+        """Watches a place: the name by which steps tell it, or None where there is no such place. Raises ValueError where steps do not tell it."""
+        name = self.word(place) and self.name_of(place)
         if name:
-            self.watched[name] = word
+            self.watched[name] = self.told_word(name)
         return name
+
+    def told_word(self, name):
+        """The word of a watched place as steps write it."""
+        number = next((it for it in ("0003", "0004") if REGISTERS[it] == name), None)
+        return self.one_word(f"mem {number}") if number else self.registers()[name] if name in REGISTERS.values() else self.word(name)
 
     def name_of(self, place):
         """The name by which `agcws trace` tells a place."""
-        kind, value = self.symbols.get(place, ("NUM", place))
+        kind, value = self.symbols.get(place, ("NUM", {"Z": "5", "BB": "6"}.get(place, place)))
         if not re.fullmatch("[0-7]+", value):
             return place
         number = f"{int(value, 8):04o}"
-        return next((name for name, it in self.symbols.items() if it == ("ERASABLE", number)), number)
+        if number in UNTOLD or int(value, 8) >= FIXED:
+            raise ValueError(UNTOLD.get(number, "fixed memory does not change"))
+        return REGISTERS.get(number) or next((name for name, it in self.symbols.items() if it == ("ERASABLE", number)), number)
 
     def look_again(self):
         """The watched places have the words of the position."""
-        self.watched = {name: self.word(name) or word for name, word in self.watched.items()}
+        self.watched = {name: self.told_word(name) or word for name, word in self.watched.items()}
 
     def registers(self):
         """The registers and flags, each with its word as it is written, and what is asked for, where the program tells that."""

@@ -27,7 +27,7 @@ def program():
     for path in [named] if named else [f"{ROOT}/crates/agcws/out/agcws", "agcws"]:
         if shutil.which(path):
             return path
-    raise Refused(3, f"{named or 'the program'} is not there: ./agcws --help builds the program first")
+    raise Refused(3, f"{named or 'the program'} is not there: ./agcws --help builds it, or AGCWS names another, as crates/agcws/out/unproved/agcws after ./agcws --unproved --help")
 
 
 def answer(*words, given=""):
@@ -97,9 +97,9 @@ def row_of(line):
     return Row(int(line[:5]), line[6:13].strip(), line[14:19].strip(), line[21:])
 
 
-def listing_of(source):
-    """Returns the rows of a source's listing, and its symbols: each name with its kind and value as they are written."""
-    rows, symbols = re.split(r"^SYMBOLS \d+\n", answer("asm", source, "/dev/null")[0], flags=re.M)
+def listing_of(*words):
+    """Returns the rows of the listing of a source, which stands behind its options, and its symbols: each name with its kind and value as they are written."""
+    rows, symbols = re.split(r"^SYMBOLS \d+\n", answer("asm", *words, "/dev/null")[0], flags=re.M)
     parts = [row_of(it) for it in rows.splitlines()]
     return parts, {name: (kind, value) for name, kind, value in map(str.split, symbols.splitlines())}
 
@@ -111,10 +111,10 @@ class Account(NamedTuple):
     cycles: int
 
 
-def cover_of(source, feed, steps):
-    """Returns what `agcws cover` counts of a run of a source: the rows of the listing, each with its account or None, and the accounts of the other lines by name."""
+def cover_of(*words):
+    """Returns what `agcws cover` counts of a run of a source, which stands behind its options and before feed and steps: the rows of the listing, each with its account or None, and the accounts of the other lines by name."""
     rows, others = [], {}
-    for line in answer("cover", source, feed, steps)[0].splitlines():
+    for line in answer("cover", *words)[0].splitlines():
         figures, text = line[:21].split(), line[22:]
         account = Account(*map(int, figures)) if figures and "-" not in figures else None
         if text[:5].strip().isdigit():
@@ -132,11 +132,11 @@ def knows(*words):
         return False
 
 
-def faults_of(source):
-    """What the program tells of a source, line by line: its faults and warnings. Nothing where there are none, or where it has no subcommand for that."""
+def faults_of(*words):
+    """What the program tells of a source, which stands behind its options, line by line: its faults and warnings. Nothing where there are none, or where it has no subcommand for that."""
     if not knows("check"):
         return []
-    ran = subprocess.run([program(), "check", source], stdin=subprocess.DEVNULL, capture_output=True, text=True, errors="replace", check=False)
+    ran = subprocess.run([program(), "check", *words], stdin=subprocess.DEVNULL, capture_output=True, text=True, errors="replace", check=False)
     lines = (ran.stdout or ran.stderr).splitlines()
     # (the last one counts them)
     return lines if len(lines) > 1 or ran.returncode else []
@@ -204,13 +204,16 @@ def with_input(feed, cycle, text):
 def take_program(parser):
     """Has a view take a source or an image, as the program does."""
     parser.add_argument("source", metavar="SRC", help="the source, a file")
-    parser.add_argument("--image", action="store_true", help="SRC is a rope image")
+    kind = parser.add_mutually_exclusive_group()
+    kind.add_argument("--flight", action="store_true", help="SRC has forms of flight programs")
+    kind.add_argument("--image", action="store_true", help="SRC is a rope image")
     parser.add_argument("--rope", choices=["1", "2"], default="2", metavar="VERSION", help="the image's version, 1 or 2 [default: 2]")
 
 
 def program_words(asked):
     """The options and the source that a view was called with, as words for the program."""
-    return [*(["--image", "--rope", asked.rope] if asked.image else []), asked.source]
+    options = ["--image", "--rope", asked.rope] if asked.image else ["--flight"] if asked.flight else []
+    return [*options, asked.source]
 
 
 def main(view):

@@ -58,6 +58,15 @@ pub const AS_SOURCE: &str = "AS_SOURCE";
 /// The option by which a source is compared with an image, at the places that it fills.
 pub const ONLY: &str = "ONLY";
 
+/// The option that is a table of names for an image.
+pub const SYMBOLS: &str = "SYMBOLS";
+
+/// The option by which it is told where an image is refused.
+pub const WHERE: &str = "WHERE";
+
+/// The option by which the sums of an image are told in both orders of the bits.
+pub const BOTH_FORMS: &str = "BOTH_FORMS";
+
 /// The option that is the form of an image.
 pub const FORM: &str = "FORM";
 
@@ -136,6 +145,9 @@ pub const NEW: &str = "NEW";
 /// The argument that names the feed.
 pub const FEED: &str = "FEED";
 
+/// The feeds of a check.
+pub const FEEDS: &str = "FEEDS";
+
 /// The argument that is the number of steps.
 pub const STEPS: &str = "N";
 
@@ -152,7 +164,8 @@ const ASM_HELP: &str = "Files:
   SRC   a source in the assembler's language, at most 65536 lines of at most
         120 bytes. A label begins at the first byte of its line; operator,
         operand and offset follow, and # begins a comment.
-        With --flight it may have forms of flight programs: see the manual.
+        With --flight it may have forms of flight programs: see the manual;
+        and at most 262144 lines, whose comments may be of any length.
   ROPE  the rope image, 73728 bytes: banks 2, 3, 0, 1, 4 to 43 (octal), each
         of 1024 words, each word as two bytes, high byte first, of twice the
         word. In version 2 the lowest bit is a parity bit, by which every two
@@ -176,7 +189,8 @@ Exit status:
   2  the command line is wrong
   3  a file, a device or memory failed
 Status 1 and 3 print one line to standard error, as agcws: E14 LINE 9. What the
-number means: agcws explain E14. All faults of a source: agcws check SRC.";
+number means: agcws explain E14. All faults, and whether the file is a source or
+of another kind: agcws check SRC.";
 
 const UPGRADE_HELP: &str = "Files:
   OLD  a rope image of version 1, 73728 bytes: banks 2, 3, 0, 1, 4 to 43
@@ -211,6 +225,12 @@ word is. A word is read as an extracode where the words before it in its bank
 put extracode in force: EXTEND does for the next word, and INDEX that is read as
 an extracode keeps it. So a number that stands among the instructions may be
 shown as an instruction, and the word after it as an extracode that it is not.
+With --symbols a name stands for an address, as AD FIVE, or the nearest before
+it and how far in octal, as TC WAITLIST +2, and A, L, Q, EB, FB, Z, BB for the
+registers; where the place depends on EB, or in bank 2 or 3 on FB, the address
+stays. FILE is a listing of agcws asm, whose lines below SYMBOLS are taken, or
+has lines of a name and a place: 02,4013, 02,0013, E3,1400 or a number. Of two
+names of one place the first is shown.
 With --source a source that gives these words to agcws asm: for each bank a line
 BANK, and for each of its words a line as
           OCT     64005   # 02,4001 AD 4005
@@ -218,10 +238,12 @@ BANK, and for each of its words a line as
 Exit status:
   0  done
   1  the image is refused: it is short (E3) or long (E4), or the lowest bit of
-     two of its bytes is wrong (E5)
+     two of its bytes is wrong (E5); or a line of the table is (E36)
   2  the command line is wrong
   3  a file, a device or memory failed
-Status 1 and 3 print one line to standard error, as agcws: E5.";
+Status 1 and 3 print one line to standard error, as agcws: E5. With --where one
+more tells of E5 the first two bytes that are wrong, as agcws: BYTE 2 02,4001:
+the number of the first of them in the file, from 0 on, and the word's place.";
 
 const COMPARE_HELP: &str = "Files:
   OLD  a rope image, as agcws asm writes it.
@@ -261,6 +283,11 @@ that a program makes which checks its own memory: AD, and where that overflows,
 plus or minus one is added to what TS stores; by rising offsets, as another
 order may end with 37777 more or less. In a flight rope the sum is the bank's
 number, or its complement.
+With --forms the line has two sums, and in which of them that is so, as
+  02 00002 16010 written
+the first of the words as the image is written, the second of those that the
+same bytes are in the form of --form hardware; then written, hardware, or both,
+or - where neither is.
 
 Exit status:
   0  done
@@ -292,7 +319,8 @@ const RUN_HELP: &str = "Files:
   SRC   a source in the assembler's language, at most 65536 lines of at most
         120 bytes. A label begins at the first byte of its line; operator,
         operand and offset follow, and # begins a comment.
-        With --flight it may have forms of flight programs: see the manual.
+        With --flight it may have forms of flight programs: see the manual;
+        and at most 262144 lines, whose comments may be of any length.
         With --image it is a rope image, as agcws asm writes it; and with
         --parity and --form it is taken as agcws words takes it.
   FEED  the timed inputs of the run, at most 65536, one a line, whose cycles
@@ -343,11 +371,12 @@ Exit status:
   2  the command line is wrong
   3  a file, a device or memory failed
 Status 1 and 3 print one line to standard error, as agcws: E14 LINE 9. What the
-number means: agcws explain E14. All faults of a source: agcws check SRC.";
+number means: agcws explain E14. All faults, and whether a file is of another
+kind, as an image where --image is missing: agcws check SRC FEED.";
 
 const TRACE_HELP: &str = "Files:
-  SRC   a source, as agcws run takes it, or with --image a rope image: then
-        there are no symbols
+  SRC   a source, as agcws run takes it, or with --image a rope image, which
+        has symbols by --symbols alone: a table, as agcws words takes it
   FEED  the timed inputs, as agcws run takes them
 
 Output: one line for each of the N steps, or with --from and --to for those
@@ -370,14 +399,16 @@ With --progress, after each 1048576 steps one line to standard error, as
 
 Exit status:
   0  done
-  1  the source, or the image, or the feed is refused
+  1  the source, or the image, or the feed, or the table is refused
   2  the command line is wrong
   3  a file, a device or memory failed
 Status 1 and 3 print one line to standard error, as agcws: E14 LINE 9. What the
-number means: agcws explain E14. All faults of a source: agcws check SRC.";
+number means: agcws explain E14. All faults, and whether a file is of another
+kind, as an image where --image is missing: agcws check SRC FEED.";
 
 const COVER_HELP: &str = "Files:
-  SRC   a source, as agcws run takes it, or with --image a rope image
+  SRC   a source, as agcws run takes it, or with --image a rope image, for
+        which --symbols is a table of names, as agcws words takes it
   FEED  the timed inputs, as agcws run takes them
 
 Output: the rows of the listing, or with --image the lines of agcws words, each
@@ -398,15 +429,16 @@ With --progress, after each 1048576 steps one line to standard error, as
 
 Exit status:
   0  done
-  1  the source, or the image, or the feed is refused
+  1  the source, or the image, or the feed, or the table is refused
   2  the command line is wrong
   3  a file, a device or memory failed
 Status 1 and 3 print one line to standard error, as agcws: E14 LINE 9. What the
-number means: agcws explain E14. All faults of a source: agcws check SRC.";
+number means: agcws explain E14. All faults, and whether a file is of another
+kind, as an image where --image is missing: agcws check SRC FEED.";
 
 const DEBUG_HELP: &str = "Files:
-  SRC   a source, as agcws run takes it, or with --image a rope image: then
-        there are no symbols
+  SRC   a source, as agcws run takes it, or with --image a rope image, which
+        has symbols by --symbols alone: a table, as agcws words takes it
   FEED  the timed inputs, as agcws run takes them
 
 Input: commands, one a line of at most 80 bytes; # begins a comment. The run
@@ -448,12 +480,21 @@ With --extended there are these besides, and after E50 COMMAND stands why:
   on, on K             from P on, over steps that stand and then new ones, to
                        the next at which a breakpoint holds, at most K: AT line
   until CYCLES         to the first step with so many cycles, back or on
+  over, over K         to after the routine that TC at Z enters, within K steps;
+                       else one step on: TOOK, its cycles, where it gets there,
+                       and the AT line
+  out, out K           to where the routine or the interrupt in progress returns
+                       to: as over, or NONE
+  inputs               the inputs that were added, as lines of a feed
   regs all             all registers and flags, a line each; ASKED, the
                        interrupts asked for; SUM and WORD, what waits; CYCLES
   why PLACE, .. K      the steps that made the word there, the last first, at
                        most K or 16: BY T, the step, what it wrote, FROM, what
                        it read; then ALL, MORE how many cells, or START
   why                  the same of the step that led to P, whatever it wrote
+  trace K              a line for each of the last K steps up to P, as agcws
+                       trace has it
+  break chan C W MASK  where a channel has the bits of W where MASK has ones
   where                WHERE, the next instruction's place as a listing has it,
                        and the symbol at it or before it; and in an interrupt IN
                        INTERRUPT K BY T, the step that entered it
@@ -465,27 +506,33 @@ With --extended there are these besides, and after E50 COMMAND stands why:
   help, help COMMAND   what each command takes and does, or one, as HELP lines
 A PLACE is then also as a listing has it, E3,1400 or 02,4013; where no symbol
 has the name, A, L, Q, Z, EB, FB or BB; and any of them moved on, as SUM +3.
+The AT line has the place where Z leads, as a listing has it, in place of Z.
 
 Exit status:
   0  done
-  1  the source, or the image, or the feed is refused
+  1  the source, or the image, or the feed, or the table is refused
   2  the command line is wrong
   3  a file, a device or memory failed
 Status 1 and 3 print one line to standard error, as agcws: E14 LINE 9. What the
-number means: agcws explain E14. All faults of a source: agcws check SRC.";
+number means: agcws explain E14. All faults, and whether a file is of another
+kind, as an image where --image is missing: agcws check SRC FEED.";
 
 const CHECK_HELP: &str = "Files:
-  SRC  a source, as agcws asm takes it
+  SRC   a source, as agcws asm takes it
+  FEED  feeds, as agcws run takes one; none, or as many as are given
 
-Output: for each fault, in the order of lines and columns,
+Output: for each fault of the source, in the order of lines and columns,
   my.agc:2:17: error E17: no line defines FIV
       2 | START   CA      FIV
         |                 ^^^
         = did you mean FIVE?
 with the file, the line and the column, what is wrong and how it is mended,
-where that is sure, and then how many there are. A fault
-that follows from another, as that of a symbol whose own line is refused, is
-left out. agcws explain E17 tells what draws E17, and its cures.
+where that is sure. A fault that follows from another, as that of a symbol
+whose own line is refused, is left out. Then in the same form the first fault of
+each feed that has one, and in the last line how many there are. agcws explain
+E17 tells what draws E17, and its cures.
+A file with a fault that is of another kind is told in words after its faults:
+a feed in place of the source, a source in place of a feed, and an image.
 
 What is no fault, and likely a mistake, is told as a warning of the same form:
   W1  an operator's name in the first column, where it is a label
@@ -497,10 +544,11 @@ What is no fault, and likely a mistake, is told as a warning of the same form:
 
 Exit status:
   0  there is no fault, warnings or none: agcws asm takes the source
-  1  there is a fault; or the source is too long (E34)
+  1  there is a fault; or the source or a feed is too long (E34)
   2  the command line is wrong
   3  a file, a device or memory failed
-E34 and status 3 print one line to standard error, as agcws: E6.";
+E34 and status 3 print one line to standard error, as agcws: E6, and what was
+told before stays told.";
 
 const EXPLAIN_HELP: &str =
     "Output: what the number means, and each mistake that draws it, with a source or
@@ -560,10 +608,10 @@ fn asm_command<'a>(alloc: Global) -> Result<Command<'a>, AllocError> {
         )
 }
 
-/// `agcws check [--flight] [--unused] SRC`.
+/// `agcws check [--flight] [--unused] SRC [FEED ..]`.
 fn check_command<'a>(alloc: Global) -> Result<Command<'a>, AllocError> {
     Command::new(alloc, CHECK)
-        .about("Tells all faults of a source, and likely mistakes, in words")
+        .about("Tells all faults of a source and of feeds, and likely mistakes")
         .after_help(CHECK_HELP)
         .arg(flight_option(alloc))?
         .arg(
@@ -572,10 +620,12 @@ fn check_command<'a>(alloc: Global) -> Result<Command<'a>, AllocError> {
                 .action(ArgAction::SetTrue)
                 .help("Warn of labels that no operand names too"),
         )?
+        .arg(source_argument(alloc))?
         .arg(
-            Arg::new(alloc, SOURCE)
-                .required(true)
-                .help("The source, a file"),
+            Arg::new(alloc, FEEDS)
+                .value_name(FEED)
+                .num_args(0..)
+                .help("The feeds, files"),
         )
 }
 
@@ -606,7 +656,7 @@ fn upgrade_command<'a>(alloc: Global) -> Result<Command<'a>, AllocError> {
         )
 }
 
-/// `agcws words [--source] [--rope VERSION] [--parity ignore] [--form FORM] ROPE [BANK]`.
+/// `agcws words [--source | --symbols FILE] [--where] [--rope VERSION] [--parity ignore] [--form FORM] ROPE [BANK]`.
 fn words_command<'a>(alloc: Global) -> Result<Command<'a>, AllocError> {
     Command::new(alloc, WORDS)
         .about("Shows the words of a rope image as instructions")
@@ -623,6 +673,13 @@ fn words_command<'a>(alloc: Global) -> Result<Command<'a>, AllocError> {
                 .long("source")
                 .action(ArgAction::SetTrue)
                 .help("Writes a source that gives the words"),
+        )?
+        .arg(symbols_option(alloc).conflicts_with(AS_SOURCE)?)?
+        .arg(
+            Arg::new(alloc, WHERE)
+                .long("where")
+                .action(ArgAction::SetTrue)
+                .help("Tells where the image is refused"),
         )?
         .arg(version_option(alloc, VERSION, "rope"))?
         .arg(parity_option(alloc))?
@@ -652,12 +709,20 @@ fn compare_command<'a>(alloc: Global) -> Result<Command<'a>, AllocError> {
         .arg(form_option(alloc, NEW_FORM, "new-form"))
 }
 
-/// `agcws sums [--rope VERSION] [--parity ignore] [--form FORM] ROPE`.
+/// `agcws sums [--forms] [--rope VERSION] [--parity ignore] [--form FORM] ROPE`.
 fn sums_command<'a>(alloc: Global) -> Result<Command<'a>, AllocError> {
     Command::new(alloc, SUMS)
         .about("Sums the words of each bank of a rope image")
         .after_help(SUMS_HELP)
         .arg(image_argument(alloc, ROPE))?
+        .arg(
+            Arg::new(alloc, BOTH_FORMS)
+                .long("forms")
+                .action(ArgAction::SetTrue)
+                .conflicts_with(IGNORED_PARITY)?
+                .conflicts_with(FORM)?
+                .help("Tells the sums in both orders of the bits"),
+        )?
         .arg(version_option(alloc, VERSION, "rope"))?
         .arg(parity_option(alloc))?
         .arg(form_option(alloc, FORM, "form"))
@@ -705,6 +770,14 @@ fn form_option<'a>(alloc: Global, name: &'a str, long: &'a str) -> Arg<'a> {
         .value_name("F")
         .value_parser(FORMS.as_slice())
         .help("The order of the bits")
+}
+
+/// The option that is a table of names for an image.
+fn symbols_option<'a>(alloc: Global) -> Arg<'a> {
+    Arg::new(alloc, SYMBOLS)
+        .long("symbols")
+        .value_name("FILE")
+        .help("Names for the image's places, a file")
 }
 
 /// The option by which an image is run in place of a source.
@@ -777,7 +850,7 @@ fn run_command<'a>(alloc: Global) -> Result<Command<'a>, AllocError> {
         )
 }
 
-/// `agcws trace [--progress] [--flight] [--image] [--rope VERSION] [--parity ignore] [--form FORM] SRC FEED N [--from T] [--to T]`.
+/// `agcws trace [--progress] [--flight] [--image] [--rope VERSION] [--parity ignore] [--form FORM] [--symbols FILE] SRC FEED N [--from T] [--to T]`.
 fn trace_command<'a>(alloc: Global) -> Result<Command<'a>, AllocError> {
     let command = Command::new(alloc, TRACE)
         .about("Writes a line for each step of a run")
@@ -790,7 +863,8 @@ fn trace_command<'a>(alloc: Global) -> Result<Command<'a>, AllocError> {
         .arg(step_option(alloc, TO, "to").help(
             "The last step that is shown; N where none is given",
         ))?
-        .arg(progress_option(alloc))
+        .arg(progress_option(alloc))?
+        .arg(symbols_option(alloc).requires_arg(IMAGE)?)
 }
 
 /// The option that tells how many steps are made, while they are made.
@@ -801,14 +875,15 @@ fn progress_option<'a>(alloc: Global) -> Arg<'a> {
         .help("Tells the steps made so far, on standard error")
 }
 
-/// `agcws cover [--progress] [--flight] [--image] [--rope VERSION] [--parity ignore] [--form FORM] SRC FEED N`.
+/// `agcws cover [--progress] [--flight] [--image] [--rope VERSION] [--parity ignore] [--form FORM] [--symbols FILE] SRC FEED N`.
 fn cover_command<'a>(alloc: Global) -> Result<Command<'a>, AllocError> {
     let command = Command::new(alloc, COVER)
         .about("Shows how often each word is executed, and for how many cycles")
         .after_help(COVER_HELP);
     program_arguments(alloc, command)?
         .arg(steps_argument(alloc))?
-        .arg(progress_option(alloc))
+        .arg(progress_option(alloc))?
+        .arg(symbols_option(alloc).requires_arg(IMAGE)?)
 }
 
 /// An option that is a step.
@@ -819,7 +894,7 @@ fn step_option<'a>(alloc: Global, name: &'a str, long: &'a str) -> Arg<'a> {
         .value_parser(value_parser!(u64).range(0..=MOST_STEPS as i64))
 }
 
-/// `agcws debug [--extended] [--flight] [--image] [--rope VERSION] [--parity ignore] [--form FORM] SRC FEED`.
+/// `agcws debug [--extended] [--flight] [--image] [--rope VERSION] [--parity ignore] [--form FORM] [--symbols FILE] SRC FEED`.
 fn debug_command<'a>(alloc: Global) -> Result<Command<'a>, AllocError> {
     let command = Command::new(alloc, DEBUG)
         .about("Replies to commands about a run, forwards and backwards")
@@ -829,6 +904,7 @@ fn debug_command<'a>(alloc: Global) -> Result<Command<'a>, AllocError> {
                 .long("extended")
                 .action(ArgAction::SetTrue)
                 .help("More commands, and refusals in words: see its help"),
-        )?;
+        )?
+        .arg(symbols_option(alloc).requires_arg(IMAGE)?)?;
     program_arguments(alloc, command)
 }

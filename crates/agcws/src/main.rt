@@ -26,11 +26,11 @@ use target::wrong_target;
 use words::{Read, ReadAhead, Std, Write, write_all};
 use workshop::{
     Bank, Form, InForm, Language, Origin, Refusal, Summary, Unheard, Version, WorkshopFault,
-    all_headings, asm_engine, asm_with_check_words, check_engine, compare_engine,
+    all_headings, asm_engine, asm_with_check_words, check_feed, check_source, compare_engine,
     compare_only_engine, cover_and_tell, cover_program, debug_extended, debug_program, explanation,
     may_run, parity_engine, refusal_of, report, report_no_room, run_and_tell, run_program,
     run_with_notes, source_engine, sums_engine, trace_and_tell, trace_program, upgrade_engine,
-    words_engine, write_end,
+    words_engine, write_end, write_tally,
 };
 
 /// The exit status where all is done.
@@ -277,6 +277,36 @@ fn origin(matches: &ArgMatches<'_>) -> Option<Origin> {
     }
 }
 
+/// The table of names, where an option names one: it is opened, and read later.
+fn table(
+    rt: &HostRuntime,
+    matches: &ArgMatches<'_>,
+) -> Result<Option<ReadAhead<Std<fs::File>>>, WorkshopFault> {
+    match matches.get_str(command_line::SYMBOLS) {
+        Some(path) => Ok(Some(opened(rt, path)?)),
+        None => Ok(None),
+    }
+}
+
+/// The names of a table, where there is one.
+fn names<R: Read>(
+    rt: &HostRuntime,
+    table: &mut Option<R>,
+) -> Result<Option<workshop::Symbols>, WorkshopFault> {
+    match table {
+        Some(table) => Ok(Some(workshop::read_names(rt.alloc(), table)?)),
+        None => Ok(None),
+    }
+}
+
+/// Where words come from, with names for the places of an image, where there are some.
+fn with_names(origin: Origin, names: Option<workshop::Symbols>) -> Origin {
+    match (origin, names) {
+        (Origin::Image(version), Some(names)) => Origin::NamedImage(version, names),
+        (origin, _) => origin,
+    }
+}
+
 /// The language of a source.
 fn language(matches: &ArgMatches<'_>) -> Language {
     if matches.get_flag(FLIGHT) {
@@ -378,7 +408,7 @@ fn end(rt: &HostRuntime, matches: &ArgMatches<'_>, summary: &Summary) -> Result<
     Ok(DONE)
 }
 
-/// `agcws trace [--progress] [--flight] [--image] [--rope VERSION] [--parity ignore] [--form FORM] SRC FEED N [--from T] [--to T]`. Both files are opened before anything is read.
+/// `agcws trace [--progress] [--flight] [--image] [--rope VERSION] [--parity ignore] [--form FORM] [--symbols FILE] SRC FEED N [--from T] [--to T]`. All files are opened before anything is read, and the table is read first.
 fn trace(rt: &HostRuntime, matches: &ArgMatches<'_>) -> Result<u8, WorkshopFault> {
     let (Some(origin), Some(source), Some(feed), Some(steps)) = (
         origin(matches),
@@ -393,8 +423,10 @@ fn trace(rt: &HostRuntime, matches: &ArgMatches<'_>) -> Result<u8, WorkshopFault
     if !may_run(last) {
         return Ok(WRONG_ARGUMENTS);
     }
+    let mut table = table(rt, matches)?;
     let mut program = InForm::new(opened(rt, source)?, form(matches, FORM));
     let mut feed = Std::new(fs::open(rt, feed).map_err(not_opened)?);
+    let origin = with_names(origin, names(rt, &mut table)?);
     let tells = matches.get_flag(PROGRESS);
     with_stdout(rt, |out| {
         if tells {
@@ -424,7 +456,7 @@ fn trace(rt: &HostRuntime, matches: &ArgMatches<'_>) -> Result<u8, WorkshopFault
     Ok(DONE)
 }
 
-/// `agcws cover [--progress] [--flight] [--image] [--rope VERSION] [--parity ignore] [--form FORM] SRC FEED N`. Both files are opened before anything is read.
+/// `agcws cover [--progress] [--flight] [--image] [--rope VERSION] [--parity ignore] [--form FORM] [--symbols FILE] SRC FEED N`. All files are opened before anything is read, and the table is read first.
 fn cover(rt: &HostRuntime, matches: &ArgMatches<'_>) -> Result<u8, WorkshopFault> {
     let (Some(origin), Some(source), Some(feed), Some(steps)) = (
         origin(matches),
@@ -434,8 +466,10 @@ fn cover(rt: &HostRuntime, matches: &ArgMatches<'_>) -> Result<u8, WorkshopFault
     ) else {
         return Ok(WRONG_ARGUMENTS);
     };
+    let mut table = table(rt, matches)?;
     let mut program = InForm::new(opened(rt, source)?, form(matches, FORM));
     let mut feed = Std::new(fs::open(rt, feed).map_err(not_opened)?);
+    let origin = with_names(origin, names(rt, &mut table)?);
     let tells = matches.get_flag(PROGRESS);
     with_stdout(rt, |out| {
         if tells {
@@ -456,7 +490,7 @@ fn cover(rt: &HostRuntime, matches: &ArgMatches<'_>) -> Result<u8, WorkshopFault
     Ok(DONE)
 }
 
-/// `agcws debug [--extended] [--flight] [--image] [--rope VERSION] [--parity ignore] [--form FORM] SRC FEED`. Both files are opened before anything is read; commands come from standard input.
+/// `agcws debug [--extended] [--flight] [--image] [--rope VERSION] [--parity ignore] [--form FORM] [--symbols FILE] SRC FEED`. All files are opened before anything is read, and the table is read first; commands come from standard input.
 fn debug(rt: &HostRuntime, matches: &ArgMatches<'_>) -> Result<u8, WorkshopFault> {
     let (Some(origin), Some(source), Some(feed)) = (
         origin(matches),
@@ -465,11 +499,14 @@ fn debug(rt: &HostRuntime, matches: &ArgMatches<'_>) -> Result<u8, WorkshopFault
     ) else {
         return Ok(WRONG_ARGUMENTS);
     };
+    let mut table = table(rt, matches)?;
     let mut program = InForm::new(opened(rt, source)?, form(matches, FORM));
     let mut feed = Std::new(fs::open(rt, feed).map_err(not_opened)?);
-    let mut commands = Std::new(rt.stdin());
+    let origin = with_names(origin, names(rt, &mut table)?);
+    let mut commands = workshop::Counted::new(Std::new(rt.stdin()));
+    let is_extended = matches.get_flag(EXTENDED);
     with_stdout(rt, |out| {
-        if matches.get_flag(EXTENDED) {
+        if is_extended {
             return debug_extended(
                 rt.alloc(),
                 origin,
@@ -488,28 +525,55 @@ fn debug(rt: &HostRuntime, matches: &ArgMatches<'_>) -> Result<u8, WorkshopFault
             out,
         )
     })?;
+    if !is_extended {
+        workshop::tell_commands_end(commands.bytes(), &mut Std::new(rt.stderr()))?;
+    }
     Ok(DONE)
 }
 
-/// `agcws check [--flight] [--unused] SRC`.
+/// `agcws check [--flight] [--unused] SRC [FEED ..]`. All files are opened before anything is read.
 fn check(rt: &HostRuntime, matches: &ArgMatches<'_>) -> Result<u8, WorkshopFault> {
     let Some(name) = matches.get_str(SOURCE) else {
         return Ok(WRONG_ARGUMENTS);
     };
-    let language = language(matches);
+    let names = matches.get_strs(command_line::FEEDS).unwrap_or(&[]);
     let mut source = opened(rt, name)?;
+    let mut feeds = Vec::new(rt.alloc());
+    for name in names {
+        if feeds.push(opened(rt, name)?).is_err() {
+            return Err(WorkshopFault::NoMemory);
+        }
+    }
+    let language = language(matches);
     let unused = matches.get_flag(UNUSED);
-    let count = with_stdout(rt, |out| {
-        check_engine(
+    let tally = with_stdout(rt, |out| {
+        let told = check_source(
             rt.alloc(),
             language,
             name.as_bytes(),
             unused,
             &mut source,
             out,
-        )
+        )?;
+        check_feeds(rt, names, &mut feeds, told, out)
     })?;
-    Ok(if count == 0 { DONE } else { REFUSED })
+    Ok(if tally.errors == 0 { DONE } else { REFUSED })
+}
+
+/// Tells what is wrong with some feeds, after what was told of a source, and then how much was told.
+fn check_feeds<F: Read, W: Write>(
+    rt: &HostRuntime,
+    names: &[&str],
+    feeds: &mut [F],
+    told: workshop::Tally,
+    out: &mut W,
+) -> Result<workshop::Tally, WorkshopFault> {
+    let mut told = told;
+    for (name, feed) in names.iter().zip(feeds) {
+        told = told.with_errors(check_feed(rt.alloc(), name.as_bytes(), feed, out)?);
+    }
+    write_tally(rt.alloc(), &told, out)?;
+    Ok(told)
 }
 
 /// `agcws explain [NUMBER]`.
@@ -560,22 +624,41 @@ fn ended<T: Drop>(
     }
 }
 
-/// `agcws words [--source] [--rope VERSION] [--parity ignore] [--form FORM] ROPE [BANK]`.
+/// `agcws words [--source | --symbols FILE] [--where] [--rope VERSION] [--parity ignore] [--form FORM] ROPE [BANK]`. All files are opened before anything is read, and the table is read first.
 fn show_words(rt: &HostRuntime, matches: &ArgMatches<'_>) -> Result<u8, WorkshopFault> {
     let (Some(rope), Some(version)) = (matches.get_str(ROPE), version(matches, VERSION)) else {
         return Ok(WRONG_ARGUMENTS);
     };
     let bank = matches.get_str(BANK).and_then(bank_named);
+    let mut table = table(rt, matches)?;
     let mut image = InForm::new(opened(rt, rope)?, form(matches, FORM));
+    let names = names(rt, &mut table)?;
     let is_source = matches.get_flag(AS_SOURCE);
-    with_stdout(rt, |out| {
-        if is_source {
-            source_engine(rt.alloc(), &mut image, version, bank, out)
-        } else {
-            words_engine(rt.alloc(), &mut image, version, bank, out)
-        }
-    })?;
-    Ok(DONE)
+    let outcome = with_stdout(rt, |out| match names {
+        Some(names) => workshop::named_words_engine(
+            rt.alloc(),
+            names,
+            &mut image,
+            version,
+            bank,
+            out,
+        ),
+        None if is_source => source_engine(rt.alloc(), &mut image, version, bank, out),
+        None => words_engine(rt.alloc(), &mut image, version, bank, out),
+    });
+    match outcome {
+        Ok(()) => Ok(DONE),
+        Err(fault) if matches.get_flag(command_line::WHERE) => refused_where(rt, &fault),
+        Err(fault) => Err(fault),
+    }
+}
+
+/// Tells a fault, and where an image is refused.
+fn refused_where(rt: &HostRuntime, fault: &WorkshopFault) -> Result<u8, WorkshopFault> {
+    let mut errors = Std::new(rt.stderr());
+    let status = report(fault, &mut errors)?;
+    workshop::report_where(fault, &mut errors)?;
+    Ok(status)
 }
 
 /// The bank of a name.
@@ -634,13 +717,20 @@ fn compare_only(
     Ok(if count == 0 { DONE } else { DIFFERENT })
 }
 
-/// `agcws sums [--rope VERSION] [--parity ignore] [--form FORM] ROPE`.
+/// `agcws sums [--forms] [--rope VERSION] [--parity ignore] [--form FORM] ROPE`.
 fn show_sums(rt: &HostRuntime, matches: &ArgMatches<'_>) -> Result<u8, WorkshopFault> {
     let (Some(rope), Some(version)) = (matches.get_str(ROPE), version(matches, VERSION)) else {
         return Ok(WRONG_ARGUMENTS);
     };
     let mut image = InForm::new(opened(rt, rope)?, form(matches, FORM));
-    with_stdout(rt, |out| sums_engine(rt.alloc(), &mut image, version, out))?;
+    let is_both = matches.get_flag(command_line::BOTH_FORMS);
+    with_stdout(rt, |out| {
+        if is_both {
+            workshop::form_sums_engine(rt.alloc(), &mut image, version, out)
+        } else {
+            sums_engine(rt.alloc(), &mut image, version, out)
+        }
+    })?;
     Ok(DONE)
 }
 

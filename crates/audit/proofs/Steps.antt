@@ -3,6 +3,8 @@ use Rattle.std.proofs.Common.{◌≡◌, ℕ, ◌+◌, Bool, false, refl, add-on
 use Rattle.rope.specs.Places.{Words, word_at}
 use Rattle.cpu.specs.Next.{extracode_after}
 use Rattle.audit.specs.WordLines.{extracode_at}
+use Rattle.rope.specs.declared.spelling.Version.{Version}
+use Rattle.audit.specs.FormSums.{hardware_sum_before, hardware_word}
 use Rattle.audit.specs.Sums.{added, sum_before}
 
 -- no extracode is in force at the first word of a bank
@@ -32,3 +34,17 @@ sum_more words bank n = rw (add-one n) refl
 pub sum_next : (words : Words) (bank n offset word total next : ℕ) → offset ≡ n → total ≡ sum_before words bank n → word ≡ word_at words bank offset
     → next ≡ added total word → next ≡ sum_before words bank (n + 1)
 sum_next words bank n offset word total next same now here e = rw (sum_more words bank n) (rw (here, same, now) at e)
+
+-- the same of words with the parity bit below the highest one
+pub hardware_sum_first : (version : Version) (words : Words) (bank : ℕ) → hardware_sum_before version words bank 0 ≡ 0
+unfolding hardware_sum_before
+hardware_sum_first version words bank = refl
+
+hardware_sum_more : (version : Version) (words : Words) (bank n : ℕ)
+    → hardware_sum_before version words bank (n + 1) ≡ added (hardware_sum_before version words bank n) (hardware_word version (word_at words bank n))
+unfolding hardware_sum_before
+hardware_sum_more version words bank n = rw (add-one n) refl
+
+pub hardware_sum_next : (version : Version) (words : Words) (bank n offset word other total next : ℕ) → offset ≡ n → total ≡ hardware_sum_before version words bank n
+    → word ≡ word_at words bank offset → other ≡ hardware_word version word → next ≡ added total other → next ≡ hardware_sum_before version words bank (n + 1)
+hardware_sum_next version words bank n offset word other total next same now here is e = rw (hardware_sum_more version words bank n) (rw (is, here, same, now) at e)

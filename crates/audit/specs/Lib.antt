@@ -1,5 +1,6 @@
 pub mod CheckWords
 pub mod Differences
+pub mod FormSums
 pub mod Parities
 pub mod SourceLines
 pub mod Sums

@@ -3,6 +3,7 @@
 
 mod check_words;
 mod differences;
+mod form_sums;
 mod lines;
 mod parities;
 mod source;
@@ -10,7 +11,8 @@ mod sums;
 
 pub use check_words::{NoRoom, add_check_words, check_words_hold};
 pub use differences::{Extent, write_differences};
-pub use lines::{word_line, write_words};
+pub use form_sums::write_form_sums;
+pub use lines::{bank_of, offset_of, word_line, write_words};
 pub use parities::write_parities;
 pub use source::write_source;
 pub use sums::write_sums;

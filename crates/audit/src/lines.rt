@@ -106,7 +106,7 @@ pub(crate) fn push_instruction(
 }
 
 /// The bank of a number.
-pub(crate) fn bank_of(number: u16) -> Bank
+pub fn bank_of(number: u16) -> Bank
     requires { number < banks }
     ensures { result ≡ number }
 {
@@ -114,7 +114,7 @@ pub(crate) fn bank_of(number: u16) -> Bank
 }
 
 /// The offset of a number.
-pub(crate) fn offset_of(number: u16) -> Offset
+pub fn offset_of(number: u16) -> Offset
     requires { number < bank_words }
     ensures { result ≡ number }
 {

@@ -18,9 +18,9 @@ use Rattle.space.specs.Places.{window}
 use Rattle.commands.specs.declared.subject.Subject.TheVariants as subject
 use Rattle.commands.specs.declared.command.Breakpoint.TheVariants as breakpoint
 use Rattle.commands.specs.declared.command.Command.TheVariants.{Registers, Memory, Last, Break, Clear, Step, Add}
-use Rattle.commands.specs.declared.command.Request.TheVariants.{Nothing, TooLong, WrongCounter, Known}
+use Rattle.commands.specs.declared.command.Request.TheVariants.{Nothing, TooLong, WrongCounter}
 use Rattle.commands.specs.declared.extended.ExtendedRequest.{ExtendedRequest}
-use Rattle.commands.specs.declared.extended.ExtendedRequest.TheVariants.{Plain, Says, Help, Breaks, ClearOne, On, AllRegisters, Until, WhyStep, Why, Words, Where, Find}
+use Rattle.commands.specs.declared.extended.ExtendedRequest.TheVariants.{Plain, Common, Says, Help, Breaks, ClearOne, On, AllRegisters, Until, WhyStep, Why, Words, Where, Find, Trace, Inputs, Over, Out}
 
 -- a place in fixed memory, and a number that is no place
 abbrev symbols : SymbolTable
@@ -31,13 +31,13 @@ asked lines = map (extended_request_of symbols) lines
 
 -- what no other session is asked for
 further : asked (codes "breaks" ∷ codes "clear 2 # the second" ∷ codes "help" ∷ codes "help mem" ∷ codes "on" ∷ codes "on 5" ∷ codes "regs all" ∷ codes "regs" ∷ codes "until 123456789012345" ∷ [])
-    ≡ Breaks ∷ ClearOne 2 ∷ Help ∷ Says (codes "HELP mem takes a place, or a place and a count: the word there, or so many from there on\n") ∷ On 999999999999999 ∷ On 5 ∷ AllRegisters ∷ Plain (Known Registers) ∷ Until 123456789012345 ∷ []
+    ≡ Breaks ∷ ClearOne 2 ∷ Help ∷ Says (codes "HELP mem takes a place, or a place and a count: the word there, or so many from there on\n") ∷ On 999999999999999 ∷ On 5 ∷ AllRegisters ∷ Common Registers ∷ Until 123456789012345 ∷ []
 unfolding extended_request_of extended_forms usages forms runs parsed counters sequences registers window
 further = refl
 
 -- what any session is asked for
 plain : asked (codes "clear" ∷ codes "mem FIVE" ∷ codes " step 1 # one" ∷ codes "add 12 TIME1 PINC" ∷ codes "add 12 TIME1 DINC" ∷ codes "# nothing" ∷ [] ∷ replicate 81 32 ∷ [])
-    ≡ Plain (Known Clear) ∷ Plain (Known (Memory (Fixed 2 5))) ∷ Plain (Known (Step 1)) ∷ Plain (Known (Add 12 (Count Time1 Pinc))) ∷ Plain WrongCounter ∷ Plain Nothing ∷ Plain Nothing ∷ Plain TooLong ∷ []
+    ≡ Common Clear ∷ Common (Memory (Fixed 2 5)) ∷ Common (Step 1) ∷ Common (Add 12 (Count Time1 Pinc)) ∷ Plain WrongCounter ∷ Plain Nothing ∷ Plain Nothing ∷ Plain TooLong ∷ []
 unfolding extended_request_of extended_forms usages forms runs parsed counters sequences registers window
 plain = refl
 
@@ -75,7 +75,7 @@ refusals : asked (codes "mem FIV" ∷ codes "break at FIV" ∷ codes "mem BIG" �
     ∷ Says (codes "E50 COMMAND mem takes a place, or a place and a count\n")
     ∷ Says (codes "E50 COMMAND mem takes a place, or a place and a count\n")
     ∷ Says (codes "E50 COMMAND last takes an erasable place\n")
-    ∷ Says (codes "E50 COMMAND break takes at PLACE, word PLACE WORD or chan CHANNEL WORD\n")
+    ∷ Says (codes "E50 COMMAND break takes at PLACE, word PLACE W or chan C W [MASK]\n")
     ∷ Says (codes "E50 COMMAND until takes a number of cycles\n")
     ∷ Says (codes "E50 COMMAND regs takes all, or nothing\n")
     ∷ Says (codes "E50 COMMAND regs takes all, or nothing\n")
@@ -89,16 +89,16 @@ refusals = refl
 
 -- places as a listing has them, moved on, and by the letters of registers, where no symbol has these
 abbrev memory : ℕ → ExtendedRequest
-memory p = Plain (Known (Memory (Erasable p)))
+memory p = Common (Memory (Erasable p))
 
 places : asked (codes "mem 02,4005" ∷ codes "mem 3,6000" ∷ codes "mem 05,3777" ∷ codes "mem E3,1400" ∷ codes "mem E0,0101" ∷ codes "mem E2,1377" ∷ codes "mem A" ∷ codes "mem Q" ∷ codes "mem SUM +3" ∷ codes "mem FIVE +10" ∷ codes "mem E3,1400 +1" ∷ [])
-    ≡ Plain (Known (Memory (Fixed 2 5))) ∷ Plain (Known (Memory (Fixed 3 0))) ∷ Plain (Known (Memory (Fixed 5 0o1777))) ∷ memory 0o1400 ∷ memory 0o101 ∷ memory 0o1377 ∷ memory 0 ∷ memory 0o102 ∷ memory 0o104 ∷ Plain (Known (Memory (Fixed 2 0o15))) ∷ memory 0o1401 ∷ []
+    ≡ Common (Memory (Fixed 2 5)) ∷ Common (Memory (Fixed 3 0)) ∷ Common (Memory (Fixed 5 0o1777)) ∷ memory 0o1400 ∷ memory 0o101 ∷ memory 0o1377 ∷ memory 0 ∷ memory 0o102 ∷ memory 0o104 ∷ Common (Memory (Fixed 2 0o15)) ∷ memory 0o1401 ∷ []
 unfolding extended_request_of extended_forms usages forms runs parsed counters sequences registers window
 places = refl
 
 -- in each command that takes one
 every_place : asked (codes "mem SUM +3 5" ∷ codes "mem 02,4005 999" ∷ codes "mem L 0" ∷ codes "last L" ∷ codes "last SUM +1" ∷ codes "why SUM +1" ∷ codes "why E3,1400 +2 4" ∷ codes "break at FIVE +1" ∷ codes "break at 02,4005" ∷ codes "break word Z 5" ∷ codes "break word SUM +3 75" ∷ [])
-    ≡ Words (Erasable 0o104) 5 ∷ Words (Fixed 2 5) 999 ∷ Words (Erasable 1) 0 ∷ Plain (Known (Last 1)) ∷ Plain (Known (Last 0o102)) ∷ Why (subject.Place 0o102) 16 ∷ Why (subject.Place 0o1402) 4 ∷ Plain (Known (Break (breakpoint.Place (Fixed 2 6)))) ∷ Plain (Known (Break (breakpoint.Place (Fixed 2 5)))) ∷ Plain (Known (Break (breakpoint.Word 5 5))) ∷ Plain (Known (Break (breakpoint.Word 0o104 0o75))) ∷ []
+    ≡ Words (Erasable 0o104) 5 ∷ Words (Fixed 2 5) 999 ∷ Words (Erasable 1) 0 ∷ Common (Last 1) ∷ Common (Last 0o102) ∷ Why (subject.Place 0o102) 16 ∷ Why (subject.Place 0o1402) 4 ∷ Common (Break (breakpoint.Place (Fixed 2 6))) ∷ Common (Break (breakpoint.Place (Fixed 2 5))) ∷ Common (Break (breakpoint.Word 5 5)) ∷ Common (Break (breakpoint.Word 0o104 0o75)) ∷ []
 unfolding extended_request_of extended_forms usages forms runs parsed counters sequences registers window
 every_place = refl
 
@@ -115,7 +115,7 @@ wrong_places : asked (codes "mem 02,2005" ∷ codes "mem E3,1377" ∷ codes "mem
     ∷ codes "mem takes a place, or a place and a count\n"
     ∷ codes "mem takes a place, or a place and a count\n"
     ∷ codes "no symbol CH7\n"
-    ∷ codes "break takes at PLACE, word PLACE WORD or chan CHANNEL WORD\n"
+    ∷ codes "break takes at PLACE, word PLACE W or chan C W [MASK]\n"
     ∷ [])
 unfolding extended_request_of extended_forms usages forms runs parsed counters sequences registers window
 wrong_places = refl
@@ -125,3 +125,30 @@ looks : asked (codes "where" ∷ codes "find SU" ∷ codes "where 1" ∷ codes "
     ≡ Where ∷ Find (codes "SU") ∷ Says (codes "E50 COMMAND where takes nothing\n") ∷ Says (codes "E50 COMMAND find takes the beginning of a name\n") ∷ Says (codes "E50 COMMAND find takes the beginning of a name\n") ∷ []
 unfolding extended_request_of extended_forms usages forms runs parsed counters sequences registers window
 looks = refl
+
+-- a channel under a mask
+bits : asked (codes "break chan 10 12" ∷ codes "break chan 10 12 77" ∷ codes "break chan 10 12 77 1" ∷ codes "break chan 10 12 8" ∷ codes "break chan 1000 12 77" ∷ [])
+    ≡ Common (Break (breakpoint.Channel 8 0o12)) ∷ Common (Break (breakpoint.Bits 8 0o12 0o77)) ∷ map (λ text. Says (codes "E50 COMMAND " ++ text))
+    (codes "break takes at PLACE, word PLACE W or chan C W [MASK]\n"
+    ∷ codes "break takes at PLACE, word PLACE W or chan C W [MASK]\n"
+    ∷ codes "break takes at PLACE, word PLACE W or chan C W [MASK]\n"
+    ∷ [])
+unfolding extended_request_of extended_forms usages forms runs parsed counters sequences registers window
+bits = refl
+
+-- the last steps
+last_steps : asked (codes "trace 5" ∷ codes "trace" ∷ codes "trace x" ∷ codes "trace 5 6" ∷ [])
+    ≡ Trace 5 ∷ map (λ text. Says (codes "E50 COMMAND " ++ text)) (codes "trace takes a number of steps\n" ∷ codes "trace takes a number of steps\n" ∷ codes "trace takes a number of steps\n" ∷ [])
+unfolding extended_request_of extended_forms usages forms runs parsed counters sequences registers window
+last_steps = refl
+
+-- to the end of a routine, by so many steps at most, and the inputs that were added
+travels : asked (codes "over" ∷ codes "over 20" ∷ codes "out" ∷ codes "out 3 # steps" ∷ codes "inputs" ∷ codes "over x" ∷ codes "out 1 2" ∷ codes "inputs 1" ∷ codes "over 1234567890123456" ∷ [])
+    ≡ Over 999999999999999 ∷ Over 20 ∷ Out 999999999999999 ∷ Out 3 ∷ Inputs
+    ∷ Says (codes "E50 COMMAND over takes a number of steps, or nothing\n")
+    ∷ Says (codes "E50 COMMAND out takes a number of steps, or nothing\n")
+    ∷ Says (codes "E50 COMMAND inputs takes nothing\n")
+    ∷ Says (codes "E50 COMMAND over takes a number of steps, or nothing\n")
+    ∷ []
+unfolding extended_request_of extended_forms usages forms runs parsed counters sequences registers window
+travels = refl

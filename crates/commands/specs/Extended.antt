@@ -6,18 +6,19 @@ use Rattle.agc_text.specs.Tables.{same_name, value_in}
 use Rattle.symbols.specs.Values.{SymbolTable}
 use Rattle.feed.specs.Statements.{word_in}
 use Rattle.space.specs.declared.place.Linear.{Linear}
-use Rattle.commands.specs.Commands.{count_in, erasable_number, request_in}
+use Rattle.commands.specs.Commands.{count_in, channel_in, erasable_number, request_in}
 use Rattle.commands.specs.Lines.{command_length}
 use Rattle.commands.specs.NamedPlaces.{named_place, place_first, after_place}
 use Rattle.commands.specs.Subjects.{erasable_first, place_subject, channel_subject}
 use Rattle.commands.specs.Usages.{Usage, usages, help_line}
 use Rattle.commands.specs.declared.subject.Subject.{Subject}
+use Rattle.commands.specs.declared.command.Breakpoint.{Breakpoint}
 use Rattle.commands.specs.declared.command.Breakpoint.TheVariants as breakpoint
 use Rattle.commands.specs.declared.command.Command.TheVariants.{Memory, Last, Break}
 use Rattle.commands.specs.declared.command.Request.{Request}
 use Rattle.commands.specs.declared.command.Request.TheVariants.{Nothing, TooLong, Unknown, WrongCounter, Known}
 use Rattle.commands.specs.declared.extended.ExtendedRequest.{ExtendedRequest}
-use Rattle.commands.specs.declared.extended.ExtendedRequest.TheVariants.{Plain, Says, Help, Breaks, ClearOne, On, AllRegisters, Until, WhyStep, Why, Words, Where, Find}
+use Rattle.commands.specs.declared.extended.ExtendedRequest.TheVariants.{Plain, Common, Says, Help, Breaks, ClearOne, On, AllRegisters, Until, WhyStep, Why, Words, Where, Find, Trace, Inputs, Over, Out}
 
 -- the most steps that a command can name
 abbrev pub most_count : ℕ
@@ -55,6 +56,14 @@ abbrev pub with_field_or : {X : Type 0} → ExtendedRequest → (List ℕ → Op
 with_field_or alone read request [] = Some alone
 with_field_or alone read request (field ∷ more) = with_field read request (field ∷ more)
 
+-- no field, or a number of steps
+abbrev pub steps_in : List (List ℕ) → Option ℕ
+steps_in [] = Some most_count
+steps_in (field ∷ more) = option_and_then count_in (sole (field ∷ more))
+
+abbrev pub with_steps : (ℕ → ExtendedRequest) → ExtendedForm
+with_steps request fields = option_map request (steps_in fields)
+
 -- the help of one command
 abbrev pub help_in : List ℕ → Option (List ℕ)
 help_in name = option_map (λ usage. help_line (name, usage)) (value_in usages name)
@@ -86,7 +95,7 @@ why_form symbols (field ∷ more) =
 
 -- the word at a place, or so many from there on
 abbrev pub memory_of : Linear → List (List ℕ) → Option ExtendedRequest
-memory_of place [] = Some (Plain (Known (Memory place)))
+memory_of place [] = Some (Common (Memory place))
 memory_of place (field ∷ more) = option_map (λ k. Words place k) (option_and_then few_in (sole (field ∷ more)))
 
 abbrev pub memory_form : SymbolTable → ExtendedForm
@@ -101,26 +110,45 @@ abbrev pub place_alone : SymbolTable → List (List ℕ) → Option Linear
 place_alone symbols fields = if_none (after_place fields) (place_first symbols fields)
 
 abbrev pub last_form : SymbolTable → ExtendedForm
-last_form symbols fields = option_map (λ p. Plain (Known (Last p))) (option_and_then erasable_number (place_alone symbols fields))
+last_form symbols fields = option_map (λ p. Common (Last p)) (option_and_then erasable_number (place_alone symbols fields))
+
+-- one breakpoint more
+abbrev pub broken_at : Breakpoint → ExtendedRequest
+broken_at breakpoint = Common (Break breakpoint)
 
 -- an erasable place, and then a word
 abbrev pub watches : SymbolTable → List (List ℕ) → Option ExtendedRequest
 watches symbols fields =
-    option_and_then (λ p. option_map (λ w. Plain (Known (Break (breakpoint.Word p w)))) (option_and_then word_in (sole (after_place fields)))) (erasable_first symbols fields)
+    option_and_then (λ p. option_map (λ w. broken_at (breakpoint.Word p w)) (option_and_then word_in (sole (after_place fields)))) (erasable_first symbols fields)
 
--- `at` and a place, or `word`, an erasable place and a word
+-- a channel, a word and a mask, where each stands
+abbrev pub bits_of : Option ℕ → Option ℕ → Option ℕ → Option ExtendedRequest
+bits_of channel word mask =
+    option_and_then (λ c. option_and_then (λ w. option_map (λ m. broken_at (breakpoint.Bits c w m)) mask) word) channel
+
+abbrev pub watches_bits : List (List ℕ) → Option ExtendedRequest
+watches_bits [] = None
+watches_bits (channel ∷ []) = None
+watches_bits (channel ∷ word ∷ []) = None
+watches_bits (channel ∷ word ∷ mask ∷ []) = bits_of (channel_in channel) (word_in word) (word_in mask)
+watches_bits (channel ∷ word ∷ mask ∷ next ∷ more) = None
+
+-- `at` and a place; `word`, an erasable place and a word; or `chan`, a channel, a word and a mask
 abbrev pub break_form : SymbolTable → ExtendedForm
 break_form symbols [] = None
 break_form symbols (kind ∷ fields) =
-    if same_name kind (codes "at") then option_map (λ p. Plain (Known (Break (breakpoint.Place p)))) (place_alone symbols fields)
+    if same_name kind (codes "at") then option_map (λ p. broken_at (breakpoint.Place p)) (place_alone symbols fields)
     else if same_name kind (codes "word") then watches symbols fields
+    else if same_name kind (codes "chan") then watches_bits fields
     else None
 
 -- the commands that an extended session has besides, but for `echo`
 unfoldable pub extended_forms : SymbolTable → List (List ℕ × ExtendedForm)
 extended_forms symbols =
-    (codes "on", with_field_or (On most_count) count_in (λ k. On k))
+    (codes "on", with_steps (λ k. On k))
     ∷ (codes "until", with_field count_in (λ cycles. Until cycles))
+    ∷ (codes "over", with_steps (λ k. Over k))
+    ∷ (codes "out", with_steps (λ k. Out k))
     ∷ (codes "why", why_form symbols)
     ∷ (codes "regs", with_word (codes "all") AllRegisters)
     ∷ (codes "breaks", with_none Breaks)
@@ -129,8 +157,10 @@ extended_forms symbols =
     ∷ (codes "mem", memory_form symbols)
     ∷ (codes "last", last_form symbols)
     ∷ (codes "break", break_form symbols)
+    ∷ (codes "inputs", with_none Inputs)
     ∷ (codes "where", with_none Where)
     ∷ (codes "find", with_field (λ field. Some field) (λ text. Find text))
+    ∷ (codes "trace", with_field count_in (λ k. Trace k))
     ∷ []
 
 -- the field that names a place
@@ -174,7 +204,7 @@ in_words symbols name fields Nothing = Plain Nothing
 in_words symbols name fields TooLong = Plain TooLong
 in_words symbols name fields Unknown = Says (refusal_line symbols name fields)
 in_words symbols name fields WrongCounter = Plain WrongCounter
-in_words symbols name fields (Known command) = Plain (Known command)
+in_words symbols name fields (Known command) = Common command
 
 -- a command that an extended session has besides, else what any session is asked for
 abbrev pub or_plain : Option ExtendedRequest → ExtendedRequest → ExtendedRequest

@@ -9,7 +9,7 @@ use Rattle.space.specs.Places.{window}
 use Rattle.space.specs.declared.place.Linear.{Linear}
 use Rattle.space.specs.declared.place.Linear.TheVariants.{Erasable, Fixed}
 use Rattle.symbols.specs.Values.{SymbolTable}
-use Rattle.commands.specs.Commands.{place_in, before_comma, after_comma, bank_in}
+use Rattle.commands.specs.Commands.{place_in, numbered_place, fixed_place_in, before_comma, after_comma, bank_in}
 
 -- registers by their letters
 unfoldable pub registers : List (List ℕ × ℕ)
@@ -47,6 +47,10 @@ place_of_bank bank address =
 -- a place as a listing has it: a bank, a comma, and the address at which a program reaches it, of 1 to 5 octal digits
 abbrev pub listed_place : List ℕ → Option Linear
 listed_place text = option_and_then (λ address. place_of_bank (before_comma text) address) (number_of 8 5 (after_comma text))
+
+-- a place for which no symbol is needed: a number's, else a bank and an offset, else as a listing has it
+abbrev pub unnamed_place : List ℕ → Option Linear
+unnamed_place text = option_or (numbered_place text) (option_or (fixed_place_in text) (listed_place text))
 
 -- what neither any session takes for a place nor a symbol is
 abbrev pub further_place : List ℕ → Option Linear

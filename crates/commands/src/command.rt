@@ -15,8 +15,14 @@ pub enum Breakpoint {
     Word(Eras, Word),
     /// A channel holds a word.
     Channel(Chan, Word),
+    /// A channel holds a word's bits, where a mask has ones.
+    Bits(Chan, Word, Word),
     /// So many cycles have passed.
     Cycles(u64),
+    /// The next instruction stands at a place, and no interrupt is served unless one may be.
+    Returned(Linear, bool),
+    /// No interrupt is served.
+    Outside,
 }
 
 /// A command.

@@ -6,12 +6,11 @@ ghost use Rattle.agc_text.specs.Fields.{runs, texts, fields};
 ghost use Rattle.agc_text.specs.Tables.{value_in};
 ghost use Rattle.commands.specs.Lines.{kept};
 ghost use Rattle.commands.specs.Commands.{count_in};
-ghost use Rattle.commands.specs.declared.command.Request.TheVariants as request;
 ghost use Rattle.commands.specs.declared.extended.ExtendedRequest.TheVariants as asked;
-ghost use Rattle.commands.specs.Extended.{extended_forms, most_count, sole, with_none, with_word, with_field, with_field_or, help_in, few_in, links_in, why_of, why_form, memory_of, memory_form, place_alone, last_form, watches, break_form, breakpoint_place_field, place_field, is_no_symbol, missing_symbol, refusal_line, in_words, echoed, extended_in, extended_request_of};
+ghost use Rattle.commands.specs.Extended.{extended_forms, most_count, sole, with_none, with_word, with_field, with_field_or, help_in, few_in, links_in, why_of, why_form, memory_of, memory_form, place_alone, last_form, broken_at, watches, bits_of, watches_bits, break_form, breakpoint_place_field, place_field, is_no_symbol, missing_symbol, refusal_line, in_words, echoed, extended_in, extended_request_of, steps_in};
 
 use crate::command::{Breakpoint, Command, Request};
-use crate::fields::count_in;
+use crate::fields::{channel_in, count_in};
 use crate::line::CommandLine;
 use crate::named_places::{after_place, named_place, place_first};
 use crate::phrase::Phrase;
@@ -21,8 +20,10 @@ use crate::subject::{Subject, channel_subject, erasable_first, place_subject};
 use crate::usage::{help_of, usage_of};
 use agc_text::{before_comment, next_field, split_field};
 use feed::word_in;
+use space::numbers::Chan;
 use space::place::Linear;
 use symbols::Symbols;
+use words::Word;
 
 /// The most steps that a command can name.
 pub const MOST_COUNT: u64 = 999_999_999_999_999;
@@ -36,8 +37,10 @@ const USUAL_LINKS: u64 = 16;
 /// What a line of an extended session asks for.
 #[derive(Drop)]
 pub enum ExtendedRequest {
-    /// What a line of any session asks for.
+    /// What a line of a plain session asks for.
     Plain(Request),
+    /// A command of any session, where the session is extended.
+    Common(Command),
     /// This reply, with which nothing changes.
     Says(Phrase),
     /// What each command takes and does.
@@ -50,6 +53,10 @@ pub enum ExtendedRequest {
     On(u64),
     /// To the first step with at least so many cycles.
     Until(u64),
+    /// To after the routine that the next instruction enters, by at most so many steps.
+    Over(u64),
+    /// To where the routine or the interrupt returns to that is in progress, by at most so many steps.
+    Out(u64),
     /// All registers, with what waits and what is asked for.
     AllRegisters,
     /// What the step did that led to the position.
@@ -58,10 +65,14 @@ pub enum ExtendedRequest {
     Why(Subject, u64),
     /// The words from a place on, at most so many.
     Words(Linear, u64),
+    /// The inputs that were added.
+    Inputs,
     /// Where the next instruction stands, and the interrupt that is served.
     Where,
     /// The symbols whose names begin so.
     Find(Phrase),
+    /// The last so many steps up to the position, a line each.
+    Trace(u64),
 }
 
 /// What a line of an extended session asks for, where the symbols of a program stand.
@@ -115,9 +126,13 @@ fn command_in(symbols: &Symbols, name: &[u8], rest: &[u8]) -> Option<ExtendedReq
     ensures { result ≡ option_and_then (λ form. form (texts (runs rest.now))) (value_in (extended_forms symbols.now) name.now) }
 {
     if name == "on".as_bytes() {
-        on_form(rest)
+        steps_in(rest).map(ExtendedRequest::On)
     } else if name == "until".as_bytes() {
         sole(rest).and_then(count_in).map(ExtendedRequest::Until)
+    } else if name == "over".as_bytes() {
+        steps_in(rest).map(ExtendedRequest::Over)
+    } else if name == "out".as_bytes() {
+        steps_in(rest).map(ExtendedRequest::Out)
     } else if name == "why".as_bytes() {
         why_form(symbols, rest)
     } else if name == "regs".as_bytes() {
@@ -134,10 +149,14 @@ fn command_in(symbols: &Symbols, name: &[u8], rest: &[u8]) -> Option<ExtendedReq
         last_form(symbols, rest)
     } else if name == "break".as_bytes() {
         break_form(symbols, rest)
+    } else if name == "inputs".as_bytes() {
+        with_none(ExtendedRequest::Inputs, rest)
     } else if name == "where".as_bytes() {
         with_none(ExtendedRequest::Where, rest)
     } else if name == "find".as_bytes() {
         find_form(rest)
+    } else if name == "trace".as_bytes() {
+        sole(rest).and_then(count_in).map(ExtendedRequest::Trace)
     } else {
         None
     }
@@ -166,14 +185,14 @@ fn with_none(request: ExtendedRequest, rest: &[u8]) -> Option<ExtendedRequest>
     }
 }
 
-// What `on` takes.
-fn on_form(rest: &[u8]) -> Option<ExtendedRequest>
+// A number of steps, or the most where no field stands.
+fn steps_in(rest: &[u8]) -> Option<u64>
     requires { All (λ field. length field ≤ 80) (texts (runs rest.now)) }
-    ensures { result ≡ with_field_or (asked.On most_count) count_in (λ k. asked.On k) (texts (runs rest.now)) }
+    ensures { result ≡ steps_in (texts (runs rest.now)) }
 {
     match split_field(rest) {
-        None => Some(ExtendedRequest::On(MOST_COUNT)),
-        Some(_) => sole(rest).and_then(count_in).map(ExtendedRequest::On),
+        None => Some(MOST_COUNT),
+        Some(_) => sole(rest).and_then(count_in),
     }
 }
 
@@ -275,7 +294,7 @@ fn memory_of(place: Linear, rest: &[u8]) -> Option<ExtendedRequest>
     ensures { result ≡ memory_of place (texts (runs rest.now)) }
 {
     match split_field(rest) {
-        None => Some(plain(Command::Memory(place))),
+        None => Some(ExtendedRequest::Common(Command::Memory(place))),
         Some(_) => {
             let count = sole(rest).and_then(few_in)?;
             Some(ExtendedRequest::Words(place, count))
@@ -301,12 +320,12 @@ fn last_form(symbols: &Symbols, rest: &[u8]) -> Option<ExtendedRequest>
 {
     let place = place_alone(symbols, rest)?;
     match erasable_number(place) {
-        Some(place) => Some(plain(Command::Last(place))),
+        Some(place) => Some(ExtendedRequest::Common(Command::Last(place))),
         None => None,
     }
 }
 
-// What `break` takes but for channels.
+// What `break` takes but for a channel and a word alone.
 fn break_form(symbols: &Symbols, rest: &[u8]) -> Option<ExtendedRequest>
     requires { All (λ field. length field ≤ 80) (texts (runs rest.now)) }
     ensures { result ≡ break_form symbols.now (texts (runs rest.now)) }
@@ -314,9 +333,11 @@ fn break_form(symbols: &Symbols, rest: &[u8]) -> Option<ExtendedRequest>
     let (kind, more) = split_field(rest)?;
     if kind == "at".as_bytes() {
         let place = place_alone(symbols, more)?;
-        Some(plain(Command::Break(Breakpoint::Place(place))))
+        Some(broken_at(Breakpoint::Place(place)))
     } else if kind == "word".as_bytes() {
         watches(symbols, more)
+    } else if kind == "chan".as_bytes() {
+        watches_bits(more)
     } else {
         None
     }
@@ -329,14 +350,37 @@ fn watches(symbols: &Symbols, rest: &[u8]) -> Option<ExtendedRequest>
 {
     let place = erasable_first(symbols, rest)?;
     let word = word_in(sole(after_place(rest))?)?;
-    Some(plain(Command::Break(Breakpoint::Word(place, word))))
+    Some(broken_at(Breakpoint::Word(place, word)))
 }
 
-// What any session is asked for, by a command.
-fn plain(command: Command) -> ExtendedRequest
-    ensures { result ≡ asked.Plain (request.Known command) }
+// `break` of a channel, a word and a mask.
+fn watches_bits(rest: &[u8]) -> Option<ExtendedRequest>
+    ensures { result ≡ watches_bits (texts (runs rest.now)) }
 {
-    ExtendedRequest::Plain(Request::Known(command))
+    let (channel, rest) = split_field(rest)?;
+    let (word, rest) = split_field(rest)?;
+    let (mask, rest) = split_field(rest)?;
+    match split_field(rest) {
+        None => bits_of(channel_in(channel), word_in(word), word_in(mask)),
+        Some(_) => None,
+    }
+}
+
+// A breakpoint on some bits of a channel, where all that it needs stands.
+fn bits_of(channel: Option<Chan>, word: Option<Word>, mask: Option<Word>) -> Option<ExtendedRequest>
+    ensures { result ≡ bits_of channel word mask }
+{
+    let channel = channel?;
+    let word = word?;
+    let mask = mask?;
+    Some(broken_at(Breakpoint::Bits(channel, word, mask)))
+}
+
+// One breakpoint more.
+fn broken_at(breakpoint: Breakpoint) -> ExtendedRequest
+    ensures { result ≡ broken_at breakpoint }
+{
+    ExtendedRequest::Common(Command::Break(breakpoint))
 }
 
 // What any session is asked for, with words for what is no command.
@@ -350,7 +394,7 @@ fn in_words(symbols: &Symbols, name: &[u8], rest: &[u8], request: Request) -> Ex
         Request::Nothing => ExtendedRequest::Plain(Request::Nothing),
         Request::TooLong => ExtendedRequest::Plain(Request::TooLong),
         Request::WrongCounter => ExtendedRequest::Plain(Request::WrongCounter),
-        Request::Known(command) => ExtendedRequest::Plain(Request::Known(command)),
+        Request::Known(command) => ExtendedRequest::Common(command),
     }
 }
 

@@ -4,10 +4,10 @@ ghost use Rattle.std.specs.Prelude.{◌≡◌, ◌≤◌, ◌==◌, All, IfSome,
 ghost use Rattle.agc_text.specs.Fields.{runs, texts};
 ghost use Rattle.agc_text.specs.Tables.{value_in};
 ghost use Rattle.space.specs.Places.{window};
-ghost use Rattle.commands.specs.NamedPlaces.{registers, in_erasable_bank, in_fixed_bank, erasable_bank_in, place_of_bank, listed_place, further_place, named_place, moved_on, begins_with_plus, words_on, place_first, after_place};
+ghost use Rattle.commands.specs.NamedPlaces.{registers, in_erasable_bank, in_fixed_bank, erasable_bank_in, place_of_bank, listed_place, unnamed_place, further_place, named_place, moved_on, begins_with_plus, words_on, place_first, after_place};
 
 use crate::fields::{OCTAL_DIGITS, bank_in};
-use crate::places::place_in;
+use crate::places::{fixed_place_in, numbered_place, place_in};
 use agc_text::{length_before_byte, octal, split_field};
 use space::numbers::{BANK_WORDS, Bank, Eras, Offset};
 use space::place::Linear;
@@ -69,6 +69,20 @@ pub(crate) fn named_place(symbols: &Symbols, field: &[u8]) -> Option<Linear>
         return None;
     }
     further_place(field)
+}
+
+/// A place for which no symbol is needed: a number's, a bank and an offset as `02,0013`, or as a listing has it, as `02,4013` and
+/// `E3,1400`.
+pub fn unnamed_place(field: &[u8]) -> Option<Linear>
+    ensures { result ≡ unnamed_place field.now }
+{
+    if let Some(place) = numbered_place(field) {
+        return Some(place);
+    }
+    match fixed_place_in(field) {
+        Some(place) => Some(place),
+        None => listed_place(field),
+    }
 }
 
 // A place that neither any session knows nor a symbol names.

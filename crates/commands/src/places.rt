@@ -13,7 +13,7 @@ use symbols::{Symbols, Value, place_of};
 use words::Word;
 
 // The place of a number.
-fn numbered_place(field: &[u8]) -> Option<Linear>
+pub(crate) fn numbered_place(field: &[u8]) -> Option<Linear>
     ensures { result ≡ numbered_place field.now }
 {
     match octal(field, OCTAL_DIGITS) {
@@ -50,7 +50,7 @@ pub(crate) fn place_in(symbols: &Symbols, field: &[u8]) -> Option<Linear>
 }
 
 // A bank, a comma and an offset.
-fn fixed_place_in(field: &[u8]) -> Option<Linear>
+pub(crate) fn fixed_place_in(field: &[u8]) -> Option<Linear>
     ensures { result ≡ fixed_place_in field.now }
 {
     let length = length_before_byte(field, b',');

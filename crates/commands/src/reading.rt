@@ -10,9 +10,6 @@ use std::fmt;
 use std::marker::Model;
 use words::{Read, Write};
 
-/// The most bytes of commands that are read.
-pub const MOST_BYTES: u64 = 16_777_216;
-
 /// How many bytes are asked for at once.
 const CHUNK: usize = 4096;
 
@@ -47,7 +44,7 @@ impl fmt::Display for DeviceFault {
 
 impl std::error::Error for DeviceFault {}
 
-/// Takes lines off the first 16,777,216 bytes of a reader.
+/// Takes lines off the first bytes of a reader, as many as it is made for.
 ///
 /// The bytes are asked for some 4,000 at once, and only where no line is left of those before; what was written is handed
 /// on before that. So whoever waits for replies at the other end has those to all lines that were read.
@@ -74,16 +71,16 @@ impl Model for LineReader {
 }
 
 impl LineReader {
-    /// A reader of lines that has read nothing yet.
-    pub fn new() -> LineReader
+    /// A reader of lines that has read nothing yet, and reads at most so many bytes.
+    pub fn new(most: u64) -> LineReader
         ensures held { result.held ≡ [] }
-        ensures more { result.more ≡ MOST_BYTES }
+        ensures more { result.more ≡ most }
     {
         LineReader {
             chunk: [0; CHUNK],
             start: 0,
             end: 0,
-            more: MOST_BYTES,
+            more: most,
         }
     }
 

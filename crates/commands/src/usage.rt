@@ -16,7 +16,7 @@ use words::push_all;
 type Row = (&'static str, &'static str, &'static str);
 
 /// The rows of the help.
-const ROWS: [Row; 24] = [
+const ROWS: [Row; 28] = [
     (
         "step",
         "a number of steps",
@@ -37,12 +37,22 @@ const ROWS: [Row; 24] = [
         "a number of cycles",
         "to the first step with so many cycles",
     ),
+    (
+        "over",
+        "a number of steps, or nothing",
+        "to after the TC at Z, or one step on",
+    ),
+    (
+        "out",
+        "a number of steps, or nothing",
+        "to where the routine or interrupt returns to",
+    ),
     ("back", "a number of steps", "so many steps back"),
     ("goto", "a step", "to the step"),
     ("seek", "nothing", "back to a breakpoint"),
     (
         "break",
-        "at PLACE, word PLACE WORD or chan CHANNEL WORD",
+        "at PLACE, word PLACE W or chan C W [MASK]",
         "one breakpoint more",
     ),
     ("breaks", "nothing", "the breakpoints"),
@@ -73,6 +83,11 @@ const ROWS: [Row; 24] = [
         "the steps that made the word there, last first",
     ),
     (
+        "trace",
+        "a number of steps",
+        "the last so many steps, a line each",
+    ),
+    (
         "where",
         "nothing",
         "the next instruction's place, and the interrupt",
@@ -90,6 +105,11 @@ const ROWS: [Row; 24] = [
     ),
     ("tail", "nothing", "the last channel lines"),
     ("add", "a line of a feed", "one input more"),
+    (
+        "inputs",
+        "nothing",
+        "the inputs that were added, as lines of a feed",
+    ),
     ("echo", "any text", "the text"),
     (
         "help",
@@ -145,8 +165,8 @@ pub(crate) fn help_of(name: &[u8]) -> Option<Phrase>
     Some(phrase)
 }
 
-/// The most bytes of the whole help: 24 lines of at most 128.
-const HELP_TEXT: usize = 3_072;
+/// The most bytes of the whole help: 36 lines of at most 128.
+const HELP_TEXT: usize = 4_608;
 
 /// The lines of the whole help.
 pub type HelpText = ArrayVec<u8, HELP_TEXT>;

@@ -8,12 +8,16 @@ use Rattle.space.specs.declared.place.Linear.{Linear}
 use Rattle.space.specs.declared.place.Linear.TheVariants.{Erasable, Fixed}
 use Rattle.rope.specs.Places.{Words, banks, bank_words, stands}
 use Rattle.yayul.specs.Layout.{start}
+use Rattle.symbols.specs.Values.{SymbolTable}
 use Rattle.yayul.specs.Program.{Source}
 use Rattle.yayul.specs.Listing.{Margin, blanks, place_text, rows}
 use Rattle.audit.specs.WordLines.{word_line}
+use Rattle.names.specs.NamedLines.{named_line}
 use Rattle.cpu.specs.declared.account.Account.TheVariants.{Input, Entry, Waiting, Place}
 use Rattle.cpu.specs.Run.{run}
 use Rattle.cpu.specs.State.{Scenario}
+use Rattle.cover.specs.declared.shown.Shown.{Shown}
+use Rattle.cover.specs.declared.shown.Shown.TheVariants as shown
 use Rattle.cover.specs.declared.tally.Figures.{Figures}
 use Rattle.cover.specs.Tallies.{Profile, profile_of, selected_banks}
 
@@ -69,29 +73,34 @@ rest_rows profile words total = erasable_rows profile ++ (empty_rows profile wor
 abbrev pub source_rows : Profile → Words → Source → List ℕ
 source_rows profile words source = rows (margin_of profile) 1 (start source.language) words (lines source.text)
 
+-- a word of an image, with names or without
+abbrev pub image_line : Option SymbolTable → Words → ℕ → ℕ → List ℕ
+image_line None words bank offset = word_line words bank offset
+image_line (Some names) words bank offset = named_line names words bank offset
+
 -- the words of an image
-abbrev pub image_row : Profile → Words → ℕ → ℕ → List ℕ
-image_row profile words bank offset = figure_columns (profile (Place (Fixed bank offset))) ++ word_line words bank offset
+abbrev pub image_row : Profile → Option SymbolTable → Words → ℕ → ℕ → List ℕ
+image_row profile names words bank offset = figure_columns (profile (Place (Fixed bank offset))) ++ image_line names words bank offset
 
-unfoldable pub image_rows_of : Profile → Words → ℕ → List ℕ
-image_rows_of profile words bank = flat_map (image_row profile words bank) (range_with_len 0 bank_words)
+unfoldable pub image_rows_of : Profile → Option SymbolTable → Words → ℕ → List ℕ
+image_rows_of profile names words bank = flat_map (image_row profile names words bank) (range_with_len 0 bank_words)
 
-abbrev pub image_rows : Profile → Words → List ℕ
-image_rows profile words = flat_map (image_rows_of profile words) (range_with_len 0 banks)
+abbrev pub image_rows : Profile → Option SymbolTable → Words → List ℕ
+image_rows profile names words = flat_map (image_rows_of profile names words) (range_with_len 0 banks)
 
 -- the rows of a source's lines, or the words of an image, which has no text
-abbrev pub word_rows : Profile → Words → Option Source → List ℕ
-word_rows profile words (Some source) = source_rows profile words source
-word_rows profile words None = image_rows profile words
+abbrev pub word_rows : Profile → Words → Shown → List ℕ
+word_rows profile words (shown.Source source) = source_rows profile words source
+word_rows profile words (shown.Image names) = image_rows profile names words
 
 -- a profile as text, with all steps and cycles
-abbrev pub profile_text : Profile → Figures → Words → Option Source → List ℕ
-profile_text profile total words source = word_rows profile words source ++ rest_rows profile words total
+abbrev pub profile_text : Profile → Figures → Words → Shown → List ℕ
+profile_text profile total words lines = word_rows profile words lines ++ rest_rows profile words total
 
 -- all steps of a run
 abbrev pub total_of : Scenario → ℕ → Figures
 total_of scenario n = record { count = n; cycles = (run scenario n).cycles }
 
 -- the first n steps of a run as text
-unfoldable pub cover_text : Option Source → Scenario → ℕ → List ℕ
-cover_text source scenario n = profile_text (profile_of scenario n) (total_of scenario n) scenario.rope source
+unfoldable pub cover_text : Shown → Scenario → ℕ → List ℕ
+cover_text lines scenario n = profile_text (profile_of scenario n) (total_of scenario n) scenario.rope lines

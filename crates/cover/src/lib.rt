@@ -4,9 +4,11 @@
 mod columns;
 mod image;
 mod rest;
+mod shown;
 mod source;
 mod tally;
 
 pub use image::write_image_profile;
+pub use shown::Shown;
 pub use source::write_source_profile;
 pub use tally::{ACCOUNTS, Figures, Tally, number_of};

@@ -1,9 +1,10 @@
 //! The profile of a source's run as text.
 
-ghost use Rattle.std.specs.Prelude.{◌≡◌, Some, true};
+ghost use Rattle.std.specs.Prelude.{◌≡◌, true};
 ghost use Rattle.words.specs.Devices.{Writes, failures_after};
 ghost use Rattle.cover.specs.CoverText.{profile_text};
 ghost use Rattle.cover.specs.Tallies.{figures_at};
+ghost use Rattle.cover.specs.declared.shown.Shown.TheVariants as shown;
 
 use crate::columns::figure_columns;
 use crate::rest::write_rest;
@@ -50,7 +51,7 @@ pub fn write_source_profile<W: Write>(
     rows: &SourceRows,
     out: &mut W,
 ) -> Result<(), WriteFailed>
-    ensures written { W.told ≡ true → Writes (W.written out.old) (W.written out.new) (profile_text (figures_at tally.now) total rope.now (Some rows.now)) result }
+    ensures written { W.told ≡ true → Writes (W.written out.old) (W.written out.new) (profile_text (figures_at tally.now) total rope.now (shown.Source rows.now)) result }
     ensures failures { W.failures out.new ≡ failures_after (W.failures out.old) result }
 {
     rows.write(rope, tally, out)?;

@@ -1,8 +1,9 @@
 //! The processor: fixed memory, the inputs, and the count of steps.
 
-ghost use Rattle.std.specs.Prelude.{◌≡◌, ◌≢◌, true, false, ◌+◌, ◌-◌, ◌<◌, ◌≤◌, ◌^◌, min, ℕ, Some, None, Err, OnOk, OnErr};
+ghost use Rattle.std.specs.Prelude.{◌≡◌, ◌≢◌, true, false, ◌+◌, ◌-◌, ◌<◌, ◌≤◌, ◌^◌, min, ℕ, Some, None, Err, OnOk, OnErr, filter, map};
 ghost use Rattle.feed.specs.Added.{TakenBelow};
-ghost use Rattle.feed.specs.Merged.{due};
+ghost use Rattle.feed.specs.Fits.{is_from};
+ghost use Rattle.feed.specs.Merged.{due, plain_entry};
 ghost use Rattle.cpu.specs.State.{State, FitsRun};
 ghost use Rattle.cpu.specs.Additions.{AddsInput, AreAlikeUpTo, plain_inputs, most_plain_inputs};
 ghost use Rattle.cpu.specs.Run.{run};
@@ -22,7 +23,7 @@ use crate::spot::{Cell, Spot, is_among};
 use crate::targets::Targets;
 use crate::trail::Trail;
 use arrayvec::ArrayVec;
-use feed::{AddFault, Feed, Input};
+use feed::{AddFault, Feed, Input, Plain};
 use rope::Rope;
 use std::marker::Model;
 use words::Word;
@@ -135,6 +136,13 @@ impl Processor {
         ensures full { result ≡ Err AddFault.TooMany → most_plain_inputs ≤ plain_inputs self.old.scenario }
     {
         self.feed.add(cycle, input)
+    }
+
+    /// The inputs that are from no series, in order.
+    pub fn plain_inputs(&self) -> &[Plain]
+        ensures { map plain_entry result.now ≡ filter (is_from None) self.now.scenario.inputs }
+    {
+        self.feed.plain()
     }
 
     /// How many steps were made.

@@ -30,14 +30,18 @@ use Rattle.commands.specs.Extended.{extended_request_of, extended_forms}
 use Rattle.commands.specs.NamedPlaces.{registers}
 use Rattle.commands.specs.Usages.{usages}
 use Rattle.commands.specs.declared.command.Breakpoint.{Breakpoint}
-use Rattle.commands.specs.declared.command.Breakpoint.TheVariants.{Place, Channel, Cycles}
-use Rattle.commands.specs.declared.extended.ExtendedRequest.TheVariants.{On, Until}
+use Rattle.commands.specs.declared.command.Breakpoint.TheVariants.{Place, Channel, Bits, Cycles}
+use Rattle.commands.specs.declared.extended.ExtendedRequest.TheVariants.{Common, On, Until}
+use Rattle.commands.specs.declared.command.Command.{Command}
+use Rattle.commands.specs.declared.command.Command.TheVariants.{Goto, Back, Seek, Memory}
+use Rattle.words.specs.BitSums.{and_sum}
 use Rattle.debugger.specs.History.{History, history}
 use Rattle.debugger.specs.Growth.{grow, lowest_hit}
 use Rattle.debugger.specs.Replies.{Desk, answer, reply, at_line}
 use Rattle.debugger.specs.AllRegisters.{register_lines, flag_lines, requested, numbers_text, or_none, sum_line, word_line}
 use Rattle.debugger.specs.ExtendedReplies.{extended_reply}
 use Rattle.debugger.specs.Transcript.{first_desk}
+use Rattle.debugger.specs.Terms.{terms_of}
 use Rattle.debugger.specs.Conversation.{conversation}
 use Rattle.debugger.proofs.Scripts.{ended}
 use Rattle.debugger.proofs.FiveRows.{history-five}
@@ -46,11 +50,11 @@ abbrev symbols : SymbolTable
 symbols = (codes "FIVE", Fixed 2 5) ∷ []
 
 abbrev session : List (List ℕ) → List ℕ
-session lines = conversation symbols (extended_request_of symbols) (first_desk five [] []) lines
+session lines = conversation (terms_of symbols five) (extended_request_of symbols) (first_desk five [] []) lines
 
 -- breakpoints are told, and taken away one by one; those that stay are numbered anew
-breakpoints : session (codes "breaks" ∷ codes "break at FIVE" ∷ codes "break word 101 75" ∷ codes "break chan 10 12" ∷ codes "breaks" ∷ codes "clear 2" ∷ codes "clear 3" ∷ codes "clear 0" ∷ codes "breaks" ∷ codes "clear" ∷ codes "breaks" ∷ [])
-    ≡ ended (codes "COUNT 0" ∷ codes "BREAK 1" ∷ codes "BREAK 2" ∷ codes "BREAK 3" ∷ codes "BREAK 1 at 02,0005" ∷ codes "BREAK 2 word 0101 00075" ∷ codes "BREAK 3 chan 010 00012" ∷ codes "COUNT 3" ∷ codes "CLEAR 2" ∷ codes "NONE" ∷ codes "NONE" ∷ codes "BREAK 1 at 02,0005" ∷ codes "BREAK 2 chan 010 00012" ∷ codes "COUNT 2" ∷ codes "CLEAR" ∷ codes "COUNT 0" ∷ [])
+breakpoints : session (codes "breaks" ∷ codes "break at FIVE" ∷ codes "break word 101 75" ∷ codes "break chan 10 12" ∷ codes "break chan 10 12 77" ∷ codes "breaks" ∷ codes "clear 2" ∷ codes "clear 4" ∷ codes "clear 0" ∷ codes "breaks" ∷ codes "clear" ∷ codes "breaks" ∷ [])
+    ≡ ended (codes "COUNT 0" ∷ codes "BREAK 1" ∷ codes "BREAK 2" ∷ codes "BREAK 3" ∷ codes "BREAK 4" ∷ codes "BREAK 1 at 02,0005" ∷ codes "BREAK 2 word 0101 00075" ∷ codes "BREAK 3 chan 010 00012" ∷ codes "BREAK 4 chan 010 00012 00077" ∷ codes "COUNT 4" ∷ codes "CLEAR 2" ∷ codes "NONE" ∷ codes "NONE" ∷ codes "BREAK 1 at 02,0005" ∷ codes "BREAK 2 chan 010 00012" ∷ codes "BREAK 3 chan 010 00012 00077" ∷ codes "COUNT 3" ∷ codes "CLEAR" ∷ codes "COUNT 0" ∷ [])
 unfolding extended_request_of extended_forms extended_reply usages forms runs parsed counters sequences answer reply digits octal_text
 breakpoints = refl
 
@@ -66,19 +70,34 @@ at_step steps position breakpoints = record (first_desk five [] []) { steps = st
 
 -- what `on` is told there
 abbrev on : History → ℕ → ℕ → ℕ → List Breakpoint → List ℕ
-on h k steps position breakpoints = (extended_reply symbols h (at_step steps position breakpoints) (On k)).text
+on h k steps position breakpoints = (extended_reply (terms_of symbols five) h (at_step steps position breakpoints) (On k)).text
 
 -- over steps that stand, to the next at which a breakpoint holds, though one holds at the position too; and by so many at most
 on_what_stands : on (history five) 5 8 0 (Place (linear.Fixed 2 2) ∷ []) ++ on (history five) 5 8 2 (Place (linear.Fixed 2 2) ∷ []) ++ on (history five) 4 8 2 (Place (linear.Fixed 2 2) ∷ [])
-    ≡ ended (codes "HIT 1" ∷ codes "AT 2 4 4002" ∷ codes "HIT 1" ∷ codes "AT 7 12 4002" ∷ codes "AT 6 10 4001" ∷ [])
-unfolding extended_reply grow lowest_hit at_line digits octal_text place channel_lines
+    ≡ ended (codes "HIT 1" ∷ codes "AT 2 4 02,4002" ∷ codes "HIT 1" ∷ codes "AT 7 12 02,4002" ∷ codes "AT 6 10 02,4001" ∷ [])
+unfolding extended_reply grow lowest_hit at_line digits octal_text place channel_lines place_text window
 on_what_stands = ap (λ h. on h 5 8 0 (Place (linear.Fixed 2 2) ∷ []) ++ on h 5 8 2 (Place (linear.Fixed 2 2) ∷ []) ++ on h 4 8 2 (Place (linear.Fixed 2 2) ∷ [])) history-five ∙ refl
 
 -- and then over new steps, whose lines are written
 on_new_steps : on (history five) 9 3 2 (Place (linear.Fixed 2 2) ∷ []) ++ on (history five) 9 3 1 (Channel 8 10 ∷ []) ++ on (history five) 2 3 2 [] ++ on (history five) 0 3 2 []
-    ≡ ended (codes "7 CH 010 00012" ∷ codes "HIT 1" ∷ codes "AT 7 12 4002" ∷ codes "7 CH 010 00012" ∷ codes "HIT 1" ∷ codes "AT 4 7 4004" ∷ codes "7 CH 010 00012" ∷ codes "AT 4 7 4004" ∷ codes "AT 2 4 4002" ∷ [])
-unfolding extended_reply grow lowest_hit at_line digits octal_text place channel_lines
+    ≡ ended (codes "7 CH 010 00012" ∷ codes "HIT 1" ∷ codes "AT 7 12 02,4002" ∷ codes "7 CH 010 00012" ∷ codes "HIT 1" ∷ codes "AT 4 7 02,4004" ∷ codes "7 CH 010 00012" ∷ codes "AT 4 7 02,4004" ∷ codes "AT 2 4 02,4002" ∷ [])
+unfolding extended_reply grow lowest_hit at_line digits octal_text place channel_lines place_text window
 on_new_steps = ap (λ h. on h 9 3 2 (Place (linear.Fixed 2 2) ∷ []) ++ on h 9 3 1 (Channel 8 10 ∷ []) ++ on h 2 3 2 [] ++ on h 0 3 2 []) history-five ∙ refl
+
+-- some bits of a channel
+on_some_bits : on (history five) 9 3 1 (Bits 8 0o102 7 ∷ []) ++ on (history five) 9 8 0 (Bits 8 0o102 0o17 ∷ Bits 8 0o77777 2 ∷ [])
+    ≡ ended (codes "7 CH 010 00012" ∷ codes "HIT 1" ∷ codes "AT 4 7 02,4004" ∷ codes "HIT 2" ∷ codes "AT 4 7 02,4004" ∷ [])
+unfolding extended_reply grow lowest_hit at_line digits octal_text place channel_lines place_text window and_sum
+on_some_bits = ap (λ h. on h 9 3 1 (Bits 8 0o102 7 ∷ []) ++ on h 9 8 0 (Bits 8 0o102 0o17 ∷ Bits 8 0o77777 2 ∷ [])) history-five ∙ refl
+
+-- the commands of any session tell the bank too, and other words as ever
+abbrev common : History → Command → List ℕ
+common h command = (extended_reply (terms_of symbols five) h (at_step 8 2 (Place (linear.Fixed 2 1) ∷ [])) (Common command)).text
+
+commons : common (history five) (Goto 3) ++ common (history five) (Back 1) ++ common (history five) Seek ++ common (history five) (Goto 9) ++ common (history five) (Memory (linear.Fixed 2 5))
+    ≡ ended (codes "AT 3 5 02,4003" ∷ codes "AT 1 2 02,4001" ∷ codes "HIT 1" ∷ codes "AT 1 2 02,4001" ∷ codes "E41 NOT YET" ∷ codes "MEM 00005" ∷ [])
+unfolding extended_reply reply grow lowest_hit at_line digits octal_text place channel_lines place_text window
+commons = ap (λ h. common h (Goto 3) ++ common h (Back 1) ++ common h Seek ++ common h (Goto 9) ++ common h (Memory (linear.Fixed 2 5))) history-five ∙ refl
 
 -- all registers where INDEX has left a sum, two interrupts are asked for, and one is served
 abbrev cells : List (ℕ × ℕ)
@@ -119,12 +138,12 @@ waiting = refl
 
 -- what `until` is told where so many steps were made
 abbrev until : History → ℕ → ℕ → List ℕ
-until h cycles steps = (extended_reply symbols h (at_step steps 1 []) (Until cycles)).text
+until h cycles steps = (extended_reply (terms_of symbols five) h (at_step steps 1 []) (Until cycles)).text
 
 -- to the first step with so many cycles, back or on, over steps that stand
 until_what_stands : until (history five) 0 8 ++ until (history five) 1 8 ++ until (history five) 5 8 ++ until (history five) 6 8 ++ until (history five) 13 8
-    ≡ ended (codes "AT 0 0 4000" ∷ codes "AT 1 2 4001" ∷ codes "AT 3 5 4003" ∷ codes "AT 4 7 4004" ∷ codes "AT 8 13 4003" ∷ [])
-unfolding extended_reply grow lowest_hit at_line digits octal_text place channel_lines
+    ≡ ended (codes "AT 0 0 02,4000" ∷ codes "AT 1 2 02,4001" ∷ codes "AT 3 5 02,4003" ∷ codes "AT 4 7 02,4004" ∷ codes "AT 8 13 02,4003" ∷ [])
+unfolding extended_reply grow lowest_hit at_line digits octal_text place channel_lines place_text window
 until_what_stands = ap (λ h. until h 0 8 ++ until h 1 8 ++ until h 5 8 ++ until h 6 8 ++ until h 13 8) history-five ∙ refl
 
 -- new steps end after the first with so many cycles

@@ -59,14 +59,14 @@ module _ (s : SessionView) (p : ℕ) (bs : List Breakpoint) (cycle : ℕ) (input
   -- the cycle has too many digits
   pub adding-long : greatest_cycle < cycle → text ≡ line (69 ∷ 53 ∷ 48 ∷ 32 ∷ 67 ∷ 79 ∷ 77 ∷ 77 ∷ 65 ∷ 78 ∷ 68 ∷ []) → BringsAdding (desk s p bs) (Known (Add cycle input)) text (desk s p bs)
   unfolding answer reply
-  adding-long far e = record { additions = []; brings = λ answers later. rw (above greatest_cycle cycle far, e) refl }
+  adding-long far e = record { additions = []; brings = λ m answers later. rw (above greatest_cycle cycle far, e) refl }
 
   -- it isn't above those of the present
   pub adding-early : cycle ≤ greatest_cycle → s.present ≡ run s.scenario s.n → cycle ≤ s.present.cycles → text ≡ line (69 ∷ 52 ∷ 50 ∷ 32 ∷ 84 ∷ 79 ∷ 79 ∷ 32 ∷ 69 ∷ 65 ∷ 82 ∷ 76 ∷ 89 ∷ []) → BringsAdding (desk s p bs) (Known (Add cycle input)) text (desk s p bs)
   unfolding answer reply history
   adding-early short present early e =
       let past : cycle ≤ (run s.scenario s.n).cycles = (let q = ap (λ (m : State). m.cycles) present in omega arith) in
-      record { additions = []; brings = λ answers later. rw (below greatest_cycle cycle short, within cycle (run s.scenario s.n).cycles past, e) refl }
+      record { additions = []; brings = λ m answers later. rw (below greatest_cycle cycle short, within cycle (run s.scenario s.n).cycles past, e) refl }
 
   -- too many stand
   pub adding-many : cycle ≤ greatest_cycle → s.present ≡ run s.scenario s.n → s.present.cycles < cycle → most_plain_inputs ≤ plain_inputs s.scenario → text ≡ line (69 ∷ 51 ∷ 50 ∷ 32 ∷ 84 ∷ 79 ∷ 79 ∷ 32 ∷ 77 ∷ 65 ∷ 78 ∷ 89 ∷ [])
@@ -74,7 +74,7 @@ module _ (s : SessionView) (p : ℕ) (bs : List Breakpoint) (cycle : ℕ) (input
   unfolding answer reply history
   adding-many short present late full e =
       let future : (run s.scenario s.n).cycles < cycle = (let q = ap (λ (m : State). m.cycles) present in omega arith) in
-      record { additions = []; brings = λ answers later. rw (below greatest_cycle cycle short, beyond cycle (run s.scenario s.n).cycles future, within most_plain_inputs (plain_inputs s.scenario) full, e) refl }
+      record { additions = []; brings = λ m answers later. rw (below greatest_cycle cycle short, beyond cycle (run s.scenario s.n).cycles future, within most_plain_inputs (plain_inputs s.scenario) full, e) refl }
 
   -- memory runs out
   pub adding-refused : cycle ≤ greatest_cycle → s.present ≡ run s.scenario s.n → s.present.cycles < cycle → plain_inputs s.scenario < most_plain_inputs → text ≡ line (69 ∷ 50 ∷ 32 ∷ 77 ∷ 69 ∷ 77 ∷ 79 ∷ 82 ∷ 89 ∷ [])
@@ -82,7 +82,7 @@ module _ (s : SessionView) (p : ℕ) (bs : List Breakpoint) (cycle : ℕ) (input
   unfolding answer reply history
   adding-refused short present late room e =
       let future : (run s.scenario s.n).cycles < cycle = (let q = ap (λ (m : State). m.cycles) present in omega arith) in
-      record { additions = None ∷ []; brings = λ answers later. rw (below greatest_cycle cycle short, beyond cycle (run s.scenario s.n).cycles future, beyond most_plain_inputs (plain_inputs s.scenario) room, e) refl }
+      record { additions = None ∷ []; brings = λ m answers later. rw (below greatest_cycle cycle short, beyond cycle (run s.scenario s.n).cycles future, beyond most_plain_inputs (plain_inputs s.scenario) room, e) refl }
 
   -- it is added
   pub adding-added : (t : SessionView) → cycle ≤ greatest_cycle → (run s.scenario s.n).cycles < cycle → plain_inputs s.scenario < most_plain_inputs → HasAdded s cycle input t → text ≡ line (65 ∷ 68 ∷ 68 ∷ 69 ∷ 68 ∷ [])
@@ -93,6 +93,6 @@ module _ (s : SessionView) (p : ℕ) (bs : List Breakpoint) (cycle : ℕ) (input
       let steps : t.n ≡ s.n = ap (λ (v : SessionView). v.n) added.same in
       record {
         additions = Some added.inputs.line ∷ [];
-        brings = λ answers later.
+        brings = λ m answers later.
             rw (below greatest_cycle cycle short, beyond cycle (run s.scenario s.n).cycles future, beyond most_plain_inputs (plain_inputs s.scenario) room, e, steps, scene) refl;
       }

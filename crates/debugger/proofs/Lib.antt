@@ -19,3 +19,9 @@ mod ClockRows
 mod ExtendedRows
 pub mod Requested
 pub mod FirstHit
+mod Retraced
+pub mod Travelling
+pub mod Added
+mod RoutineRows
+mod InputRows
+pub mod Entered

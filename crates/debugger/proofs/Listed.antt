@@ -10,6 +10,7 @@ use Rattle.cpu.proofs.Holding.{word_placed, held, get_held, channel_held, superb
 use Rattle.cpu.proofs.Held.{Held, state, scenario, rope, word_at-rope, place_held, place_in-held, z_held, word_held, instruction_word-held}
 use Rattle.cpu.proofs.HeldRuns.{Move, Goes, Agrees, states, told, sent, run-agrees, out-agrees, outs-agree}
 use Rattle.debugger.specs.History.{Sight, History, history, sight}
+use Rattle.debugger.specs.declared.manner.Manner.TheVariants as manner
 
 -- what is seen of a state whose cells are listed
 abbrev seen : List Placed → Held → Sight
@@ -75,6 +76,7 @@ listed ps inputs h moves =
       after = first_or (sights ps h moves) (λ k. sight (rope ps) (run (scenario ps inputs) k));
       output = first_or (None ∷ told moves) (out (scenario ps inputs));
       outputs = first_or (sent [] moves) (outs (scenario ps inputs));
+      manner = manner.Plain;
     }
 
 pub history-listed : (ps : List Placed) (inputs : List Entry) (h : Held) (moves : List Move) → start ≡ state h → Goes (scenario ps inputs) h moves
@@ -89,4 +91,5 @@ history-listed ps inputs h moves e g =
       after = λ k. same-first (sights ps h moves) (λ j. sight (rope ps) (run (scenario ps inputs) j)) a k i;
       output = λ k. same-first (None ∷ told moves) (out (scenario ps inputs)) b k i;
       outputs = λ k. same-first (sent [] moves) (outs (scenario ps inputs)) c k i;
+      manner = manner.Plain;
     }

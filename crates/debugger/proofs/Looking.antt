@@ -13,9 +13,10 @@ use Rattle.replay.specs.View.{SessionView, HasShown}
 use Rattle.debugger.specs.History.{History, history, sight}
 use Rattle.debugger.specs.Replies.{Desk, says, places_changed, changed_text, changes_since}
 use Rattle.commands.specs.declared.extended.ExtendedRequest.{ExtendedRequest}
-use Rattle.symbols.specs.Values.{SymbolTable}
+use Rattle.debugger.specs.Terms.{Terms}
 use Rattle.debugger.specs.Conversation.{to_asked}
-use Rattle.debugger.specs.Executions.{HasLooked, desk, awaiting, answered, Brings, BringsAsked}
+use Rattle.debugger.specs.Executions.{HasLooked, desk, awaiting, answered, BringsIn, BringsAsked}
+use Rattle.debugger.specs.declared.manner.Manner.{Manner}
 
 -- a step was shown
 pub looked_at : (s t : SessionView) (q : ℕ) → HasShown s q t → q ≤ s.n → HasLooked s t s.n
@@ -45,18 +46,18 @@ pub is_later : (t n : ℕ) → (t ≤ n → ⊥) → ltb n t ≡ true
 is_later t n h = grind (arith, nat_tests)
 
 -- a reply that leaves a session with only another shown machine and another meter
-pub brings_text : (s t : SessionView) (p q : ℕ) (bs cs : List Breakpoint) (request : Request) (text : List ℕ) → t ≡ record s { shown = t.shown; meter = t.meter }
-    → ((answers : List Bool) (additions : List (Option ℕ)) → answered (desk s p bs) request answers additions ≡ says text (awaiting (desk s q cs) answers additions))
-    → Brings (desk s p bs) request text (desk t q cs)
-brings_text s t p q bs cs request text same brings answers additions =
+pub brings_text : (m : Manner) (s t : SessionView) (p q : ℕ) (bs cs : List Breakpoint) (request : Request) (text : List ℕ) → t ≡ record s { shown = t.shown; meter = t.meter }
+    → ((answers : List Bool) (additions : List (Option ℕ)) → answered m (desk s p bs) request answers additions ≡ says text (awaiting (desk s q cs) answers additions))
+    → BringsIn m (desk s p bs) request text (desk t q cs)
+brings_text m s t p q bs cs request text same brings answers additions =
     brings answers additions ∙ sym (ap (λ (v : SessionView). says text (awaiting (desk v q cs) answers additions)) same)
 
 -- the same of what an extended session is asked for
 pub asked_text : (s t : SessionView) (p q : ℕ) (bs cs : List Breakpoint) (request : ExtendedRequest) (text : List ℕ) → t ≡ record s { shown = t.shown; meter = t.meter }
-    → ((symbols : SymbolTable) (answers : List Bool) (additions : List (Option ℕ)) → to_asked symbols request (awaiting (desk s p bs) answers additions) ≡ says text (awaiting (desk s q cs) answers additions))
+    → ((terms : Terms) (answers : List Bool) (additions : List (Option ℕ)) → to_asked terms request (awaiting (desk s p bs) answers additions) ≡ says text (awaiting (desk s q cs) answers additions))
     → BringsAsked (desk s p bs) request text (desk t q cs)
-asked_text s t p q bs cs request text same brings symbols answers additions =
-    brings symbols answers additions ∙ sym (ap (λ (v : SessionView). says text (awaiting (desk v q cs) answers additions)) same)
+asked_text s t p q bs cs request text same brings terms answers additions =
+    brings terms answers additions ∙ sym (ap (λ (v : SessionView). says text (awaiting (desk v q cs) answers additions)) same)
 
 -- the places that read differently in two states
 places_are : (rope : Words) (one other : State) → places_changed (sight rope one) (sight rope other) ≡ changed_places one.cells other.cells

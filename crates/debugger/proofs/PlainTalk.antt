@@ -2,22 +2,23 @@
 use Rattle.std.proofs.Common.{◌≡◌, ℕ, ◌*◌, length, arith, List, [], ◌∷◌, ◌++◌, cond, Result, Ok, Err, refl, ap, ◌∙◌}
 use Rattle.agc_text.specs.Lines.{ended_lines}
 use Rattle.symbols.specs.Values.{SymbolTable}
+use Rattle.debugger.specs.Terms.{Terms, terms_of}
 use Rattle.commands.specs.Commands.{request_of}
 use Rattle.debugger.specs.declared.manner.Manner.TheVariants as manner
 use Rattle.debugger.specs.ExtendedReplies.{extended_reply}
 use Rattle.debugger.specs.Replies.{Desk}
-use Rattle.debugger.specs.Transcript.{ends, told, replies, first_desk, command_lines, lines_read}
+use Rattle.debugger.specs.Transcript.{ends, told, replies, first_desk, command_lines, lines_read, most_command_bytes}
 use Rattle.debugger.specs.Sessions.{Setting, Commands, WritesReplies, Debugs}
-use Rattle.debugger.specs.Conversation.{reading, conversation, efforts, lines_heard, Talk, WritesTalk, Talks}
+use Rattle.debugger.specs.Conversation.{reading, conversation, efforts, lines_heard, lines_within, Talk, WritesTalk, Talks}
 use Rattle.debugger.specs.declared.fault.DebugFault.{DebugFault}
 use Rattle.debugger.specs.declared.fault.DebugFault.TheVariants.{NoMemory, ReadFailed, WriteFailed}
 
-same-replies : (symbols : SymbolTable) (d : Desk) (lines : List (List ℕ)) → conversation symbols (reading manner.Plain symbols) d lines ≡ replies symbols d lines
+same-replies : (terms : Terms) (symbols : SymbolTable) (d : Desk) (lines : List (List ℕ)) → conversation terms (reading manner.Plain symbols) d lines ≡ replies symbols d lines
 unfolding reading extended_reply told
-same-replies symbols d [] = refl
-same-replies symbols d (line ∷ more) =
+same-replies terms symbols d [] = refl
+same-replies terms symbols d (line ∷ more) =
     let r = told symbols d line in
-    ap (λ (t : List ℕ). cond (ends (request_of symbols line)) [] (r.text ++ t)) (same-replies symbols r.desk more)
+    ap (λ (t : List ℕ). cond (ends (request_of symbols line)) [] (r.text ++ t)) (same-replies terms symbols r.desk more)
 
 thrice : (symbols : SymbolTable) (lines : List (List ℕ)) → efforts (reading manner.Plain symbols) lines ≡ 3 * length lines
 unfolding reading
@@ -35,17 +36,18 @@ plain-efforts symbols lines = ap (efforts (reading manner.Plain symbols)) (same-
 
 -- the setting of a session, as what a conversation is over
 abbrev plain : Setting → Talk
-plain s = record { may_refuse = s.may_refuse; symbols = s.symbols; read = reading manner.Plain s.symbols; scenario = s.scenario }
+plain s = record { may_refuse = s.may_refuse; symbols = s.symbols; read = reading manner.Plain s.symbols; most = most_command_bytes; scenario = s.scenario }
 
 writes : (s : Setting) (lines : List (List ℕ)) (old new : List ℕ) → WritesTalk (plain s) lines old new → WritesReplies s lines old new
 writes s lines old new w = record {
   answers = w.answers;
   additions = w.additions;
   granted = w.granted;
-  written = w.written ∙ ap (λ (t : List ℕ). old ++ t) (same-replies s.symbols (first_desk s.scenario w.answers w.additions) lines);
+  written = w.written ∙ ap (λ (t : List ℕ). old ++ t) (same-replies (terms_of s.symbols s.scenario) s.symbols (first_desk s.scenario w.answers w.additions) lines);
 }
 
 pub debugs : (s : Setting) (commands : Commands) (old new : List ℕ) (result : Result (Unit {0}) DebugFault) → Talks (plain s) commands old new result → Debugs s commands old new result
+unfolding command_lines lines_within
 debugs s commands old new (Ok x) w = writes s (command_lines commands.before) old new w
 debugs s commands old new (Err NoMemory) same = same
 debugs s commands old new (Err ReadFailed) e = record { bytes = e.bytes; read = e.read; replied = writes s (ended_lines e.bytes) old new e.replied }
@@ -53,5 +55,5 @@ debugs s commands old new (Err WriteFailed) b = record {
   answers = b.answers;
   additions = b.additions;
   granted = b.granted;
-  part = rw (← same-replies s.symbols (first_desk s.scenario b.answers b.additions) (command_lines commands.before)) b.part;
+  part = rw (← same-replies (terms_of s.symbols s.scenario) s.symbols (first_desk s.scenario b.answers b.additions) (command_lines commands.before)) b.part;
 }

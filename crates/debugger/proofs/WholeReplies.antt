@@ -4,10 +4,11 @@ use Rattle.words.specs.Devices.{Writes}
 use Rattle.words.specs.declared.device.WriteFailed.{WriteFailed}
 use Rattle.commands.specs.declared.command.Request.{Request}
 use Rattle.commands.specs.declared.extended.ExtendedRequest.{ExtendedRequest}
-use Rattle.symbols.specs.Values.{SymbolTable}
+use Rattle.debugger.specs.Terms.{Terms}
 use Rattle.debugger.specs.Conversation.{to_asked}
 use Rattle.debugger.specs.Replies.{Desk, Reply, says}
-use Rattle.debugger.specs.Executions.{awaiting, answered, to_request, Brings, BringsAdding, BringsAsked, Replies, Executes}
+use Rattle.debugger.specs.Executions.{awaiting, answered, to_request, BringsIn, BringsAdding, BringsAsked, Replies, Executes}
+use Rattle.debugger.specs.declared.manner.Manner.{Manner}
 
 -- the reply was written, or a beginning of it
 pub replies-text : (may_refuse : Bool) (reply : Desk → Reply) (from to : Desk) (old new text bytes : List ℕ) (result : Result (Unit {0}) WriteFailed)
@@ -17,28 +18,28 @@ replies-text may_refuse reply from to old new text bytes (Err failed) brings e w
     record { answers = []; additions = []; granted = λ _. tt; part = rw (ap (λ (r : Reply). r.text) (brings [] []), ← e) w }
 
 -- to a request
-pub executes-text : (may_refuse : Bool) (from to : Desk) (asked request : Request) (old new text bytes : List ℕ) (result : Result (Unit {0}) WriteFailed)
-    → asked ≡ request → Brings from request text to → bytes ≡ text → Writes old new bytes result → Executes may_refuse from asked to old new result
-executes-text may_refuse from to asked request old new text bytes result is brings e w = rw is (replies-text may_refuse (to_request request) from to old new text bytes result brings e w)
+pub executes-text : (m : Manner) (may_refuse : Bool) (from to : Desk) (asked request : Request) (old new text bytes : List ℕ) (result : Result (Unit {0}) WriteFailed)
+    → asked ≡ request → BringsIn m from request text to → bytes ≡ text → Writes old new bytes result → Executes m may_refuse from asked to old new result
+executes-text m may_refuse from to asked request old new text bytes result is brings e w = rw is (replies-text may_refuse (to_request m request) from to old new text bytes result brings e w)
 
 -- to what an extended session is asked for
-pub asked-text : (may_refuse : Bool) (symbols : SymbolTable) (from to : Desk) (asked request : ExtendedRequest) (old new text bytes : List ℕ) (result : Result (Unit {0}) WriteFailed)
-    → asked ≡ request → BringsAsked from request text to → bytes ≡ text → Writes old new bytes result → Replies may_refuse (to_asked symbols asked) from to old new result
-asked-text may_refuse symbols from to asked request old new text bytes result is brings e w = rw is (replies-text may_refuse (to_asked symbols request) from to old new text bytes result (brings symbols) e w)
+pub asked-text : (may_refuse : Bool) (terms : Terms) (from to : Desk) (asked request : ExtendedRequest) (old new text bytes : List ℕ) (result : Result (Unit {0}) WriteFailed)
+    → asked ≡ request → BringsAsked from request text to → bytes ≡ text → Writes old new bytes result → Replies may_refuse (to_asked terms asked) from to old new result
+asked-text may_refuse terms from to asked request old new text bytes result is brings e w = rw is (replies-text may_refuse (to_asked terms request) from to old new text bytes result (brings terms) e w)
 
 -- the reply to a request that may add an input
-pub executes-adding : (may_refuse : Bool) (from to : Desk) (asked request : Request) (old new text bytes : List ℕ) (result : Result (Unit {0}) WriteFailed)
-    → asked ≡ request → BringsAdding from request text to → bytes ≡ text → Writes old new bytes result → Executes may_refuse from asked to old new result
-executes-adding may_refuse from to asked request old new text bytes (Ok x) is b e w =
-    rw is (record { answers = []; additions = b.additions; granted = λ _. tt; text = text; brings = λ rest later. b.brings rest later; written = rw e at w })
-executes-adding may_refuse from to asked request old new text bytes (Err failed) is b e w =
-    let whole : (answered from request [] b.additions).text ≡ text =
-    ap (λ (l : List (Option ℕ)). (answered from request [] l).text) (sym (append-nil b.additions)) ∙ ap (λ (r : Reply). r.text) (b.brings [] []) in
+pub executes-adding : (m : Manner) (may_refuse : Bool) (from to : Desk) (asked request : Request) (old new text bytes : List ℕ) (result : Result (Unit {0}) WriteFailed)
+    → asked ≡ request → BringsAdding from request text to → bytes ≡ text → Writes old new bytes result → Executes m may_refuse from asked to old new result
+executes-adding m may_refuse from to asked request old new text bytes (Ok x) is b e w =
+    rw is (record { answers = []; additions = b.additions; granted = λ _. tt; text = text; brings = λ rest later. b.brings m rest later; written = rw e at w })
+executes-adding m may_refuse from to asked request old new text bytes (Err failed) is b e w =
+    let whole : (answered m from request [] b.additions).text ≡ text =
+    ap (λ (l : List (Option ℕ)). (answered m from request [] l).text) (sym (append-nil b.additions)) ∙ ap (λ (r : Reply). r.text) (b.brings m [] []) in
     rw is (record { answers = []; additions = b.additions; granted = λ _. tt; part = rw (whole, ← e) w })
 
 -- there is nothing to reply
-pub executes-nothing : (may_refuse : Bool) (from : Desk) (asked request : Request) (old : List ℕ) → asked ≡ request → Brings from request [] from → Executes may_refuse from asked from old old (Ok tt)
-executes-nothing may_refuse from asked request old is brings =
+pub executes-nothing : (m : Manner) (may_refuse : Bool) (from : Desk) (asked request : Request) (old : List ℕ) → asked ≡ request → BringsIn m from request [] from → Executes m may_refuse from asked from old old (Ok tt)
+executes-nothing m may_refuse from asked request old is brings =
     rw is (record { answers = []; additions = []; granted = λ _. tt; text = []; brings = brings; written = sym (append-nil old) })
 
 -- what brings the same is replied the same

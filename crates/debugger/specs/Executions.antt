@@ -6,14 +6,16 @@ use Rattle.words.specs.declared.device.WriteFailed.{WriteFailed}
 use Rattle.commands.specs.declared.command.Breakpoint.{Breakpoint}
 use Rattle.commands.specs.declared.command.Request.{Request}
 use Rattle.replay.specs.View.{SessionView}
-use Rattle.symbols.specs.Values.{SymbolTable}
-use Rattle.debugger.specs.History.{History, history}
+use Rattle.debugger.specs.History.{History, history, in_manner}
+use Rattle.debugger.specs.declared.manner.Manner.{Manner}
 use Rattle.debugger.specs.Growth.{grow}
 use Rattle.debugger.specs.Replies.{Desk, Reply, says, answer}
 use Rattle.debugger.specs.Sessions.{AllGranted}
 use Rattle.commands.specs.declared.extended.ExtendedRequest.{ExtendedRequest}
-use Rattle.debugger.specs.ExtendedReplies.{grows_to, grows_until}
+use Rattle.debugger.specs.ExtendedReplies.{grows_to, grows_until, further}
 use Rattle.debugger.specs.Conversation.{to_asked}
+use Rattle.debugger.specs.Terms.{Terms}
+use Rattle.debugger.specs.Routines.{goes_to, grows_there}
 use Rattle.debugger.specs.declared.ending.Ending.{Ending}
 
 -- steps were made, up to an ending, and the lines of their outputs written
@@ -43,26 +45,30 @@ desk s position breakpoints =
 abbrev pub awaiting : Desk → List Bool → List (Option ℕ) → Desk
 awaiting d answers additions = record d { answers = answers; additions = additions }
 
--- what a request brings, with these answers to come
-abbrev pub answered : Desk → Request → List Bool → List (Option ℕ) → Reply
-answered d request answers additions = answer (history d.scenario) (awaiting d answers additions) request
+-- what a request brings in a manner
+abbrev pub to_request : Manner → Request → Desk → Reply
+to_request m request d = answer (in_manner m (history d.scenario)) d request
+
+-- the same, with these answers to come
+abbrev pub answered : Manner → Desk → Request → List Bool → List (Option ℕ) → Reply
+answered m d request answers additions = to_request m request (awaiting d answers additions)
 
 -- something that is asked for has this text as its reply, and leads from one place to the other
 abbrev pub BringsAsked : Desk → ExtendedRequest → List ℕ → Desk → Type 0
-BringsAsked from request text to = (symbols : SymbolTable) (answers : List Bool) (additions : List (Option ℕ)) → to_asked symbols request (awaiting from answers additions) ≡ says text (awaiting to answers additions)
+BringsAsked from request text to = (terms : Terms) (answers : List Bool) (additions : List (Option ℕ)) → to_asked terms request (awaiting from answers additions) ≡ says text (awaiting to answers additions)
 
--- a request has this text as its reply, and leads from one place to the other
+-- a request has this text as its reply in a manner, and leads from one place to the other
+abbrev pub BringsIn : Manner → Desk → Request → List ℕ → Desk → Type 0
+BringsIn m from request text to = (answers : List Bool) (additions : List (Option ℕ)) → answered m from request answers additions ≡ says text (awaiting to answers additions)
+
+-- the same, in any manner
 abbrev pub Brings : Desk → Request → List ℕ → Desk → Type 0
-Brings from request text to = (answers : List Bool) (additions : List (Option ℕ)) → answered from request answers additions ≡ says text (awaiting to answers additions)
+Brings from request text to = (m : Manner) → BringsIn m from request text to
 
 -- a request that may add an input has this text as its reply, under some answers of the calls that add
 pub record BringsAdding (from : Desk) (request : Request) (text : List ℕ) (to : Desk) : Type 0 where
   pub additions : List (Option ℕ)
-  pub brings : (answers : List Bool) (later : List (Option ℕ)) → answered from request answers (additions ++ later) ≡ says text (awaiting to answers later)
-
--- what a request brings
-abbrev pub to_request : Request → Desk → Reply
-to_request request d = answer (history d.scenario) d request
+  pub brings : (m : Manner) (answers : List Bool) (later : List (Option ℕ)) → answered m from request answers (additions ++ later) ≡ says text (awaiting to answers later)
 
 -- something was answered: its reply was written
 pub record Replied (may_refuse : Bool) (reply : Desk → Reply) (from to : Desk) (old new : List ℕ) : Type 0 where
@@ -84,16 +90,23 @@ abbrev pub Replies : Bool → (Desk → Reply) → Desk → Desk → List ℕ �
 Replies may_refuse reply from to old new (Ok x) = Replied may_refuse reply from to old new
 Replies may_refuse reply from to old new (Err failed) = ReplyBroken may_refuse reply from old new
 
-abbrev pub Executes : Bool → Desk → Request → Desk → List ℕ → List ℕ → Result (Unit {0}) WriteFailed → Type 0
-Executes may_refuse from request to old new result = Replies may_refuse (to_request request) from to old new result
+abbrev pub Executes : Manner → Bool → Desk → Request → Desk → List ℕ → List ℕ → Result (Unit {0}) WriteFailed → Type 0
+Executes m may_refuse from request to old new result = Replies may_refuse (to_request m request) from to old new result
 
 -- what `on` brings where no breakpoint holds among the steps that stand
 abbrev pub grows_on : ℕ → Desk → Reply
-grows_on k d = grows_to (history d.scenario) d (d.position + k)
+grows_on k d = grows_to (further (history d.scenario)) d (d.position + k)
 
 -- what `until` brings where no step that was made has so many cycles
 abbrev pub makes_until : ℕ → Desk → Reply
-makes_until cycles d = grows_until (history d.scenario) d cycles
+makes_until cycles d = grows_until (further (history d.scenario)) d cycles
+
+-- what `over` and `out` bring, by where they end; and where none of the steps that stand comes to it
+abbrev pub goes_to_end : Breakpoint → ℕ → Desk → Reply
+goes_to_end end k d = goes_to (further (history d.scenario)) d k end
+
+abbrev pub grows_to_end : Breakpoint → ℕ → Desk → Reply
+grows_to_end end k d = grows_there (further (history d.scenario)) d end (d.position + k)
 
 -- what a look at earlier steps leaves: only the shown machine and the meter may change, and so many steps are executed at
 -- most

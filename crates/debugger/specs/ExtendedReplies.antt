@@ -2,31 +2,38 @@
 use Rattle.std.specs.Prelude.{ℕ, ◌+◌, ◌-◌, nat_lt, nat_le, ◌&&◌, min, Option, None, Some, is_some, List, [], ◌∷◌, ◌++◌, length, codes, decimal, if◌then◌else◌}
 use Rattle.std.specs.List.{remove}
 use Rattle.words.specs.Numerals.{octal_text}
-use Rattle.symbols.specs.Values.{SymbolTable}
 use Rattle.commands.specs.Usages.{usages, help_lines}
 use Rattle.commands.specs.declared.command.Breakpoint.{Breakpoint}
-use Rattle.commands.specs.declared.command.Breakpoint.TheVariants.{Place, Word, Channel, Cycles}
+use Rattle.commands.specs.declared.command.Breakpoint.TheVariants.{Place, Word, Channel, Bits, Cycles, Returned, Outside}
 use Rattle.commands.specs.declared.extended.ExtendedRequest.{ExtendedRequest}
-use Rattle.commands.specs.declared.extended.ExtendedRequest.TheVariants.{Plain, Says, Help, Breaks, ClearOne, On, AllRegisters, Until, WhyStep, Why, Words, Where, Find}
+use Rattle.commands.specs.declared.extended.ExtendedRequest.TheVariants.{Plain, Common, Says, Help, Breaks, ClearOne, On, AllRegisters, Until, WhyStep, Why, Words, Where, Find, Trace, Inputs, Over, Out}
 use Rattle.cpu.specs.Run.{run}
-use Rattle.debugger.specs.History.{History}
+use Rattle.debugger.specs.History.{History, in_manner}
+use Rattle.debugger.specs.declared.manner.Manner.TheVariants as manner
 use Rattle.debugger.specs.AllRegisters.{all_registers}
 use Rattle.debugger.specs.PlaceTexts.{place_text}
 use Rattle.debugger.specs.Whys.{subject_spots, why_text, last_text}
 use Rattle.debugger.specs.Standing.{where_text, found_text, words_text}
+use Rattle.debugger.specs.Retracing.{traced_text}
+use Rattle.debugger.specs.Terms.{Terms}
+use Rattle.debugger.specs.Inputs.{inputs_text}
+use Rattle.debugger.specs.Routines.{goes_over, goes_out}
 use Rattle.replay.specs.LastHit.{first_hit}
 use Rattle.debugger.specs.Growth.{grow, lowest_hit}
 use Rattle.debugger.specs.declared.ending.Ending.{Ending}
 use Rattle.debugger.specs.declared.ending.Ending.TheVariants.{Reached, Hit, NoMemory, Limit}
 use Rattle.commands.specs.Extended.{most_count}
-use Rattle.debugger.specs.Replies.{Desk, Reply, says, here, line, refuses, answer, sought, moves, stands, ending_line, after_text, after_growth, after_steps}
+use Rattle.debugger.specs.Replies.{Desk, Reply, says, here, line, refuses, answer, reply, sought, moves, stands, ending_line, after_text, after_growth, after_steps}
 
 -- a breakpoint as the command that sets it
 abbrev pub breakpoint_text : Breakpoint → List ℕ
 breakpoint_text (Place place) = codes "at " ++ place_text place
 breakpoint_text (Word p w) = codes "word " ++ octal_text 4 p ++ codes " " ++ octal_text 5 w
 breakpoint_text (Channel c w) = codes "chan " ++ octal_text 3 c ++ codes " " ++ octal_text 5 w
+breakpoint_text (Bits c w mask) = codes "chan " ++ octal_text 3 c ++ codes " " ++ octal_text 5 w ++ codes " " ++ octal_text 5 mask
 breakpoint_text (Cycles cycles) = codes "cycles " ++ decimal cycles
+breakpoint_text (Returned place inside) = codes "returned " ++ place_text place
+breakpoint_text Outside = codes "outside"
 
 -- a line for each, numbered on from so many, and how many there are
 abbrev pub breaks_from : ℕ → List Breakpoint → List ℕ
@@ -73,18 +80,27 @@ abbrev pub goes_until : History → Desk → ℕ → Option ℕ → Reply
 goes_until h d cycles None = grows_until h d cycles
 goes_until h d cycles (Some t) = moves h d t
 
--- what a line brings, over the symbols and a run
-unfoldable pub extended_reply : SymbolTable → History → Desk → ExtendedRequest → Reply
-extended_reply symbols h d (Plain request) = answer h d request
-extended_reply symbols h d (Says text) = says text d
-extended_reply symbols h d Help = says (help_lines usages) d
-extended_reply symbols h d Breaks = says (breaks_from 0 d.breakpoints) d
-extended_reply symbols h d (ClearOne i) = clears_one d i
-extended_reply symbols h d (On k) = stops_on h d k (next_stop h d k)
-extended_reply symbols h d (Until cycles) = goes_until h d cycles (first_at h d.steps cycles)
-extended_reply symbols h d AllRegisters = says (all_registers (run d.scenario d.position)) d
-extended_reply symbols h d WhyStep = says (last_text symbols d.scenario d.position) d
-extended_reply symbols h d (Why subject k) = says (why_text symbols d.scenario k d.position (subject_spots subject)) d
-extended_reply symbols h d (Words place k) = says (words_text h (here h d) place k) d
-extended_reply symbols h d Where = says (where_text symbols d.scenario d.position) d
-extended_reply symbols h d (Find text) = says (found_text symbols text) d
+-- a run as an extended session tells it
+abbrev pub further : History → History
+further h = in_manner manner.Extended h
+
+-- what a line brings, in terms and over a run
+unfoldable pub extended_reply : Terms → History → Desk → ExtendedRequest → Reply
+extended_reply terms h d (Plain request) = answer h d request
+extended_reply terms h d (Common command) = reply (further h) d command
+extended_reply terms h d (Says text) = says text d
+extended_reply terms h d Help = says (help_lines usages) d
+extended_reply terms h d Breaks = says (breaks_from 0 d.breakpoints) d
+extended_reply terms h d (ClearOne i) = clears_one d i
+extended_reply terms h d (On k) = stops_on (further h) d k (next_stop h d k)
+extended_reply terms h d (Until cycles) = goes_until (further h) d cycles (first_at h d.steps cycles)
+extended_reply terms h d AllRegisters = says (all_registers (run d.scenario d.position)) d
+extended_reply terms h d WhyStep = says (last_text terms.symbols d.scenario d.position) d
+extended_reply terms h d (Why subject k) = says (why_text terms.symbols d.scenario k d.position (subject_spots subject)) d
+extended_reply terms h d (Words place k) = says (words_text h (here h d) place k) d
+extended_reply terms h d Where = says (where_text terms.symbols d.scenario d.position) d
+extended_reply terms h d (Find text) = says (found_text terms.symbols text) d
+extended_reply terms h d (Trace k) = says (traced_text terms.symbols d.scenario d.position k) d
+extended_reply terms h d Inputs = says (inputs_text terms.first d.scenario) d
+extended_reply terms h d (Over k) = goes_over (further h) d k
+extended_reply terms h d (Out k) = goes_out (further h) d k

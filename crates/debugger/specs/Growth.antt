@@ -1,14 +1,15 @@
 -- Steps that are made for the first time.
-use Rattle.std.specs.Prelude.{ℕ, zero, suc, ◌+◌, ◌==◌, nat_le, Bool, false, List, [], ◌∷◌, ◌++◌, drop, Option, None, Some, position, if◌then◌else◌}
+use Rattle.std.specs.Prelude.{ℕ, zero, suc, ◌+◌, ◌==◌, ◌&&◌, ◌||◌, nat_le, not, Bool, false, List, [], ◌∷◌, ◌++◌, drop, Option, None, Some, position, if◌then◌else◌}
 use Rattle.std.specs.Option.{option_map}
 use Rattle.words.specs.Numbers.{correct}
+use Rattle.words.specs.BitSums.{and_sum}
 use Rattle.space.specs.Places.{same_place}
 use Rattle.cpu.specs.declared.output.Output.{Output}
 use Rattle.replay.specs.Memory.{step_limit}
 use Rattle.cpu.specs.ChannelLines.{channel_line}
 use Rattle.debugger.specs.History.{Sight, History}
 use Rattle.commands.specs.declared.command.Breakpoint.{Breakpoint}
-use Rattle.commands.specs.declared.command.Breakpoint.TheVariants.{Place, Word, Channel, Cycles}
+use Rattle.commands.specs.declared.command.Breakpoint.TheVariants.{Place, Word, Channel, Bits, Cycles, Returned, Outside}
 use Rattle.debugger.specs.declared.ending.Ending.{Ending}
 use Rattle.debugger.specs.declared.ending.Ending.TheVariants.{Reached, Hit, NoMemory, Limit}
 
@@ -25,7 +26,10 @@ abbrev pub holds : Sight → Breakpoint → Bool
 holds seen (Place place) = same_place seen.place place
 holds seen (Word p w) = word_seen seen p == w
 holds seen (Channel c w) = channel_seen seen c == w
+holds seen (Bits c w mask) = and_sum 15 (channel_seen seen c) mask == and_sum 15 w mask
 holds seen (Cycles cycles) = nat_le cycles seen.cycles
+holds seen (Returned place inside) = same_place seen.place place && (inside || not seen.inside)
+holds seen Outside = not seen.inside
 
 -- the lowest number, from 1, of the breakpoints that hold
 unfoldable pub lowest_hit : List Breakpoint → Sight → Option ℕ

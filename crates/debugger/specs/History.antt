@@ -8,6 +8,8 @@ use Rattle.cpu.specs.Effects.{next_address, place_in}
 use Rattle.cpu.specs.Next.{instruction_word}
 use Rattle.cpu.specs.Run.{run, out, outs}
 use Rattle.cpu.specs.declared.output.Output.{Output}
+use Rattle.debugger.specs.declared.manner.Manner.{Manner}
+use Rattle.debugger.specs.declared.manner.Manner.TheVariants as manner
 
 -- what is seen of a state: its cycles; what is read at each erasable place and on each channel; the banks; whether
 -- extracode is in force, whether interrupts are inhibited and whether one is served; and the next place and instruction
@@ -42,12 +44,13 @@ sight rope s =
     }
 
 -- a run as it is seen: the words of fixed memory, the state after each number of steps, the output of each step, and those of
--- the first so many
+-- the first so many; and the manner in which it is told
 pub record History : Type 0 where
   pub fixed : ℕ → ℕ → ℕ
   pub after : ℕ → Sight
   pub output : ℕ → Option Output
   pub outputs : ℕ → List Output
+  pub manner : Manner
 
 -- the reference run, as it is seen
 unfoldable pub history : Scenario → History
@@ -57,4 +60,9 @@ history scenario =
       after = λ t. sight scenario.rope (run scenario t);
       output = out scenario;
       outputs = outs scenario;
+      manner = manner.Plain;
     }
+
+-- the same, told in another manner
+abbrev pub in_manner : Manner → History → History
+in_manner m h = record h { manner = m }

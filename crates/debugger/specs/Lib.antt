@@ -2,11 +2,16 @@ pub mod Additions
 pub mod History
 pub mod Growth
 pub mod Replies
+pub mod Positions
 pub mod PlaceTexts
 pub mod Whys
 pub mod ToldLinks
 pub mod Standing
+pub mod Retracing
 pub mod LeftToWrite
+pub mod Terms
+pub mod Inputs
+pub mod Routines
 pub mod ExtendedReplies
 pub mod AllRegisters
 pub mod Transcript

@@ -15,7 +15,10 @@ use Rattle.cpu.specs.State.{Scenario}
 use Rattle.cpu.specs.Additions.{plain_inputs, most_plain_inputs}
 use Rattle.replay.specs.View.{greatest_cycle}
 use Rattle.replay.specs.LastHit.{last_hit}
+use Rattle.yayul.specs.Listing.{place_text}
 use Rattle.debugger.specs.Additions.{with_added}
+use Rattle.debugger.specs.declared.manner.Manner.{Manner}
+use Rattle.debugger.specs.declared.manner.Manner.TheVariants as manner
 use Rattle.debugger.specs.History.{Sight, History}
 use Rattle.debugger.specs.Growth.{Growth, grow, later, word_seen, channel_seen, lowest_hit}
 use Rattle.commands.specs.declared.command.Breakpoint.{Breakpoint}
@@ -74,17 +77,22 @@ last_of count xs = drop (length xs - count) xs
 abbrev pub here : History → Desk → Sight
 here h d = h.after d.position
 
--- the line that tells a position, with the cycles and Z there
-unfoldable pub at_line : ℕ → ℕ → ℕ → List ℕ
-at_line position cycles z = line (codes "AT " ++ decimal position ++ codes " " ++ decimal cycles ++ codes " " ++ octal_text 4 z)
+-- the line that tells a position, with the cycles there and where Z leads
+unfoldable pub at_line : ℕ → ℕ → List ℕ → List ℕ
+at_line position cycles address = line (codes "AT " ++ decimal position ++ codes " " ++ decimal cycles ++ codes " " ++ address)
+
+-- where Z leads: by Z, or by the place as a listing has it
+abbrev pub address_text : Manner → ℕ → Linear → List ℕ
+address_text manner.Plain z place = octal_text 4 z
+address_text manner.Extended z place = place_text place
 
 -- the line of a position, by what is seen there
-abbrev pub at_line_of : ℕ → Sight → List ℕ
-at_line_of position seen = at_line position seen.cycles (word_seen seen program_counter)
+abbrev pub at_line_of : Manner → ℕ → Sight → List ℕ
+at_line_of m position seen = at_line position seen.cycles (address_text m (word_seen seen program_counter) seen.place)
 
 -- some lines, and then the line of the position
 abbrev pub stands : History → List ℕ → Desk → Reply
-stands h text d = says (text ++ at_line_of d.position (here h d)) d
+stands h text d = says (text ++ at_line_of h.manner d.position (here h d)) d
 
 abbrev pub hit_line : ℕ → List ℕ
 hit_line i = line (codes "HIT " ++ decimal i)

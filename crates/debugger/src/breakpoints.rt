@@ -9,14 +9,21 @@ use commands::Breakpoint;
 use cpu::Machine;
 
 /// Whether a breakpoint holds.
-fn holds(breakpoint: Breakpoint, machine: &Machine) -> bool
+pub(crate) fn holds(breakpoint: Breakpoint, machine: &Machine) -> bool
     ensures { (rope : Words) → result ≡ holds (sight rope machine.now) breakpoint }
 {
     match breakpoint {
         Breakpoint::Place(place) => machine.next_place() == place,
         Breakpoint::Word(place, word) => machine.word(place) == word,
         Breakpoint::Channel(channel, word) => machine.channel(channel).correct() == word,
+        Breakpoint::Bits(channel, word, mask) => {
+            machine.channel(channel).correct().and(mask) == word.and(mask)
+        }
         Breakpoint::Cycles(cycles) => cycles <= machine.cycles(),
+        Breakpoint::Returned(place, inside) => {
+            machine.next_place() == place && (inside || !machine.inside())
+        }
+        Breakpoint::Outside => !machine.inside(),
     }
 }
 

@@ -6,8 +6,10 @@ ghost use Rattle.cpu.specs.Run.{outs};
 ghost use Rattle.commands.specs.declared.command.Request.TheVariants.{Known};
 ghost use Rattle.debugger.specs.Replies.{last_of, tail_length};
 ghost use Rattle.debugger.specs.Executions.{desk, Executes, HasGoneOn};
+ghost use Rattle.debugger.specs.declared.manner.Manner.TheVariants as manner;
 
 use crate::desk::Desk;
+use crate::manner::Manner;
 use crate::texts::{symbol_line, text_line};
 use commands::{Command, Request};
 use replay::{Keeper, Session};
@@ -23,7 +25,7 @@ impl Desk {
     ) -> Result<(), WriteFailed>
         requires within { self.old.position ≤ session.old.n }
         requires tail { self.old.tail ≡ last_of tail_length (outs session.old.scenario session.old.n) }
-        ensures executes { W.told ≡ true → Executes K.may_refuse (desk session.old self.old.position self.old.breakpoints) request (desk session.new self.new.position self.new.breakpoints) (W.written out.old) (W.written out.new) result }
+        ensures executes { W.told ≡ true → Executes manner.Plain K.may_refuse (desk session.old self.old.position self.old.breakpoints) request (desk session.new self.new.position self.new.breakpoints) (W.written out.old) (W.written out.new) result }
         ensures within { self.new.position ≤ session.new.n }
         ensures tail { self.new.tail ≡ last_of tail_length (outs session.new.scenario session.new.n) }
         ensures session { HasGoneOn session.old session.new }
@@ -34,31 +36,32 @@ impl Desk {
             Request::TooLong => write_all(out, text_line(b"E51 LONG").as_slice()),
             Request::Unknown => write_all(out, text_line(b"E50 COMMAND").as_slice()),
             Request::WrongCounter => write_all(out, text_line(b"E33 COUNTER").as_slice()),
-            Request::Known(command) => self.obey(session, command, out),
+            Request::Known(command) => self.obey(Manner::Plain, session, command, out),
         }
     }
 
     /// Executes a command, and writes its reply.
-    fn obey<K: Keeper, W: Write>(
+    pub(crate) fn obey<K: Keeper, W: Write>(
         &mut self,
+        manner: Manner,
         session: &mut Session<K>,
         command: Command,
         out: &mut W,
     ) -> Result<(), WriteFailed>
         requires within { self.old.position ≤ session.old.n }
         requires tail { self.old.tail ≡ last_of tail_length (outs session.old.scenario session.old.n) }
-        ensures executes { W.told ≡ true → Executes K.may_refuse (desk session.old self.old.position self.old.breakpoints) (Known command) (desk session.new self.new.position self.new.breakpoints) (W.written out.old) (W.written out.new) result }
+        ensures executes { W.told ≡ true → Executes manner K.may_refuse (desk session.old self.old.position self.old.breakpoints) (Known command) (desk session.new self.new.position self.new.breakpoints) (W.written out.old) (W.written out.new) result }
         ensures within { self.new.position ≤ session.new.n }
         ensures tail { self.new.tail ≡ last_of tail_length (outs session.new.scenario session.new.n) }
         ensures session { HasGoneOn session.old session.new }
         ensures failures { W.failures out.new ≡ failures_after (W.failures out.old) result }
     {
         match command {
-            Command::Step(steps) => self.step(session, steps, out),
-            Command::Run(steps) => self.run(session, steps, out),
-            Command::Back(steps) => write_all(out, self.back(session, steps).as_slice()),
-            Command::Goto(step) => write_all(out, self.goto(session, step).as_slice()),
-            Command::Seek => write_all(out, self.seek(session).as_slice()),
+            Command::Step(steps) => self.step(manner, session, steps, out),
+            Command::Run(steps) => self.run(manner, session, steps, out),
+            Command::Back(steps) => write_all(out, self.back(manner, session, steps).as_slice()),
+            Command::Goto(step) => write_all(out, self.goto(manner, session, step).as_slice()),
+            Command::Seek => write_all(out, self.seek(manner, session).as_slice()),
             Command::Break(breakpoint) => {
                 write_all(out, self.set_breakpoint(breakpoint).as_slice())
             }

@@ -5,7 +5,7 @@ ghost use Rattle.arrayvec.specs.ArrayVec.{array_vec_len};
 ghost use Rattle.words.specs.Devices.{failures_after};
 ghost use Rattle.cpu.specs.Run.{outs};
 ghost use Rattle.replay.specs.View.{SessionView};
-ghost use Rattle.symbols.specs.Values.{SymbolTable};
+ghost use Rattle.debugger.specs.Terms.{Terms};
 ghost use Rattle.commands.specs.declared.extended.ExtendedRequest.TheVariants as asked;
 ghost use Rattle.debugger.specs.Replies.{last_of, tail_length, line, hit_text, at_line_of};
 ghost use Rattle.debugger.specs.PlaceTexts.{place_text};
@@ -13,11 +13,14 @@ ghost use Rattle.debugger.specs.ExtendedReplies.{breakpoint_text, breaks_from, n
 ghost use Rattle.debugger.specs.History.{history};
 ghost use Rattle.debugger.specs.Growth.{lowest_hit};
 ghost use Rattle.debugger.specs.Conversation.{effort, to_asked};
+ghost use Rattle.debugger.specs.declared.manner.Manner.TheVariants as manner;
 ghost use Rattle.debugger.specs.Executions.{desk, BringsAsked, Replies, grows_on, HasLooked, HasGoneOn, HasDone};
 
 use crate::breakpoints::lowest_hit;
 use crate::desk::Desk;
 use crate::growing::grow;
+use crate::inputs::tell_inputs;
+use crate::manner::Manner;
 use crate::standing::find;
 use crate::texts::{Text, hit_and_at_line, number_line, text_line};
 use arrayvec::ArrayVec;
@@ -34,12 +37,13 @@ impl Desk {
         &mut self,
         session: &mut Session<K>,
         symbols: &Symbols,
+        first_added: u128,
         request: &ExtendedRequest,
         out: &mut W,
     ) -> Result<(), WriteFailed>
         requires within { self.old.position ≤ session.old.n }
         requires tail { self.old.tail ≡ last_of tail_length (outs session.old.scenario session.old.n) }
-        ensures executes { W.told ≡ true → Replies K.may_refuse (to_asked symbols.now request.now) (desk session.old self.old.position self.old.breakpoints) (desk session.new self.new.position self.new.breakpoints) (W.written out.old) (W.written out.new) result }
+        ensures executes { W.told ≡ true → Replies K.may_refuse (to_asked (record { symbols = symbols.now; first = first_added }) request.now) (desk session.old self.old.position self.old.breakpoints) (desk session.new self.new.position self.new.breakpoints) (W.written out.old) (W.written out.new) result }
         ensures within { self.new.position ≤ session.new.n }
         ensures tail { self.new.tail ≡ last_of tail_length (outs session.new.scenario session.new.n) }
         ensures session { HasDone (effort request.now) session.old session.new }
@@ -47,6 +51,9 @@ impl Desk {
     {
         match request {
             ExtendedRequest::Plain(request) => self.answer(session, *request, out),
+            ExtendedRequest::Common(command) => {
+                self.obey(Manner::Extended, session, *command, out)
+            }
             ExtendedRequest::Says(text) => write_all(out, text.as_slice()),
             ExtendedRequest::Help => write_all(out, help_text().as_slice()),
             ExtendedRequest::Breaks => { write_all(out, breaks_text(&self.breakpoints).as_slice()) }
@@ -69,6 +76,10 @@ impl Desk {
                 write_all(out, self.where_text(session, symbols).as_slice())
             }
             ExtendedRequest::Find(beginning) => find(symbols, beginning.as_slice(), out),
+            ExtendedRequest::Trace(steps) => self.trace(session, symbols, *steps, out),
+            ExtendedRequest::Inputs => tell_inputs(session, first_added, out),
+            ExtendedRequest::Over(steps) => self.go_over(session, *steps, out),
+            ExtendedRequest::Out(steps) => self.go_out(session, *steps, out),
         }
     }
 
@@ -95,7 +106,7 @@ impl Desk {
     ) -> Result<(), WriteFailed>
         requires within { self.old.position ≤ session.old.n }
         requires tail { self.old.tail ≡ last_of tail_length (outs session.old.scenario session.old.n) }
-        ensures executes { W.told ≡ true → (symbols : SymbolTable) → Replies K.may_refuse (to_asked symbols (asked.On steps)) (desk session.old self.old.position self.old.breakpoints) (desk session.new self.new.position self.new.breakpoints) (W.written out.old) (W.written out.new) result }
+        ensures executes { W.told ≡ true → (terms : Terms) → Replies K.may_refuse (to_asked terms (asked.On steps)) (desk session.old self.old.position self.old.breakpoints) (desk session.new self.new.position self.new.breakpoints) (W.written out.old) (W.written out.new) result }
         ensures within { self.new.position ≤ session.new.n }
         ensures tail { self.new.tail ≡ last_of tail_length (outs session.new.scenario session.new.n) }
         ensures session { HasGoneOn session.old session.new }
@@ -129,13 +140,13 @@ impl Desk {
     /// The breakpoint that holds at the position, and the line of the position.
     fn stop_text<K: Keeper>(&self, session: &mut Session<K>) -> Text
         requires { self.now.position ≤ session.old.n }
-        ensures text { result.items ≡ hit_text (lowest_hit self.now.breakpoints ((history session.old.scenario).after self.now.position)) ++ at_line_of self.now.position ((history session.old.scenario).after self.now.position) }
+        ensures text { result.items ≡ hit_text (lowest_hit self.now.breakpoints ((history session.old.scenario).after self.now.position)) ++ at_line_of manner.Extended self.now.position ((history session.old.scenario).after self.now.position) }
         ensures looked { HasLooked session.old session.new session.old.n }
     {
         match session.show(self.position) {
             Ok(machine) => {
                 let hit = lowest_hit(self.breakpoints.as_slice(), machine);
-                hit_and_at_line(hit, self.position, machine)
+                hit_and_at_line(Manner::Extended, hit, self.position, machine)
             }
             Err(_) => unreachable!(),
         }
@@ -167,7 +178,7 @@ impl Desk {
         ) {
             Ok(ending) => {
                 self.position += steps.min(session.steps() - self.position);
-                self.tell_ending(session, ending, out)
+                self.tell_ending(Manner::Extended, session, ending, out)
             }
             Err(failed) => Err(failed),
         }
@@ -226,16 +237,29 @@ fn push_breakpoint(text: &mut BreaksText, breakpoint: Breakpoint)
             push_all(text, b" ");
             push_octal(text, 5, word.to_u16());
         }
+        Breakpoint::Bits(channel, word, mask) => {
+            push_all(text, b"chan ");
+            push_octal(text, 3, channel.number());
+            push_all(text, b" ");
+            push_octal(text, 5, word.to_u16());
+            push_all(text, b" ");
+            push_octal(text, 5, mask.to_u16());
+        }
         Breakpoint::Cycles(cycles) => {
             push_all(text, b"cycles ");
             push_decimal(text, cycles);
         }
+        Breakpoint::Returned(place, _) => {
+            push_all(text, b"returned ");
+            push_place(text, place);
+        }
+        Breakpoint::Outside => push_all(text, b"outside"),
     }
 }
 
 /// Adds a place as a command names it.
 fn push_place(text: &mut BreaksText, place: Linear)
-    requires { array_vec_len text.old ≤ 1003 }
+    requires { array_vec_len text.old ≤ 1009 }
     ensures items { text.new.items ≡ text.old.items ++ place_text place }
     ensures short { array_vec_len text.new ≤ array_vec_len text.old + 7 }
 {

@@ -6,11 +6,12 @@ ghost use Rattle.words.specs.Readings.{TakesAtMost};
 ghost use Rattle.debugger.specs.Transcript.{command_lines, lines_read, most_command_bytes};
 ghost use Rattle.commands.specs.Lines.{kept};
 ghost use Rattle.commands.specs.Extended.{extended_request_of};
-ghost use Rattle.debugger.specs.Conversation.{Talks, efforts, reading, is_end, lines_heard};
+ghost use Rattle.debugger.specs.Conversation.{Talks, efforts, reading, is_end, lines_heard, lines_within, most_bytes, most_extended_bytes};
 ghost use Rattle.debugger.specs.Sessions.{Debugs, has_read_failed, has_write_failed};
 
 use crate::desk::Desk;
 use crate::fault::DebugFault;
+use crate::inputs::first_added;
 use crate::manner::Manner;
 use commands::{
     Command, CommandLine, DeviceFault, ExtendedRequest, LineReader, Request, extended_request_of,
@@ -20,6 +21,9 @@ use replay::{Keeper, Session};
 use std::alloc::Global;
 use symbols::Symbols;
 use words::{Read, Write};
+
+/// The most bytes of commands that a session reads, where it is not extended.
+pub const MOST_COMMAND_BYTES: u64 = 16_777_216;
 
 /// Reads commands up to `quit`, or to the end of their first 16,777,216 bytes, and writes the reply to each.
 ///
@@ -55,7 +59,8 @@ pub fn debug_session<K: Keeper, R: Read, W: Write>(
     converse(Manner::Plain, alloc, session, symbols, commands, out)
 }
 
-/// `debug_session` with more commands, and with refusals in words.
+/// `debug_session` with more commands, with refusals in words, and over commands of any number of bytes: they are read up to
+/// `quit` or to their end. (A count of 64 bits has an end, after 18,446,744,073,709,551,615 bytes.)
 pub fn extended_session<K: Keeper, R: Read, W: Write>(
     alloc: Global,
     session: &mut Session<K>,
@@ -65,19 +70,19 @@ pub fn extended_session<K: Keeper, R: Read, W: Write>(
 ) -> Result<(), DebugFault>
     requires { session.old.n ≡ 0 }
     ensures answer { R.told ≡ true → W.told ≡ true →
-        Talks (record { may_refuse = K.may_refuse; symbols = symbols.now; read = extended_request_of symbols.now; scenario = session.old.scenario }) (record { before = R.left commands.old; left = R.left commands.new }) (W.written out.old) (W.written out.new) result }
+        Talks (record { may_refuse = K.may_refuse; symbols = symbols.now; read = extended_request_of symbols.now; most = most_extended_bytes; scenario = session.old.scenario }) (record { before = R.left commands.old; left = R.left commands.new }) (W.written out.old) (W.written out.new) result }
 
     // For each line that is read at most so many times the steps that there are are executed, besides those that are made: three
     // times, for `where` four times, and for `why` four times a link.
     ensures cost { R.told ≡ true → OnOk result
-        (session.new.meter ≤ session.old.meter + (efforts (extended_request_of symbols.now) (lines_heard (extended_request_of symbols.now) (command_lines (R.left commands.old))) + 1) * session.new.n) }
+        (session.new.meter ≤ session.old.meter + (efforts (extended_request_of symbols.now) (lines_heard (extended_request_of symbols.now) (lines_within most_extended_bytes (R.left commands.old))) + 1) * session.new.n) }
 
     // E6 only where the reader has failed, E7 only where the writer has.
     ensures reader { R.failures commands.new ≡ (if has_read_failed result then one_more (R.failures commands.old) else R.failures commands.old) }
     ensures writer { W.failures out.new ≡ (if has_write_failed result then one_more (W.failures out.old) else W.failures out.old) }
 
     // No more is read than counts.
-    ensures read { R.told ≡ true → TakesAtMost most_command_bytes (R.left commands.old) (R.left commands.new) }
+    ensures read { R.told ≡ true → TakesAtMost most_extended_bytes (R.left commands.old) (R.left commands.new) }
 {
     converse(Manner::Extended, alloc, session, symbols, commands, out)
 }
@@ -93,18 +98,19 @@ fn converse<K: Keeper, R: Read, W: Write>(
 ) -> Result<(), DebugFault>
     requires { session.old.n ≡ 0 }
     ensures answer { R.told ≡ true → W.told ≡ true →
-        Talks (record { may_refuse = K.may_refuse; symbols = symbols.now; read = reading manner symbols.now; scenario = session.old.scenario }) (record { before = R.left commands.old; left = R.left commands.new }) (W.written out.old) (W.written out.new) result }
+        Talks (record { may_refuse = K.may_refuse; symbols = symbols.now; read = reading manner symbols.now; most = most_bytes manner; scenario = session.old.scenario }) (record { before = R.left commands.old; left = R.left commands.new }) (W.written out.old) (W.written out.new) result }
     ensures cost { R.told ≡ true → OnOk result
-        (session.new.meter ≤ session.old.meter + (efforts (reading manner symbols.now) (lines_heard (reading manner symbols.now) (command_lines (R.left commands.old))) + 1) * session.new.n) }
+        (session.new.meter ≤ session.old.meter + (efforts (reading manner symbols.now) (lines_heard (reading manner symbols.now) (lines_within (most_bytes manner) (R.left commands.old))) + 1) * session.new.n) }
     ensures reader { R.failures commands.new ≡ (if has_read_failed result then one_more (R.failures commands.old) else R.failures commands.old) }
     ensures writer { W.failures out.new ≡ (if has_write_failed result then one_more (W.failures out.old) else W.failures out.old) }
-    ensures read { R.told ≡ true → TakesAtMost most_command_bytes (R.left commands.old) (R.left commands.new) }
+    ensures read { R.told ≡ true → TakesAtMost (most_bytes manner) (R.left commands.old) (R.left commands.new) }
 {
     let mut desk = match Desk::new(alloc) {
         Ok(desk) => desk,
         Err(_) => return Err(DebugFault::NoMemory),
     };
-    let mut reader = LineReader::new();
+    let first = first_added(session);
+    let mut reader = LineReader::new(most_bytes(manner));
     let mut line = CommandLine::empty();
     'commands: loop {
         let some = match reader.next_line(commands, out, &mut line) {
@@ -119,10 +125,20 @@ fn converse<K: Keeper, R: Read, W: Write>(
         if is_end(&request) {
             return Ok(());
         }
-        match desk.answer_asked(session, symbols, &request, out) {
+        match desk.answer_asked(session, symbols, first, &request, out) {
             Ok(()) => {}
             Err(_) => return Err(DebugFault::WriteFailed),
         }
+    }
+}
+
+/// The most bytes of commands that are read.
+fn most_bytes(manner: Manner) -> u64
+    ensures { result ≡ most_bytes manner }
+{
+    match manner {
+        Manner::Plain => MOST_COMMAND_BYTES,
+        Manner::Extended => u64::MAX,
     }
 }
 
@@ -144,5 +160,6 @@ fn is_end(request: &ExtendedRequest) -> bool
     matches!(
         request,
         ExtendedRequest::Plain(Request::Known(Command::Quit))
+            | ExtendedRequest::Common(Command::Quit)
     )
 }

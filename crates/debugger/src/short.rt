@@ -8,10 +8,11 @@ ghost use Rattle.replay.specs.View.{SessionView};
 ghost use Rattle.replay.specs.LastHit.{HasSought};
 ghost use Rattle.debugger.specs.History.{history, sight};
 ghost use Rattle.debugger.specs.Replies.{line, changed_text, memory_word, last_stop, last_change};
-ghost use Rattle.debugger.specs.Executions.{desk, Brings, HasLooked};
+ghost use Rattle.debugger.specs.Executions.{desk, Brings, BringsIn, HasLooked};
 
 use crate::breakpoints::lowest_hit;
 use crate::desk::Desk;
+use crate::manner::Manner;
 use crate::texts::{
     PlacesText, Text, at_line, hit_and_at_line, last_line, number_line, places_text,
     registers_text, text_line, word_line,
@@ -27,24 +28,34 @@ use words::{Word, push_all};
 
 impl Desk {
     /// `back`: so many steps back.
-    pub(crate) fn back<K: Keeper>(&mut self, session: &mut Session<K>, steps: u64) -> Text
+    pub(crate) fn back<K: Keeper>(
+        &mut self,
+        manner: Manner,
+        session: &mut Session<K>,
+        steps: u64,
+    ) -> Text
         requires { self.old.position ≤ session.old.n }
-        ensures brings { Brings (desk session.old self.old.position self.old.breakpoints) (Known (command.Back steps)) result.items (desk session.new self.new.position self.new.breakpoints) }
+        ensures brings { BringsIn manner (desk session.old self.old.position self.old.breakpoints) (Known (command.Back steps)) result.items (desk session.new self.new.position self.new.breakpoints) }
         ensures within { self.new.position ≤ session.new.n }
         ensures tail { self.new.tail ≡ self.old.tail }
         ensures looked { HasLooked session.old session.new (session.old.n) }
     {
         self.position = self.position.saturating_sub(steps);
         match session.show(self.position) {
-            Ok(machine) => at_line(self.position, machine),
+            Ok(machine) => at_line(manner, self.position, machine),
             Err(_) => unreachable!(),
         }
     }
 
     /// `goto`: to a step.
-    pub(crate) fn goto<K: Keeper>(&mut self, session: &mut Session<K>, step: u64) -> Text
+    pub(crate) fn goto<K: Keeper>(
+        &mut self,
+        manner: Manner,
+        session: &mut Session<K>,
+        step: u64,
+    ) -> Text
         requires { self.old.position ≤ session.old.n }
-        ensures brings { Brings (desk session.old self.old.position self.old.breakpoints) (Known (command.Goto step)) result.items (desk session.new self.new.position self.new.breakpoints) }
+        ensures brings { BringsIn manner (desk session.old self.old.position self.old.breakpoints) (Known (command.Goto step)) result.items (desk session.new self.new.position self.new.breakpoints) }
         ensures within { self.new.position ≤ session.new.n }
         ensures tail { self.new.tail ≡ self.old.tail }
         ensures looked { HasLooked session.old session.new (session.old.n) }
@@ -52,16 +63,16 @@ impl Desk {
         match session.show(step) {
             Ok(machine) => {
                 self.position = step;
-                at_line(step, machine)
+                at_line(manner, step, machine)
             }
             Err(_) => text_line(b"E41 NOT YET"),
         }
     }
 
     /// `seek`: back to the last step before this one at which a breakpoint holds.
-    pub(crate) fn seek<K: Keeper>(&mut self, session: &mut Session<K>) -> Text
+    pub(crate) fn seek<K: Keeper>(&mut self, manner: Manner, session: &mut Session<K>) -> Text
         requires { self.old.position ≤ session.old.n }
-        ensures brings { Brings (desk session.old self.old.position self.old.breakpoints) (Known (command.Seek)) result.items (desk session.new self.new.position self.new.breakpoints) }
+        ensures brings { BringsIn manner (desk session.old self.old.position self.old.breakpoints) (Known (command.Seek)) result.items (desk session.new self.new.position self.new.breakpoints) }
         ensures within { self.new.position ≤ session.new.n }
         ensures tail { self.new.tail ≡ self.old.tail }
         ensures looked { HasLooked session.old session.new (3 * session.old.n) }
@@ -73,7 +84,7 @@ impl Desk {
         match session.show(step) {
             Ok(machine) => {
                 let hit = lowest_hit(self.breakpoints.as_slice(), machine);
-                hit_and_at_line(hit, step, machine)
+                hit_and_at_line(manner, hit, step, machine)
             }
             Err(_) => unreachable!(),
         }

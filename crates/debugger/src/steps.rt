@@ -12,6 +12,7 @@ ghost use Rattle.debugger.specs.Executions.{desk, Executes, HasLooked, HasGoneOn
 use crate::desk::Desk;
 use crate::ending::Ending;
 use crate::growing::grow;
+use crate::manner::Manner;
 use crate::texts::ending_and_at_line;
 use replay::{Keeper, Session};
 use words::{Write, WriteFailed, write_all};
@@ -20,13 +21,14 @@ impl Desk {
     /// `step`: so many steps on from the position.
     pub(crate) fn step<K: Keeper, W: Write>(
         &mut self,
+        manner: Manner,
         session: &mut Session<K>,
         steps: u64,
         out: &mut W,
     ) -> Result<(), WriteFailed>
         requires within { self.old.position ≤ session.old.n }
         requires tail { self.old.tail ≡ last_of tail_length (outs session.old.scenario session.old.n) }
-        ensures executes { W.told ≡ true → Executes K.may_refuse (desk session.old self.old.position self.old.breakpoints) (Known (command.Step steps)) (desk session.new self.new.position self.new.breakpoints) (W.written out.old) (W.written out.new) result }
+        ensures executes { W.told ≡ true → Executes manner K.may_refuse (desk session.old self.old.position self.old.breakpoints) (Known (command.Step steps)) (desk session.new self.new.position self.new.breakpoints) (W.written out.old) (W.written out.new) result }
         ensures within { self.new.position ≤ session.new.n }
         ensures tail { self.new.tail ≡ last_of tail_length (outs session.new.scenario session.new.n) }
         ensures session { HasGoneOn session.old session.new }
@@ -35,19 +37,20 @@ impl Desk {
         let more = steps.saturating_sub(session.steps() - self.position);
         let ending = grow(session, &mut self.tail, &[], more, out)?;
         self.position += steps.min(session.steps() - self.position);
-        self.tell_ending(session, ending, out)
+        self.tell_ending(manner, session, ending, out)
     }
 
     /// `run`: so many steps on from the present, up to a breakpoint.
     pub(crate) fn run<K: Keeper, W: Write>(
         &mut self,
+        manner: Manner,
         session: &mut Session<K>,
         steps: u64,
         out: &mut W,
     ) -> Result<(), WriteFailed>
         requires within { self.old.position ≤ session.old.n }
         requires tail { self.old.tail ≡ last_of tail_length (outs session.old.scenario session.old.n) }
-        ensures executes { W.told ≡ true → Executes K.may_refuse (desk session.old self.old.position self.old.breakpoints) (Known (command.Run steps)) (desk session.new self.new.position self.new.breakpoints) (W.written out.old) (W.written out.new) result }
+        ensures executes { W.told ≡ true → Executes manner K.may_refuse (desk session.old self.old.position self.old.breakpoints) (Known (command.Run steps)) (desk session.new self.new.position self.new.breakpoints) (W.written out.old) (W.written out.new) result }
         ensures within { self.new.position ≤ session.new.n }
         ensures tail { self.new.tail ≡ last_of tail_length (outs session.new.scenario session.new.n) }
         ensures session { HasGoneOn session.old session.new }
@@ -56,25 +59,26 @@ impl Desk {
         let breakpoints = self.breakpoints.as_slice();
         let ending = grow(session, &mut self.tail, breakpoints, steps, out)?;
         self.position = session.steps();
-        self.tell_ending(session, ending, out)
+        self.tell_ending(manner, session, ending, out)
     }
 
     /// Writes how steps ended, and the line of the position.
     #[tactic(auto, unfolding(crate::specs::History::history))]
     pub(crate) fn tell_ending<K: Keeper, W: Write>(
         &self,
+        manner: Manner,
         session: &mut Session<K>,
         ending: Ending,
         out: &mut W,
     ) -> Result<(), WriteFailed>
         requires { self.now.position ≤ session.old.n }
-        ensures written { W.told ≡ true → Writes (W.written out.old) (W.written out.new) (ending_line ending ++ at_line_of self.now.position ((history session.old.scenario).after self.now.position)) result }
+        ensures written { W.told ≡ true → Writes (W.written out.old) (W.written out.new) (ending_line ending ++ at_line_of manner self.now.position ((history session.old.scenario).after self.now.position)) result }
         ensures looked { HasLooked session.old session.new session.old.n }
         ensures failures { W.failures out.new ≡ failures_after (W.failures out.old) result }
     {
         match session.show(self.position) {
             Ok(machine) => {
-                let text = ending_and_at_line(ending, self.position, machine);
+                let text = ending_and_at_line(manner, ending, self.position, machine);
                 write_all(out, text.as_slice())
             }
             Err(_) => unreachable!(),

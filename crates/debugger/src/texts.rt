@@ -3,16 +3,17 @@
 ghost use Rattle.std.specs.Prelude.{◌≡◌, ◌+◌, ◌≤◌, ◌++◌, ◌-◌, ◌<◌, ◌^◌, IfSome, length, decimal};
 ghost use Rattle.arrayvec.specs.ArrayVec.{array_vec_len};
 ghost use Rattle.words.specs.Numerals.{octal_text};
-ghost use Rattle.words.specs.Numbers.{correct};
-ghost use Rattle.space.specs.Cells.{get, program_counter};
 ghost use Rattle.debugger.specs.History.{sight};
+ghost use Rattle.debugger.specs.Positions.{address_of};
 ghost use Rattle.debugger.specs.Replies.{line as text_line, at_line, hit_text, ending_line, last_text, symbol_text, registers_line, next_line, flag_text, flags_text, changed_text};
 
 use crate::ending::Ending;
+use crate::manner::Manner;
 use arrayvec::ArrayVec;
 use cpu::{Machine, Processor, disassemble};
 use space::numbers::Eras;
 use symbols::{Value, value_text};
+use trace::place_text;
 use words::{Word, push_all, push_decimal, push_octal};
 
 /// The most bytes of a short reply.
@@ -59,63 +60,85 @@ pub(crate) fn word_line(text: &[u8], word: Word) -> Text
     line
 }
 
-/// Appends the line of a position, with the cycles and Z there.
+/// Appends the line of a position, with the cycles there and where Z leads.
 #[tactic(auto, using(words::proofs::Digits::short_decimal), unfolding(crate::specs::Replies::at_line))]
-fn push_at_line(text: &mut Text, position: u64, machine: &Machine)
+pub(crate) fn push_at_line(text: &mut Text, manner: Manner, position: u64, machine: &Machine)
     requires { array_vec_len text.old ≤ 41 }
-    ensures { text.new.items ≡ text.old.items ++ at_line position machine.now.cycles (correct (get machine.now.cells program_counter)) }
+    ensures { text.new.items ≡ text.old.items ++ at_line position machine.now.cycles (address_of manner machine.now) }
 {
     push_all(text, b"AT ");
     push_decimal(text, position);
     push_all(text, b" ");
     push_decimal(text, machine.cycles());
     push_all(text, b" ");
-    push_octal(text, 4, machine.word(Eras::Z).to_u16());
+    push_address(text, manner, machine);
     push_all(text, b"\n");
 }
 
+/// Appends where Z leads: Z, or the place as a listing has it.
+fn push_address(text: &mut Text, manner: Manner, machine: &Machine)
+    requires { array_vec_len text.old ≤ 100 }
+    ensures items { text.new.items ≡ text.old.items ++ address_of manner machine.now }
+    ensures short { array_vec_len text.new ≤ array_vec_len text.old + 7 }
+{
+    match manner {
+        Manner::Plain => push_octal(text, 4, machine.word(Eras::Z).to_u16()),
+        Manner::Extended => push_all(text, place_text(machine.next_place()).as_slice()),
+    }
+}
+
 /// The line of a position.
-pub(crate) fn at_line(position: u64, machine: &Machine) -> Text
-    ensures { result.items ≡ at_line position machine.now.cycles (correct (get machine.now.cells program_counter)) }
+pub(crate) fn at_line(manner: Manner, position: u64, machine: &Machine) -> Text
+    ensures { result.items ≡ at_line position machine.now.cycles (address_of manner machine.now) }
 {
     let mut at = ArrayVec::new();
-    push_at_line(&mut at, position, machine);
+    push_at_line(&mut at, manner, position, machine);
     at
 }
 
 /// The line of the breakpoint that holds, and the line of a position.
-pub(crate) fn hit_and_at_line(hit: Option<u64>, position: u64, machine: &Machine) -> Text
-    ensures { result.items ≡ hit_text hit ++ at_line position machine.now.cycles (correct (get machine.now.cells program_counter)) }
+pub(crate) fn hit_and_at_line(
+    manner: Manner,
+    hit: Option<u64>,
+    position: u64,
+    machine: &Machine,
+) -> Text
+    ensures { result.items ≡ hit_text hit ++ at_line position machine.now.cycles (address_of manner machine.now) }
 {
     match hit {
-        None => at_line(position, machine),
+        None => at_line(manner, position, machine),
         Some(number) => {
             let mut text = number_line(b"HIT ", number);
-            push_at_line(&mut text, position, machine);
+            push_at_line(&mut text, manner, position, machine);
             text
         }
     }
 }
 
 /// How steps ended, and the line of a position.
-pub(crate) fn ending_and_at_line(ending: Ending, position: u64, machine: &Machine) -> Text
-    ensures { result.items ≡ ending_line ending ++ at_line position machine.now.cycles (correct (get machine.now.cells program_counter)) }
+pub(crate) fn ending_and_at_line(
+    manner: Manner,
+    ending: Ending,
+    position: u64,
+    machine: &Machine,
+) -> Text
+    ensures { result.items ≡ ending_line ending ++ at_line position machine.now.cycles (address_of manner machine.now) }
 {
     match ending {
-        Ending::Reached => at_line(position, machine),
+        Ending::Reached => at_line(manner, position, machine),
         Ending::Hit(number) => {
             let mut text = number_line(b"HIT ", number);
-            push_at_line(&mut text, position, machine);
+            push_at_line(&mut text, manner, position, machine);
             text
         }
         Ending::NoMemory => {
             let mut text = text_line(b"E2 MEMORY");
-            push_at_line(&mut text, position, machine);
+            push_at_line(&mut text, manner, position, machine);
             text
         }
         Ending::Limit => {
             let mut text = text_line(b"E40 LIMIT");
-            push_at_line(&mut text, position, machine);
+            push_at_line(&mut text, manner, position, machine);
             text
         }
     }

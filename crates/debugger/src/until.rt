@@ -4,16 +4,18 @@ ghost use Rattle.std.specs.Prelude.{◌≡◌, ◌+◌, ◌*◌, ◌≤◌, true
 ghost use Rattle.words.specs.Devices.{failures_after};
 ghost use Rattle.cpu.specs.Run.{outs};
 ghost use Rattle.commands.specs.declared.extended.ExtendedRequest.TheVariants as asked;
-ghost use Rattle.symbols.specs.Values.{SymbolTable};
+ghost use Rattle.debugger.specs.Terms.{Terms};
 ghost use Rattle.debugger.specs.History.{history};
 ghost use Rattle.debugger.specs.Replies.{last_of, tail_length, at_line_of};
 ghost use Rattle.debugger.specs.ExtendedReplies.{first_at, unhit};
 ghost use Rattle.debugger.specs.Conversation.{to_asked};
+ghost use Rattle.debugger.specs.declared.manner.Manner.TheVariants as manner;
 ghost use Rattle.debugger.specs.Executions.{desk, Replies, makes_until, HasLooked, HasGoneOn};
 
 use crate::desk::Desk;
 use crate::ending::Ending;
 use crate::growing::grow;
+use crate::manner::Manner;
 use crate::texts::{Text, at_line};
 use commands::{Breakpoint, MOST_COUNT};
 use replay::{Keeper, Session};
@@ -29,7 +31,7 @@ impl Desk {
     ) -> Result<(), WriteFailed>
         requires within { self.old.position ≤ session.old.n }
         requires tail { self.old.tail ≡ last_of tail_length (outs session.old.scenario session.old.n) }
-        ensures executes { W.told ≡ true → (symbols : SymbolTable) → Replies K.may_refuse (to_asked symbols (asked.Until cycles)) (desk session.old self.old.position self.old.breakpoints) (desk session.new self.new.position self.new.breakpoints) (W.written out.old) (W.written out.new) result }
+        ensures executes { W.told ≡ true → (terms : Terms) → Replies K.may_refuse (to_asked terms (asked.Until cycles)) (desk session.old self.old.position self.old.breakpoints) (desk session.new self.new.position self.new.breakpoints) (W.written out.old) (W.written out.new) result }
         ensures within { self.new.position ≤ session.new.n }
         ensures tail { self.new.tail ≡ last_of tail_length (outs session.new.scenario session.new.n) }
         ensures session { HasGoneOn session.old session.new }
@@ -48,11 +50,11 @@ impl Desk {
     #[tactic(auto, unfolding(crate::specs::History::history))]
     fn position_text<K: Keeper>(&self, session: &mut Session<K>) -> Text
         requires { self.now.position ≤ session.old.n }
-        ensures text { result.items ≡ at_line_of self.now.position ((history session.old.scenario).after self.now.position) }
+        ensures text { result.items ≡ at_line_of manner.Extended self.now.position ((history session.old.scenario).after self.now.position) }
         ensures looked { HasLooked session.old session.new session.old.n }
     {
         match session.show(self.position) {
-            Ok(machine) => at_line(self.position, machine),
+            Ok(machine) => at_line(Manner::Extended, self.position, machine),
             Err(_) => unreachable!(),
         }
     }
@@ -77,7 +79,7 @@ impl Desk {
         match grow(session, &mut self.tail, &breakpoints, MOST_COUNT, out) {
             Ok(ending) => {
                 self.position = session.steps();
-                self.tell_ending(session, unhit(ending), out)
+                self.tell_ending(Manner::Extended, session, unhit(ending), out)
             }
             Err(failed) => Err(failed),
         }

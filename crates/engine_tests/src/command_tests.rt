@@ -1,6 +1,7 @@
 //! Lines of commands, taken off readers.
 
-use commands::{CommandLine, DeviceFault, LineReader, MOST_BYTES};
+use commands::{CommandLine, DeviceFault, LineReader};
+use debugger::MOST_COMMAND_BYTES;
 use std::io;
 use std::process::Abort;
 use test_devices::FaultyReader;
@@ -91,7 +92,7 @@ fn assert_line<R: Read, W: Write>(
 fn lines_before_failure(rt: &impl Abort, text: &[u8], fails_after: usize) -> (usize, bool) {
     let mut reader = FaultyReader::new(text, Some(fails_after));
     let mut out = HoldsBack::new(false);
-    let mut lines = LineReader::new();
+    let mut lines = LineReader::new(MOST_COMMAND_BYTES);
     let mut line = CommandLine::empty();
     for count in 0..10 {
         match lines.next_line(&mut reader, &mut out, &mut line) {
@@ -121,29 +122,29 @@ fn failed_read_at_each_place(rt: HostRuntime) {
 fn no_byte_past_the_most(rt: HostRuntime) {
     let mut reader = Endless { bytes: 0 };
     let mut out = HoldsBack::new(false);
-    let mut lines = LineReader::new();
+    let mut lines = LineReader::new(MOST_COMMAND_BYTES);
     assert_line(&rt, &mut lines, &mut reader, &mut out, None);
-    assert_eq!(rt; reader.bytes, MOST_BYTES);
+    assert_eq!(rt; reader.bytes, MOST_COMMAND_BYTES);
     let mut line = CommandLine::empty();
     assert_eq!(rt;
         lines.next_line(&mut reader, &mut out, &mut line),
         Ok(false)
     );
-    assert_eq!(rt; reader.bytes, MOST_BYTES);
+    assert_eq!(rt; reader.bytes, MOST_COMMAND_BYTES);
 }
 
 #[test]
 fn replies_are_handed_on_before_a_read_alone(rt: HostRuntime) {
     let mut text = b"step 1\nstep 2\nstep 3".as_slice();
     let mut out = HoldsBack::new(false);
-    let mut lines = LineReader::new();
+    let mut lines = LineReader::new(MOST_COMMAND_BYTES);
     for (line, flushes) in [(b"step 1", 1), (b"step 2", 1), (b"step 3", 2)] {
         assert_line(&rt, &mut lines, &mut text, &mut out, Some(line.as_slice()));
         assert_eq!(rt; out.flushes, flushes);
     }
     let mut slow = FaultyReader::new(b"step 1\n", None);
     let mut out = HoldsBack::new(false);
-    let mut lines = LineReader::new();
+    let mut lines = LineReader::new(MOST_COMMAND_BYTES);
     assert_line(
         &rt,
         &mut lines,
@@ -159,7 +160,7 @@ fn failed_flush_reads_nothing(rt: HostRuntime) {
     let mut text = b"step 1\n".as_slice();
     let mut out = HoldsBack::new(true);
     let mut line = CommandLine::empty();
-    let refused = LineReader::new().next_line(&mut text, &mut out, &mut line);
+    let refused = LineReader::new(MOST_COMMAND_BYTES).next_line(&mut text, &mut out, &mut line);
     assert_eq!(rt; refused, Err(DeviceFault::WriteFailed));
     assert_eq!(rt; text, b"step 1\n".as_slice());
 }

@@ -20,8 +20,8 @@ labels = codes "FIVE" ∷ codes "SIX" ∷ codes "LOOP" ∷ []
 -- what is wrong and how it is mended, of a line, a number and the place of the first byte
 abbrev told : List ℕ × ℕ × ℕ → List ℕ × List ℕ
 told r =
-    let near : Option (List ℕ) = near_label labels r.0 (fault r.1 r.2) in
-    let c : Cause = fault_cause (is_some near) r.0 (fault r.1 r.2) in
+    let near : Option (List ℕ) = near_label labels (parts_of r.0) (fault r.1 r.2) in
+    let c : Cause = fault_cause (is_some near) r.0 (parts_of r.0) (fault r.1 r.2) in
     (filled (parts_of r.0) c.other (unwrap_or near []) c.words, filled (parts_of r.0) c.other (unwrap_or near []) c.cure)
 
 abbrev lines_with_causes : List ((List ℕ × ℕ × ℕ) × (List ℕ × List ℕ))

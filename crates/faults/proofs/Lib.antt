@@ -2,3 +2,5 @@ pub mod Merging
 mod Pushed
 mod WarningRows
 mod CauseRows
+mod Walked
+mod FeedRows

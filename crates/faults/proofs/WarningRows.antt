@@ -4,10 +4,13 @@ use Rattle.std.specs.Fmt.{digits}
 use Rattle.std.specs.Prelude.{codes, ◌==◌, if◌then◌else◌}
 use Rattle.agc_text.specs.Fields.{runs}
 use Rattle.agc_text.specs.Lines.{lines}
+use Rattle.feed.specs.Statements.{parsed}
 use Rattle.yayul.specs.Operators.{operators}
 use Rattle.yayul.specs.declared.finding.Finding.{Finding}
+use Rattle.yayul.specs.declared.language.Language.TheVariants.{Standard}
+use Rattle.faults.specs.Kinds.{kind_of_source}
 use Rattle.faults.specs.Warnings.{warnings}
-use Rattle.faults.specs.Report.{report}
+use Rattle.faults.specs.Report.{count_text, report, shown_line}
 
 -- a source of lines, each but the last followed by a semicolon here
 abbrev source : List ℕ → List ℕ
@@ -31,7 +34,7 @@ warned_rows =
     ∷ (codes "CA FIV;LONGLABEL OCT 5", (1, 1, 2, 1) ∷ (1, 1, 2, 8) ∷ [])
     ∷ []
 
-each_warned : map {B = List (ℕ × ℕ × ℕ × ℕ)} (λ r. map row (warnings true (source r.0))) warned_rows ≡ map {B = List (ℕ × ℕ × ℕ × ℕ)} (λ r. r.1) warned_rows
+each_warned : map {B = List (ℕ × ℕ × ℕ × ℕ)} (λ r. map row (warnings Standard true (source r.0))) warned_rows ≡ map {B = List (ℕ × ℕ × ℕ × ℕ)} (λ r. r.1) warned_rows
 unfolding warnings runs operators lines
 each_warned = refl
 
@@ -47,7 +50,11 @@ shown_in_order : report (codes "a") (source (codes " CA 5; TS FIV;Z")) (placed 2
     ++ codes "a:2:2: error E25: TS writes to erasable memory, and FIV is not there;    2 |  TS FIV;      |  ^^;"
     ++ codes "      = reserve the word there: SETLOC and a place below 4000, and ERASE;"
     ++ codes "a:2:2: warning W3: TS takes two words, and ERASE reserves one for FIV;    2 |  TS FIV;      |  ^^;      = FIV ERASE +1 reserves two;"
-    ++ codes "a:3:2: warning W8: no operand names Z;    3 | Z;      |  ^^;"
-    ++ codes "2 errors, 3 warnings;")
-unfolding report lines digits runs operators
+    ++ codes "a:3:2: warning W8: no operand names Z;    3 | Z;      |  ^^;")
+unfolding report shown_line kind_of_source lines digits runs operators parsed
 shown_in_order = refl
+
+-- how many there are
+count_shown : count_text 2 3 ++ count_text 1 0 ≡ source (codes "2 errors, 3 warnings;1 error, 0 warnings;")
+unfolding digits
+count_shown = refl

@@ -3,14 +3,14 @@ use Rattle.std.specs.Prelude.{ℕ, ◌+◌, ◌-◌, ◌==◌, ◌&&◌, ◌||�
 use Rattle.std.specs.List.{find, list_any}
 use Rattle.std.specs.Option.{option_map_or, option_or}
 use Rattle.agc_text.specs.Digits.{digits_value}
-use Rattle.agc_text.specs.Fields.{Piece, fields, others_of}
+use Rattle.agc_text.specs.Fields.{Piece}
 use Rattle.agc_text.specs.Tables.{same_name, value_in}
 use Rattle.yayul.specs.declared.finding.Finding.{Finding}
 use Rattle.faults.specs.Refusals.{meaning}
 use Rattle.faults.specs.declared.causes.Closeness.{Closeness}
 use Rattle.faults.specs.declared.causes.Closeness.TheVariants.{AsLong, InCapitals, Near}
 use Rattle.faults.specs.Shown.{shown_byte}
-use Rattle.faults.specs.Warnings.{Parts, erase_operators, has_operator, is_among, is_short, operator_names, parts_of}
+use Rattle.faults.specs.Warnings.{Parts, erase_operators, has_operator, is_among, is_short, operator_names}
 
 -- what is wrong, how it is mended or nothing, and a text that stands in either
 pub record Cause : Type 0 where
@@ -74,10 +74,6 @@ is_operator text = is_among operator_names text
 -- decimal digits, one of them 8 or 9
 abbrev pub is_beyond_octal : List ℕ → Bool
 is_beyond_octal text = is_some (digits_value 10 text) && not (is_some (digits_value 8 text))
-
--- a field stands after an offset
-abbrev pub goes_on : List ℕ → Bool
-goes_on text = nat_lt 3 (length (others_of (fields text)))
 
 -- a comment as other languages have it stands for the operand or the offset
 abbrev pub has_foreign_comment : Parts → Bool
@@ -293,9 +289,9 @@ digits_cause parts =
     else said (codes "% takes a bank's number, and @ is none")
 
 -- E16, of an operator that takes a place or a value
-abbrev pub place_cause : Bool → Parts → Cause
-place_cause more parts =
-    if more then cured (codes "after the operand only one offset may stand") (codes "a comment begins with #")
+abbrev pub place_cause : Parts → Cause
+place_cause parts =
+    if parts.more then cured (codes "after the operand only one offset may stand") (codes "a comment begins with #")
     else if is_beyond_octal (text_of parts.operand) then cured (codes "numbers are octal, and @ has a digit 8 or 9") (codes "@D is decimal")
     else if is_signed (text_of parts.operand) then cured (codes "@ is no sign with a number, which stands alone and moves on from this line") (codes "NAME +1 is the word after NAME; CS loads a complement")
     else if is_some parts.offset then cured (codes "after @ only an offset may stand, a sign and an octal number") (codes "NAME +1; a comment begins with #")
@@ -303,14 +299,14 @@ place_cause more parts =
     else said (codes "@ is no symbol, which has 8 characters at most, and no number")
 
 -- E16: an operand that is missing, is not taken or has no operand's form
-abbrev pub operand_cause : Bool → Parts → Cause
-operand_cause more parts =
+abbrev pub operand_cause : Parts → Cause
+operand_cause parts =
     if has_foreign_comment parts then cured (codes "the operand does not end where a comment was meant to begin") (codes "a comment begins with #")
     else if has_operator plain_operators parts then cured (codes "% takes no operand") (codes "a comment begins with #")
     else if has_operator erase_operators parts then cured (codes "ERASE takes nothing, or a plus sign and a number") (codes "ERASE reserves one word, ERASE +1 two")
     else if not (is_some parts.operand) then said (codes "% needs an operand")
     else if has_operator octal_operators parts || has_operator decimal_operators parts || has_operator bank_operators parts then digits_cause parts
-    else place_cause more parts
+    else place_cause parts
 
 -- E17 and E18: a symbol that no line, or no earlier one, defines, where a label is near to it or none is
 abbrev pub symbol_cause : List ℕ → Bool → Parts → Cause
@@ -364,28 +360,28 @@ range_cause parts =
     else said (codes "@ is past the last address or number")
 
 -- the label that is near to the symbol of a fault which no line, or no earlier one, defines
-abbrev pub near_label : List (List ℕ) → List ℕ → Finding → Option (List ℕ)
-near_label labels text f = if f.number == 17 || f.number == 18 then near_name labels (text_of (parts_of text).operand) else None
+abbrev pub near_label : List (List ℕ) → Parts → Finding → Option (List ℕ)
+near_label labels parts f = if f.number == 17 || f.number == 18 then near_name labels (text_of parts.operand) else None
 
--- a fault of a line in words, where a text from other lines stands for `~` or none does
-abbrev pub fault_cause : Bool → List ℕ → Finding → Cause
-fault_cause near text f =
+-- a fault of a line with some fields in words, where a text from other lines stands for `~` or none does
+abbrev pub fault_cause : Bool → List ℕ → Parts → Finding → Cause
+fault_cause near text parts f =
     if f.number == 10 then byte_cause text f.span.start
     else if f.number == 11 then cured (meaning 11) (codes "part the comment into two lines")
-    else if f.number == 13 then label_cause (parts_of text)
+    else if f.number == 13 then label_cause parts
     else if f.number == 14 then (if near then said (codes "line ~ has the label & already") else said (codes "an earlier line has the label &"))
-    else if f.number == 15 then operator_cause (parts_of text)
-    else if f.number == 16 then operand_cause (goes_on text) (parts_of text)
-    else if f.number == 17 then undefined_cause near (parts_of text)
-    else if f.number == 18 then early_cause near (parts_of text)
-    else if f.number == 19 then bank_cause (parts_of text)
-    else if f.number == 20 then room_cause (parts_of text)
+    else if f.number == 15 then operator_cause parts
+    else if f.number == 16 then operand_cause parts
+    else if f.number == 17 then undefined_cause near parts
+    else if f.number == 18 then early_cause near parts
+    else if f.number == 19 then bank_cause parts
+    else if f.number == 20 then room_cause parts
     else if f.number == 21 then said (codes "an earlier line has a word at this place")
     else if f.number == 22 then cured (meaning 22) (codes "SETLOC and a fixed place, or BANK, before it")
     else if f.number == 23 then cured (codes "% is an extracode, and EXTEND does not stand before it") (codes "EXTEND on the line before, behind a blank")
     else if f.number == 24 then cured (codes "EXTEND stands before %, which is no extracode") (codes "take EXTEND out")
-    else if f.number == 25 then kind_cause (parts_of text)
-    else if f.number == 26 then range_cause (parts_of text)
+    else if f.number == 25 then kind_cause parts
+    else if f.number == 26 then range_cause parts
     else said (meaning f.number)
 
 -- a warning in words

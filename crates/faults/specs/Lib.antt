@@ -4,3 +4,6 @@ pub mod Shown
 pub mod Causes
 pub mod Views
 pub mod Report
+pub mod Slips
+pub mod FeedReport
+pub mod Kinds

@@ -4,7 +4,7 @@ use Rattle.std.specs.List.{list_any}
 
 -- the numbers
 abbrev pub numbers : List ℕ
-numbers = 2 ∷ 3 ∷ 4 ∷ 5 ∷ 6 ∷ 7 ∷ 10 ∷ 11 ∷ 12 ∷ 13 ∷ 14 ∷ 15 ∷ 16 ∷ 17 ∷ 18 ∷ 19 ∷ 20 ∷ 21 ∷ 22 ∷ 23 ∷ 24 ∷ 25 ∷ 26 ∷ 30 ∷ 31 ∷ 32 ∷ 33 ∷ 34 ∷ 35 ∷ []
+numbers = 2 ∷ 3 ∷ 4 ∷ 5 ∷ 6 ∷ 7 ∷ 10 ∷ 11 ∷ 12 ∷ 13 ∷ 14 ∷ 15 ∷ 16 ∷ 17 ∷ 18 ∷ 19 ∷ 20 ∷ 21 ∷ 22 ∷ 23 ∷ 24 ∷ 25 ∷ 26 ∷ 30 ∷ 31 ∷ 32 ∷ 33 ∷ 34 ∷ 35 ∷ 36 ∷ []
 
 abbrev pub is_told : ℕ → Bool
 is_told number = list_any (λ n. n == number) numbers
@@ -39,8 +39,9 @@ meaning number =
     else if number == 31 then codes "the cycle of an input is below that of the input before it"
     else if number == 32 then codes "the feed has more than 65,536 inputs besides its series"
     else if number == 33 then codes "the counter does not take the sequence"
-    else if number == 34 then codes "a source or a feed has more than 8,388,608 bytes"
+    else if number == 34 then codes "a source, a feed or a table of names has more than 8,388,608 bytes"
     else if number == 35 then codes "the feed has more than 16 series"
+    else if number == 36 then codes "a line of the table of names is no name with its place"
     else []
 
 -- a number, and what it means

@@ -6,8 +6,9 @@ use Rattle.agc_text.specs.Lines.{lines}
 use Rattle.agc_text.specs.Tables.{same_name}
 use Rattle.yayul.specs.declared.finding.Finding.{Finding}
 use Rattle.faults.specs.Causes.{Cause, fault_cause, filled, near_label, text_of, warning_cause}
+use Rattle.faults.specs.Kinds.{kind_of_source}
 use Rattle.faults.specs.Shown.{shown_byte}
-use Rattle.faults.specs.Warnings.{is_among, parts_of, with_field}
+use Rattle.faults.specs.Warnings.{Parts, is_among, parts_of, with_field}
 use Rattle.faults.specs.declared.findings.Severity.{Severity}
 use Rattle.faults.specs.declared.findings.Severity.TheVariants.{Error, Warning}
 
@@ -36,26 +37,26 @@ abbrev pub kind_text : Severity → List ℕ
 kind_text Error = codes ": error E"
 kind_text Warning = codes ": warning W"
 
--- why it is one, and how it is mended
-abbrev pub cause_of : Severity → Bool → List ℕ → Finding → Cause
-cause_of Error near text f = fault_cause near text f
-cause_of Warning near text f = warning_cause f.number
+-- why it is one, and how it is mended, on a line with some fields
+abbrev pub cause_of : Severity → Bool → List ℕ → Parts → Finding → Cause
+cause_of Error near text parts f = fault_cause near text parts f
+cause_of Warning near text parts f = warning_cause f.number
 
-abbrev pub message_text : List ℕ → List ℕ → Severity → Finding → Cause → List ℕ
-message_text text label severity f c =
-    kind_text severity ++ decimal f.number ++ codes ": " ++ filled (parts_of text) c.other label c.words ++ codes "\n"
+abbrev pub message_text : Parts → List ℕ → Severity → Finding → Cause → List ℕ
+message_text parts label severity f c =
+    kind_text severity ++ decimal f.number ++ codes ": " ++ filled parts c.other label c.words ++ codes "\n"
 
 -- its cure, in a row of its own, where there is one
-abbrev pub cure_text : List ℕ → List ℕ → Cause → List ℕ
-cure_text text label c = if length c.cure == 0 then [] else codes "      = " ++ filled (parts_of text) c.other label c.cure ++ codes "\n"
+abbrev pub cure_text : Parts → List ℕ → Cause → List ℕ
+cure_text parts label c = if length c.cure == 0 then [] else codes "      = " ++ filled parts c.other label c.cure ++ codes "\n"
 
 -- a finding with why it is one, and a text from other lines
-abbrev pub caused_text : List ℕ → List ℕ → List ℕ → Severity → Finding → Cause → List ℕ
-caused_text name text label severity f c = place_text name text f ++ message_text text label severity f c ++ row_text text f ++ marks_text text f ++ cure_text text label c
+abbrev pub caused_text : List ℕ → List ℕ → Parts → List ℕ → Severity → Finding → Cause → List ℕ
+caused_text name text parts label severity f c = place_text name text f ++ message_text parts label severity f c ++ row_text text f ++ marks_text text f ++ cure_text parts label c
 
 -- a finding, with a text from other lines or none
-abbrev pub finding_text : List ℕ → List ℕ → Option (List ℕ) → Severity → Finding → List ℕ
-finding_text name text near severity f = caused_text name text (unwrap_or near []) severity f (cause_of severity (is_some near) text f)
+abbrev pub finding_text : List ℕ → List ℕ → Parts → Option (List ℕ) → Severity → Finding → List ℕ
+finding_text name text parts near severity f = caused_text name text parts (unwrap_or near []) severity f (cause_of severity (is_some near) text parts f)
 
 -- the line of a number, of some lines
 abbrev pub text_at : List (List ℕ) → ℕ → List ℕ
@@ -70,14 +71,18 @@ abbrev pub first_line : List (List ℕ) → List ℕ → ℕ
 first_line texts label = position_or_len (has_label label) texts + 1
 
 -- a text from other lines that a fault is told with: the number of the first line that has its label, or the label that is near to its symbol
-abbrev pub beside : List (List ℕ) → List (List ℕ) → List ℕ → Finding → Option (List ℕ)
-beside labels texts text f =
-    if f.number == 14 && is_among labels (text_of (parts_of text).label) then Some (decimal (first_line texts (text_of (parts_of text).label)))
-    else near_label labels text f
+abbrev pub beside : List (List ℕ) → List (List ℕ) → Parts → Finding → Option (List ℕ)
+beside labels texts parts f =
+    if f.number == 14 && is_among labels (text_of parts.label) then Some (decimal (first_line texts (text_of parts.label)))
+    else near_label labels parts f
+
+-- the lines of a finding of a line
+unfoldable pub shown_line : List ℕ → List (List ℕ) → List (List ℕ) → List ℕ → Parts → Severity × Finding → List ℕ
+shown_line name labels texts text parts f = finding_text name text parts (beside labels texts parts f.1) f.0 f.1
 
 -- the lines of a finding of a source
 abbrev pub shown_finding : List ℕ → List (List ℕ) → List (List ℕ) → Severity × Finding → List ℕ
-shown_finding name labels texts f = finding_text name (text_at texts f.1.line) (beside labels texts (text_at texts f.1.line) f.1) f.0 f.1
+shown_finding name labels texts f = shown_line name labels texts (text_at texts f.1.line) (parts_of (text_at texts f.1.line)) f
 
 -- the labels of some lines, each once
 abbrev pub labels_of : List (List ℕ) → List (List ℕ)
@@ -113,7 +118,8 @@ counted count noun = decimal count ++ codes " " ++ noun ++ (if count == 1 then [
 abbrev pub count_text : ℕ → ℕ → List ℕ
 count_text errors warnings = counted errors (codes "error") ++ codes ", " ++ counted warnings (codes "warning") ++ codes "\n"
 
--- the lines of the faults and the warnings of a source, and how many there are
+-- the lines of the faults and the warnings of a source, and what is said where it has faults and is a file of another kind
 unfoldable pub report : List ℕ → List ℕ → List Finding → List Finding → List ℕ
 report name source faults warnings =
-    flat_map (shown_finding name (sought_labels (lines source) faults) (lines source)) (merged faults warnings) ++ count_text (length faults) (length warnings)
+    flat_map (shown_finding name (sought_labels (lines source) faults) (lines source)) (merged faults warnings)
+    ++ (if length faults == 0 then [] else kind_of_source name source)

@@ -3,6 +3,10 @@ use Rattle.std.specs.Prelude.{ℕ, List, map}
 use Rattle.std.specs.Borrow.{Bor}
 use Rattle.faults.specs.Causes.{Cause}
 use Rattle.faults.specs.declared.causes.Cause.{Cause as Told}
+use Rattle.faults.specs.FeedReport.{Wrong}
+use Rattle.faults.specs.Slips.{Slip}
+use Rattle.faults.specs.declared.feeds.Wrong.{Wrong as Found}
+use Rattle.faults.specs.declared.slips.Slip.{Slip as Slipped}
 
 -- a cause without where its texts lie in memory
 abbrev pub cause_in : Told → Cause
@@ -11,3 +15,11 @@ cause_in c = record { words = c.words.now; cure = c.cure.now; other = c.other.no
 -- a table of texts without where they lie in memory
 abbrev pub entries : List (Bor (List ℕ) × Bor (List ℕ)) → List (List ℕ × List ℕ)
 entries table = map (λ e. (e.0.now, e.1.now)) table
+
+-- a slip without where its texts lie in memory
+abbrev pub slip_in : Slipped → Slip
+slip_in s = record { place = s.place; cause = cause_in s.cause }
+
+-- what is told of a line without where its texts lie in memory
+abbrev pub wrong_in : Found → Wrong
+wrong_in w = record { span = w.span; beside = w.beside.now; cause = cause_in w.cause }

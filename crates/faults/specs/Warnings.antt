@@ -3,13 +3,14 @@ use Rattle.std.specs.Prelude.{ℕ, ◌+◌, ◌==◌, ◌&&◌, not, Bool, false
 use Rattle.std.specs.List.{fold, list_any}
 use Rattle.std.specs.Option.{option_map, option_map_or}
 use Rattle.agc_text.specs.Digits.{digits_value}
-use Rattle.agc_text.specs.Fields.{Piece, fields, label_of}
+use Rattle.agc_text.specs.Fields.{Piece, fields, label_of, others_of}
 use Rattle.agc_text.specs.Views.{piece}
 use Rattle.agc_text.specs.declared.fields.Line.{Line}
 use Rattle.agc_text.specs.Tables.{same_name}
 use Rattle.yayul.specs.Operators.{operators}
 use Rattle.yayul.specs.Survey.{field_at, looked_at, span_of}
 use Rattle.yayul.specs.declared.finding.Finding.{Finding}
+use Rattle.yayul.specs.declared.language.Language.{Language}
 use Rattle.faults.specs.declared.mistakes.Names.{Names}
 
 -- ## Names
@@ -26,19 +27,24 @@ abbrev pub with_name : List (List ℕ) → List ℕ → List (List ℕ)
 with_name names text = if is_short text && not (is_among names text) then names ++ text ∷ [] else names
 
 -- ## Lines
--- the fields of a line: its label, its operator, its operand and its offset, where they stand
+-- the fields of a line: its label, its operator, its operand and its offset, where they stand, and whether more follow
 pub record Parts : Type 0 where
   pub label : Option Piece
   pub operator : Option Piece
   pub operand : Option Piece
   pub offset : Option Piece
+  pub more : Bool
+
+-- a field stands after an offset
+abbrev pub goes_on : List ℕ → Bool
+goes_on text = nat_lt 3 (length (others_of (fields text)))
 
 abbrev pub parts_of : List ℕ → Parts
-parts_of text = record { label = label_of (fields text); operator = field_at text 0; operand = field_at text 1; offset = field_at text 2 }
+parts_of text = record { label = label_of (fields text); operator = field_at text 0; operand = field_at text 1; offset = field_at text 2; more = goes_on text }
 
 -- a line that was taken apart
 abbrev pub parts_in : Line → Parts
-parts_in l = record { label = option_map piece l.label; operator = option_map piece l.operator; operand = option_map piece l.operand; offset = option_map piece l.offset }
+parts_in l = record { label = option_map piece l.label; operator = option_map piece l.operator; operand = option_map piece l.operand; offset = option_map piece l.offset; more = l.more }
 
 -- the operator is one of some
 abbrev pub has_operator : List (List ℕ) → Parts → Bool
@@ -130,6 +136,6 @@ warned_lines unused names indexed line [] = []
 warned_lines unused names indexed line (text ∷ texts) =
     line_warnings unused names indexed line (parts_of text) ++ warned_lines unused names (indexed_after indexed (parts_of text)) (line + 1) texts
 
--- the warnings of a source, of as many lines as are looked at for faults
-unfoldable pub warnings : Bool → List ℕ → List Finding
-warnings unused source = warned_lines unused (names_of (looked_at source)) false 1 (looked_at source)
+-- the warnings of a source of a language, of as many lines as are looked at for faults
+unfoldable pub warnings : Language → Bool → List ℕ → List Finding
+warnings language unused source = warned_lines unused (names_of (looked_at language source)) false 1 (looked_at language source)

@@ -48,26 +48,25 @@ impl Cause {
         Cause::cured(words, b"")
     }
 
-    // A cause with a cure.
-    fn cured(words: &'static [u8], cure: &'static [u8]) -> Cause
+    /// A cause with a cure.
+    pub(crate) fn cured(words: &'static [u8], cure: &'static [u8]) -> Cause
         ensures { cause_in result ≡ cured words.now cure.now }
     {
         Cause::cured_by(words, cure, b"")
     }
 
-    // A cause with a cure in which another text stands.
-    fn cured_by(words: &'static [u8], cure: &'static [u8], other: &'static [u8]) -> Cause
+    /// A cause with a cure in which another text stands.
+    pub(crate) fn cured_by(words: &'static [u8], cure: &'static [u8], other: &'static [u8]) -> Cause
         ensures { cause_in result ≡ cured_by words.now cure.now other.now }
     {
         Cause { words, cure, other }
     }
 }
 
-/// A fault of a line in words, where a text from other lines stands for `~` or none does.
-pub(crate) fn fault_cause(text: &[u8], near: bool, finding: &Finding) -> Cause
-    ensures { cause_in result ≡ fault_cause near text.now finding.now }
+/// A fault of a line with some fields in words, where a text from other lines stands for `~` or none does.
+pub(crate) fn fault_cause(text: &[u8], parts: &Line<'_>, near: bool, finding: &Finding) -> Cause
+    ensures { cause_in result ≡ fault_cause near text.now (parts_in parts.now) finding.now }
 {
-    let parts = &Line::of(text);
     match finding.number {
         10 => byte_cause(text, finding.span.start),
         11 => Cause::cured(meaning(11), b"part the comment into two lines"),
@@ -75,7 +74,7 @@ pub(crate) fn fault_cause(text: &[u8], near: bool, finding: &Finding) -> Cause
         14 if near => Cause::said(b"line ~ has the label & already"),
         14 => Cause::said(b"an earlier line has the label &"),
         15 => operator_cause(parts),
-        16 => operand_cause(parts.more, parts),
+        16 => operand_cause(parts),
         17 => undefined_cause(near, parts),
         18 => early_cause(near, parts),
         19 => bank_cause(parts),
@@ -121,19 +120,19 @@ pub(crate) fn warning_cause(number: u8) -> Cause
 /// The label that is near to the symbol of a fault which no line, or no earlier one, defines.
 pub(crate) fn near_label<'a>(
     labels: &'a NameSet,
-    text: &[u8],
+    parts: &Line<'_>,
     finding: &Finding,
 ) -> Option<&'a [u8]>
-    ensures { option_map (λ name. name.now) result ≡ near_label labels.now text.now finding.now }
+    ensures { option_map (λ name. name.now) result ≡ near_label labels.now (parts_in parts.now) finding.now }
 {
     match finding.number {
-        17 | 18 => labels.near(text_of(Line::of(text).operand)),
+        17 | 18 => labels.near(text_of(parts.operand)),
         _ => None,
     }
 }
 
-// E10: the byte at a place of a line.
-fn byte_cause(text: &[u8], place: usize) -> Cause
+/// E10: the byte at a place of a line.
+pub(crate) fn byte_cause(text: &[u8], place: usize) -> Cause
     ensures { cause_in result ≡ byte_cause text.now place }
 {
     match text.get(place) {
@@ -189,7 +188,7 @@ fn operator_cause(parts: &Line<'_>) -> Cause
         )
     } else if let Some(meant) = value_in(foreign_operators(), text_of(parts.operator)) {
         Cause::cured_by(b"% is no operator of this assembler", b"!", meant)
-    } else if let Some(near) = near_operator(text_of(parts.operator)) {
+    } else if let Some(near) = near_in(operator_names(), text_of(parts.operator)) {
         Cause::cured_by(b"% is no operator", b"did you mean !?", near)
     } else {
         Cause::said(b"% is no operator")
@@ -230,10 +229,10 @@ fn digits_cause(parts: &Line<'_>) -> Cause
 }
 
 // E16, of an operator that takes a place or a value.
-fn place_cause(more: bool, parts: &Line<'_>) -> Cause
-    ensures { cause_in result ≡ place_cause more (parts_in parts.now) }
+fn place_cause(parts: &Line<'_>) -> Cause
+    ensures { cause_in result ≡ place_cause (parts_in parts.now) }
 {
-    if more {
+    if parts.more {
         Cause::cured(
             b"after the operand only one offset may stand",
             b"a comment begins with #",
@@ -261,8 +260,8 @@ fn place_cause(more: bool, parts: &Line<'_>) -> Cause
 }
 
 // E16: an operand that is missing, is not taken or has no operand's form.
-fn operand_cause(more: bool, parts: &Line<'_>) -> Cause
-    ensures { cause_in result ≡ operand_cause more (parts_in parts.now) }
+fn operand_cause(parts: &Line<'_>) -> Cause
+    ensures { cause_in result ≡ operand_cause (parts_in parts.now) }
 {
     if has_foreign_comment(parts) {
         Cause::cured(
@@ -284,7 +283,7 @@ fn operand_cause(more: bool, parts: &Line<'_>) -> Cause
     {
         digits_cause(parts)
     } else {
-        place_cause(more, parts)
+        place_cause(parts)
     }
 }
 
@@ -458,15 +457,18 @@ fn has_foreign_comment(parts: &Line<'_>) -> bool
     is_foreign_comment(text_of(parts.operand)) || is_foreign_comment(text_of(parts.offset))
 }
 
-// Whether a text is decimal digits, one of them 8 or 9.
-fn is_beyond_octal(text: &[u8]) -> bool
+/// Whether a text is decimal digits, one of them 8 or 9.
+pub(crate) fn is_beyond_octal(text: &[u8]) -> bool
     ensures { result ≡ is_beyond_octal text.now }
 {
     decimal_value(text).is_some() && octal_value(text).is_none()
 }
 
-// What stands for a text in a table.
-fn value_in(table: &'static [(&'static str, &'static str)], text: &[u8]) -> Option<&'static [u8]>
+/// What stands for a text in a table.
+pub(crate) fn value_in(
+    table: &'static [(&'static str, &'static str)],
+    text: &[u8],
+) -> Option<&'static [u8]>
     ensures { option_map (λ value. value.now) result ≡ value_in (entries table.now) text.now }
 {
     for (name, value) in table {
@@ -477,25 +479,29 @@ fn value_in(table: &'static [(&'static str, &'static str)], text: &[u8]) -> Opti
     None
 }
 
-// The first operator that is a text in capitals; else, for a text of three bytes or more, one that is near.
-fn near_operator(text: &[u8]) -> Option<&'static [u8]>
-    ensures { option_map (λ name. name.now) result ≡ near_name operator_names text.now }
+/// The first of some names that is a text in capitals; else, for a text of three bytes or more, one that is near, as long where there is one.
+pub(crate) fn near_in(names: &'static [&'static str], text: &[u8]) -> Option<&'static [u8]>
+    ensures { option_map (λ name. name.now) result ≡ near_name (map (λ name. name.now) names.now) text.now }
 {
-    match close_operator(Closeness::InCapitals, text) {
+    match close_in(names, Closeness::InCapitals, text) {
         Some(name) => Some(name),
-        None if text.len() >= SHORTEST => match close_operator(Closeness::AsLong, text) {
+        None if text.len() >= SHORTEST => match close_in(names, Closeness::AsLong, text) {
             Some(name) => Some(name),
-            None => close_operator(Closeness::Near, text),
+            None => close_in(names, Closeness::Near, text),
         },
         None => None,
     }
 }
 
-// The first operator that is close to a text.
-fn close_operator(closeness: Closeness, text: &[u8]) -> Option<&'static [u8]>
-    ensures { option_map (λ name. name.now) result ≡ find (is_close closeness text.now) operator_names }
+// The first of some names that is close to a text.
+fn close_in(
+    names: &'static [&'static str],
+    closeness: Closeness,
+    text: &[u8],
+) -> Option<&'static [u8]>
+    ensures { option_map (λ name. name.now) result ≡ find (is_close closeness text.now) (map (λ name. name.now) names.now) }
 {
-    for name in operator_names() {
+    for name in names {
         if is_close(closeness, text, name.as_bytes()) {
             return Some(name.as_bytes());
         }
@@ -514,8 +520,8 @@ pub(crate) fn is_close(closeness: Closeness, text: &[u8], name: &[u8]) -> bool
     }
 }
 
-// Whether a text in capitals is a name.
-fn is_in_capitals(text: &[u8], name: &[u8]) -> bool
+/// Whether a text in capitals is a name.
+pub(crate) fn is_in_capitals(text: &[u8], name: &[u8]) -> bool
     ensures { result ≡ is_in_capitals text.now name.now }
 {
     match (text.split_first(), name.split_first()) {

@@ -1,16 +1,18 @@
 //! The faults and the warnings of a source as lines of text.
 
-ghost use Rattle.std.specs.Prelude.{◌≡◌, ◌<◌, ◌≤◌, ◌++◌, ◌+◌, ◌-◌, map, take, length, replicate, codes, decimal, flat_map, max, unwrap_or, [], OnOk, IfOk};
+ghost use Rattle.std.specs.Prelude.{◌≡◌, ◌<◌, ◌≤◌, ◌++◌, ◌+◌, ◌-◌, ◌==◌, map, take, length, replicate, codes, decimal, flat_map, max, unwrap_or, [], if◌then◌else◌, OnOk, IfOk};
 ghost use Rattle.std.specs.Option.{option_map};
 ghost use Rattle.agc_text.specs.Lines.{lines};
 ghost use Rattle.agc_text.specs.Bytes.{space};
+ghost use Rattle.faults.specs.Kinds.{kind_of_source};
 ghost use Rattle.faults.specs.Warnings.{parts_in};
 ghost use Rattle.faults.specs.Shown.{shown_byte};
 ghost use Rattle.faults.specs.Causes.{filled, filled_byte};
 ghost use Rattle.faults.specs.Views.{cause_in};
-ghost use Rattle.faults.specs.Report.{margin_byte, numbered, row_text, marks_text, place_text, kind_text, cause_of, caused_text, message_text, cure_text, finding_text, text_at, shown_finding, labels_of, sought_labels, has_label, first_line, count_before, as_error, as_warning, merged, counted, count_text, report};
+ghost use Rattle.faults.specs.Report.{margin_byte, numbered, row_text, marks_text, place_text, kind_text, cause_of, caused_text, message_text, cure_text, finding_text, text_at, shown_finding, shown_line, labels_of, sought_labels, has_label, first_line, count_before, as_error, as_warning, merged, counted, count_text, report};
 
 use crate::causes::{Cause, fault_cause, near_label, text_of, warning_cause};
+use crate::kinds::push_kind_of_source;
 use crate::mistakes::{add_field, parts_of};
 use crate::names::NameSet;
 use agc_text::{Line, is_text, next_line};
@@ -20,7 +22,7 @@ use words::push_decimal;
 use yayul::{Finding, Span};
 
 /// How many digits a number has at most.
-const DIGITS: usize = 20;
+pub(crate) const DIGITS: usize = 20;
 
 /// The number of the fault that a label stands twice.
 const TWICE_DEFINED: u8 = 14;
@@ -40,7 +42,8 @@ pub enum Severity {
     Warning,
 }
 
-/// The lines of the faults and the warnings of a source, which has this name, in the order of lines, and how many there are.
+/// The lines of the faults and the warnings of a source, which has this name, in the order of lines, and what is said where it has faults and is a
+/// file of another kind.
 #[tactic(auto, unfolding(crate::specs::Report::report))]
 pub fn report(
     alloc: Global,
@@ -55,7 +58,34 @@ pub fn report(
     let labels = sought_labels(alloc, &texts, faults)?;
     let mut out = Vec::new(alloc);
     push_merged(&mut out, name, &labels, &texts, faults, warnings)?;
-    push_counts(&mut out, faults.len(), warnings.len())?;
+    push_kind(&mut out, name, source, &texts, faults)?;
+    Ok(out)
+}
+
+// Appends what is said of a source with faults that is a file of another kind.
+fn push_kind(
+    out: &mut Vec<u8>,
+    name: &[u8],
+    source: &[u8],
+    texts: &[&[u8]],
+    faults: &[Finding],
+) -> Result<(), AllocError>
+    requires { map (λ t. t.now) texts.now ≡ lines source.now }
+    ensures { OnOk result (out.new.items ≡ out.old.items ++ (if length faults.now == 0 then [] else kind_of_source name.now source.now)) }
+{
+    if faults.is_empty() {
+        Ok(())
+    } else {
+        push_kind_of_source(out, name, source, texts)
+    }
+}
+
+/// How many faults and how many warnings there are, as a line of text.
+pub fn counts(alloc: Global, faults: usize, warnings: usize) -> Result<Vec<u8>, AllocError>
+    ensures { IfOk result (λ text. text.items ≡ count_text faults warnings) }
+{
+    let mut out = Vec::new(alloc);
+    push_counts(&mut out, faults, warnings)?;
     Ok(out)
 }
 
@@ -145,7 +175,6 @@ fn push_warnings(
 }
 
 // Appends the lines of a finding.
-#[tactic(auto, using(words::proofs::Digits::short_decimal))]
 fn push_shown_finding(
     out: &mut Vec<u8>,
     name: &[u8],
@@ -157,20 +186,48 @@ fn push_shown_finding(
     ensures { OnOk result (out.new.items ≡ out.old.items ++ shown_finding name.now labels.now (map (λ t. t.now) texts.now) (severity, finding.now)) }
 {
     let text = text_at(texts, finding.line);
-    let label = text_of(parts_of(text).label);
+    push_shown_line(
+        out,
+        name,
+        labels,
+        texts,
+        text,
+        &parts_of(text),
+        severity,
+        finding,
+    )
+}
+
+// Appends the lines of a finding of a line with some fields.
+#[tactic(auto, using(words::proofs::Digits::short_decimal), unfolding(crate::specs::Report::shown_line))]
+fn push_shown_line(
+    out: &mut Vec<u8>,
+    name: &[u8],
+    labels: &NameSet,
+    texts: &[&[u8]],
+    text: &[u8],
+    parts: &Line<'_>,
+    severity: Severity,
+    finding: &Finding,
+) -> Result<(), AllocError>
+    ensures { OnOk result (out.new.items ≡ out.old.items ++ shown_line name.now labels.now (map (λ t. t.now) texts.now) text.now (parts_in parts.now) (severity, finding.now)) }
+{
+    let label = text_of(parts.label);
     if finding.number == TWICE_DEFINED && labels.has(label) {
         let mut digits = ArrayVec::<u8, DIGITS>::new();
         push_decimal(&mut digits, first_line(texts, label));
-        push_finding(out, name, text, Some(digits.as_slice()), severity, finding)
-    } else {
         push_finding(
             out,
             name,
             text,
-            near_label(labels, text, finding),
+            parts,
+            Some(digits.as_slice()),
             severity,
             finding,
         )
+    } else {
+        let near = near_label(labels, parts, finding);
+        push_finding(out, name, text, parts, near, severity, finding)
     }
 }
 
@@ -193,8 +250,8 @@ fn has_label(text: &[u8], label: &[u8]) -> bool
     text_of(parts_of(text).label) == label
 }
 
-// The line of a number; one that does not stand is empty.
-fn text_at<'a>(texts: &[&'a [u8]], line: u32) -> &'a [u8]
+/// The line of a number; one that does not stand is empty.
+pub(crate) fn text_at<'a>(texts: &[&'a [u8]], line: u32) -> &'a [u8]
     ensures { result.now ≡ text_at (map (λ t. t.now) texts.now) line }
 {
     match texts.get((line as usize).saturating_sub(1)) {
@@ -231,11 +288,17 @@ fn kind_text(severity: Severity) -> &'static [u8]
 }
 
 // Why it is one, and how it is mended.
-fn cause_of(severity: Severity, near: bool, text: &[u8], finding: &Finding) -> Cause
-    ensures { cause_in result ≡ cause_of severity near text.now finding.now }
+fn cause_of(
+    severity: Severity,
+    near: bool,
+    text: &[u8],
+    parts: &Line<'_>,
+    finding: &Finding,
+) -> Cause
+    ensures { cause_in result ≡ cause_of severity near text.now (parts_in parts.now) finding.now }
 {
     match severity {
-        Severity::Error => fault_cause(text, near, finding),
+        Severity::Error => fault_cause(text, parts, near, finding),
         Severity::Warning => warning_cause(finding.number),
     }
 }
@@ -243,29 +306,34 @@ fn cause_of(severity: Severity, near: bool, text: &[u8], finding: &Finding) -> C
 // Appends what a finding is, and why.
 fn push_message(
     out: &mut Vec<u8>,
-    text: &[u8],
+    parts: &Line<'_>,
     label: &[u8],
     severity: Severity,
     finding: &Finding,
     cause: &Cause,
 ) -> Result<(), AllocError>
-    ensures { OnOk result (out.new.items ≡ out.old.items ++ message_text text.now label.now severity finding.now (cause_in cause.now)) }
+    ensures { OnOk result (out.new.items ≡ out.old.items ++ message_text (parts_in parts.now) label.now severity finding.now (cause_in cause.now)) }
 {
     out.extend_from_slice(kind_text(severity))?;
     push_number(out, u64::from(finding.number))?;
     out.extend_from_slice(b": ")?;
-    push_filled(out, &parts_of(text), cause.other, label, cause.words)?;
+    push_filled(out, parts, cause.other, label, cause.words)?;
     out.extend_from_slice(b"\n")?;
     Ok(())
 }
 
 // Appends how a finding is mended, where that is sure.
-fn push_cure(out: &mut Vec<u8>, text: &[u8], label: &[u8], cause: &Cause) -> Result<(), AllocError>
-    ensures { OnOk result (out.new.items ≡ out.old.items ++ cure_text text.now label.now (cause_in cause.now)) }
+fn push_cure(
+    out: &mut Vec<u8>,
+    parts: &Line<'_>,
+    label: &[u8],
+    cause: &Cause,
+) -> Result<(), AllocError>
+    ensures { OnOk result (out.new.items ≡ out.old.items ++ cure_text (parts_in parts.now) label.now (cause_in cause.now)) }
 {
     if !cause.cure.is_empty() {
         out.extend_from_slice(b"      = ")?;
-        push_filled(out, &parts_of(text), cause.other, label, cause.cure)?;
+        push_filled(out, parts, cause.other, label, cause.cure)?;
         out.extend_from_slice(b"\n")?;
     }
     Ok(())
@@ -336,14 +404,24 @@ fn push_finding(
     out: &mut Vec<u8>,
     name: &[u8],
     text: &[u8],
+    parts: &Line<'_>,
     near: Option<&[u8]>,
     severity: Severity,
     finding: &Finding,
 ) -> Result<(), AllocError>
-    ensures { OnOk result (out.new.items ≡ out.old.items ++ finding_text name.now text.now (option_map (λ label. label.now) near.entry) severity finding.now) }
+    ensures { OnOk result (out.new.items ≡ out.old.items ++ finding_text name.now text.now (parts_in parts.now) (option_map (λ label. label.now) near.entry) severity finding.now) }
 {
-    let cause = cause_of(severity, near.is_some(), text, finding);
-    push_caused(out, name, text, label_of(near), severity, finding, &cause)
+    let cause = cause_of(severity, near.is_some(), text, parts, finding);
+    push_caused(
+        out,
+        name,
+        text,
+        parts,
+        label_of(near),
+        severity,
+        finding,
+        &cause,
+    )
 }
 
 // A text from other lines, or nothing.
@@ -356,23 +434,24 @@ fn label_of(near: Option<&[u8]>) -> &[u8]
     }
 }
 
-// Appends the lines of a fault with why it is one, and a text from other lines.
-fn push_caused(
+/// Appends the lines of a fault with why it is one, and a text from other lines.
+pub(crate) fn push_caused(
     out: &mut Vec<u8>,
     name: &[u8],
     text: &[u8],
+    parts: &Line<'_>,
     label: &[u8],
     severity: Severity,
     finding: &Finding,
     cause: &Cause,
 ) -> Result<(), AllocError>
-    ensures { OnOk result (out.new.items ≡ out.old.items ++ caused_text name.now text.now label.now severity finding.now (cause_in cause.now)) }
+    ensures { OnOk result (out.new.items ≡ out.old.items ++ caused_text name.now text.now (parts_in parts.now) label.now severity finding.now (cause_in cause.now)) }
 {
     push_place(out, name, text, finding)?;
-    push_message(out, text, label, severity, finding, cause)?;
+    push_message(out, parts, label, severity, finding, cause)?;
     push_row(out, text, finding)?;
     push_marks(out, text, finding)?;
-    push_cure(out, text, label, cause)
+    push_cure(out, parts, label, cause)
 }
 
 // Appends the number of a line, in five columns.

@@ -3,12 +3,16 @@
 
 mod causes;
 mod explaining;
+mod feeds;
 mod findings;
+mod kinds;
 mod mistakes;
 mod names;
 mod refusals;
+mod slips;
 
 pub use explaining::{all_headings, explanation};
-pub use findings::{Severity, report};
+pub use feeds::feed_report;
+pub use findings::{Severity, counts, report};
 pub use mistakes::warnings;
 pub use refusals::{NUMBERS, Refusal, meaning, refusal_of};

@@ -12,30 +12,35 @@ use crate::findings::line_texts;
 use crate::names::{NameSet, is_among, is_short};
 use agc_text::{Field, Line, Number, octal_value};
 use std::alloc::{AllocError, Global};
-use yayul::{Finding, Span};
+use yayul::{Finding, Language, Span, most_lines};
 
-/// How many lines are looked at: as many as a source may have, and one.
-const LINES: usize = 65_537;
+/// How many lines are looked at, at most.
+const LINES: usize = 262_145;
 
-/// The warnings of a source, in the order of lines; those of labels that no operand names where they are asked for.
+/// The warnings of a source of a language, in the order of lines; those of labels that no operand names where they are asked for.
 #[tactic(auto, unfolding(crate::specs::Warnings::warnings))]
-pub fn warnings(alloc: Global, source: &[u8], unused: bool) -> Result<Vec<Finding>, AllocError>
-    ensures { IfOk result (λ found. found.items ≡ warnings unused source.now) }
+pub fn warnings(
+    alloc: Global,
+    language: Language,
+    source: &[u8],
+    unused: bool,
+) -> Result<Vec<Finding>, AllocError>
+    ensures { IfOk result (λ found. found.items ≡ warnings language unused source.now) }
 {
-    let lines = looked_at(alloc, source)?;
+    let lines = looked_at(alloc, language, source)?;
     let names = Names::of(alloc, &lines)?;
     let mut found = Vec::new(alloc);
     names.warn(unused, &lines, &mut found)?;
     Ok(found)
 }
 
-// The lines of a source that are looked at.
-fn looked_at(alloc: Global, source: &[u8]) -> Result<Vec<&[u8]>, AllocError>
-    ensures lines { IfOk result (λ texts. map (λ text. text.now) texts.items ≡ looked_at source.now) }
+// The lines of a source that are looked at: as many as one may have, and one.
+fn looked_at(alloc: Global, language: Language, source: &[u8]) -> Result<Vec<&[u8]>, AllocError>
+    ensures lines { IfOk result (λ texts. map (λ text. text.now) texts.items ≡ looked_at language source.now) }
     ensures few { IfOk result (λ texts. length texts.items ≤ LINES) }
 {
     let mut texts = line_texts(alloc, source)?;
-    texts.truncate(LINES);
+    texts.truncate(most_lines(language) as usize + 1);
     Ok(texts)
 }
 

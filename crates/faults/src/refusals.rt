@@ -4,9 +4,9 @@ ghost use Rattle.std.specs.Prelude.{◌≡◌, false, MatchOption};
 ghost use Rattle.faults.specs.Refusals.{meaning, is_told};
 
 /// The numbers, rising.
-pub const NUMBERS: [u8; 29] = [
+pub const NUMBERS: [u8; 30] = [
     2, 3, 4, 5, 6, 7, 10, 11, 12, 13, 14, 15, 16, 17, 18, 19, 20, 21, 22, 23, 24, 25, 26, 30, 31,
-    32, 33, 34, 35,
+    32, 33, 34, 35, 36,
 ];
 
 /// A number of a refusal: and what draws it.
@@ -51,6 +51,7 @@ pub fn refusal_of(number: u8) -> Option<Refusal>
         33 => CAUSES_33,
         34 => CAUSES_34,
         35 => CAUSES_35,
+        36 => CAUSES_36,
         _ => return None,
     };
     Some(Refusal { number, causes })
@@ -89,8 +90,9 @@ pub fn meaning(number: u8) -> &'static [u8]
         31 => b"the cycle of an input is below that of the input before it",
         32 => b"the feed has more than 65,536 inputs besides its series",
         33 => b"the counter does not take the sequence",
-        34 => b"a source or a feed has more than 8,388,608 bytes",
+        34 => b"a source, a feed or a table of names has more than 8,388,608 bytes",
         35 => b"the feed has more than 16 series",
+        36 => b"a line of the table of names is no name with its place",
         _ => b"",
     }
 }
@@ -162,7 +164,7 @@ const CAUSES_11: &[u8] = b"A line has more than 120 bytes, blanks and comment in
 
 const CAUSES_12: &[u8] = b"The source has more than 65,536 lines.
 
-- a line 65,537
+- a line 65,537; with --flight a line 262,145
   Cure: part the program
 ";
 
@@ -671,4 +673,27 @@ const CAUSES_34: &[u8] = b"
 const CAUSES_35: &[u8] = b"
 - a series 17
   Cure: write a series as inputs
+";
+
+const CAUSES_36: &[u8] = b"
+- a name without a place
+    START 4000
+  > LOOP
+  Cure: write its place, as 02,4001, as 02,0001, as E3,1400, or as a number
+
+- a field more
+  > LOOP 02,4001 TCF
+  Cure: a line has a name and its place, or a name, FIXED, ERASABLE or NUM, and what a listing says of it
+
+- a name above 8 characters
+  > LONGLABEL 5
+  Cure: shorten it
+
+- a bank above 43, or an address that no word of the bank has
+  > LOOP 02,2001
+  Cure: the words of bank 2 have the addresses 4000 to 5777, those of bank 3 6000 to 7777, all others 2000 to 3777
+
+- a carriage return, or another byte that is not allowed
+  > LOOP 4001\\r
+  Cure: tr -d '\\r' < FILE > NEW
 ";

@@ -15,6 +15,7 @@ mod source;
 mod statement;
 
 pub use counter::Asks;
+pub use entry::Plain;
 pub use fault::{FeedFault, LineFault};
 pub use input::{Counter, Input, Sequence};
 pub use interrupt::{INTERRUPTS, Interrupt};

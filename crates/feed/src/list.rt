@@ -1,9 +1,9 @@
 //! The inputs of a run.
 
-ghost use Rattle.std.specs.Prelude.{◌≡◌, ◌≢◌, ◌≤◌, ◌<◌, ◌+◌, ◌^◌, ℕ, List, [], true, Some, None, Err, OnOk, OnErr, IfSome, map, slice_get, slice_index};
+ghost use Rattle.std.specs.Prelude.{◌≡◌, ◌≢◌, ◌≤◌, ◌<◌, ◌+◌, ◌^◌, ℕ, List, [], true, Some, None, Err, OnOk, OnErr, IfSome, filter, map, slice_get, slice_index};
 ghost use Rattle.feed.specs.Added.{AddsLast, TakenBelow};
 ghost use Rattle.feed.specs.Feed.{most_inputs};
-ghost use Rattle.feed.specs.Fits.{Fits, number_from, AreInputs};
+ghost use Rattle.feed.specs.Fits.{Fits, is_from, number_from, AreInputs};
 ghost use Rattle.feed.specs.Kept.{AreGathered, IsPlaceOf, due_from};
 ghost use Rattle.feed.specs.Merged.{merged, plain_entry, due, when_come};
 ghost use Rattle.feed.specs.Order.{IsInOrder};
@@ -142,6 +142,13 @@ impl Feed {
             }
             Err(_) => Err(AddFault::NoMemory),
         }
+    }
+
+    /// The plain inputs, in order.
+    pub fn plain(&self) -> &[Plain]
+        ensures { map plain_entry result.now ≡ filter (is_from None) self.now }
+    {
+        &self.plain
     }
 
     // The next entry for a machine: the one that is kept, or else each source is looked at.

@@ -16,3 +16,5 @@ pub mod SettlingLemmas
 pub mod AdvanceLemmas
 pub mod StridingLemmas
 pub mod OneList
+mod RetracedLemmas
+pub mod LookedLemmas

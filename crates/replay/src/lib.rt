@@ -14,8 +14,10 @@
 mod calls;
 mod keeper;
 pub mod laws;
+mod looking;
 mod refusal;
 mod restoring;
+mod retracing;
 mod searching;
 mod searching_on;
 mod session;
@@ -31,7 +33,9 @@ mod writers;
 
 pub use calls::{Call, Observer, follow};
 pub use keeper::Keeper;
+pub use looking::Onlooker;
 pub use refusal::Refusal;
+pub use retracing::StepWriter;
 pub use session::{STEP_LIMIT, Session};
 pub use slot_keeper::SlotKeeper;
 pub use stop::Stop;

@@ -1,6 +1,6 @@
 //! The line of a step.
 
-ghost use Rattle.std.specs.Prelude.{◌≡◌, ◌+◌, ◌^◌, ◌≤◌, ◌++◌, true, length, decimal};
+ghost use Rattle.std.specs.Prelude.{◌≡◌, ◌+◌, ◌-◌, ◌^◌, ◌≤◌, ◌++◌, min, true, length, decimal};
 ghost use Rattle.std.specs.List.{flat_map};
 ghost use Rattle.arrayvec.specs.ArrayVec.{array_vec_len};
 ghost use Rattle.words.specs.Devices.{Writes, failures_after};
@@ -9,7 +9,7 @@ ghost use Rattle.cpu.specs.State.{FitsRun};
 ghost use Rattle.trace.specs.TraceLines.{field, line_end, or_none, trace_line, written};
 
 use crate::fields::{StepFields, decimal_text, push_field};
-use crate::names::PlaceNames;
+use crate::names::Names;
 use crate::steps::what_text;
 use crate::written::{Line, push_all_written};
 use arrayvec::ArrayVec;
@@ -24,8 +24,8 @@ const NUMBER_WIDTH: usize = 8;
 ///
 /// After a failure a beginning of the line was written.
 #[tactic(auto, unfolding(crate::specs::TraceLines::trace_line))]
-pub fn trace_step<W: Write>(
-    names: &PlaceNames,
+pub fn trace_step<N: Names, W: Write>(
+    names: &N,
     processor: &mut Processor,
     machine: &mut Machine,
     number: u64,
@@ -33,10 +33,11 @@ pub fn trace_step<W: Write>(
 ) -> Result<(), WriteFailed>
     requires cycles { machine.old.cycles ≤ 2 ^ 62 }
     requires fits { FitsRun processor.old.scenario machine.old }
+    ensures processor { processor.new ≡ record processor.old { meter = min (processor.old.meter + 1) (2 ^ 128 - 1) } }
     ensures scenario { processor.new.scenario ≡ processor.old.scenario }
     ensures state { machine.new ≡ (next processor.old.scenario machine.old).0 }
     ensures written { W.told ≡ true →
-        Writes (W.written out.old) (W.written out.new) (trace_line names.now processor.old.scenario number machine.old) result }
+        Writes (W.written out.old) (W.written out.new) (trace_line (N.table names.now) processor.old.scenario number machine.old) result }
     ensures failures { W.failures out.new ≡ failures_after (W.failures out.old) result }
 {
     let what = what_text(names, processor, machine);
@@ -47,8 +48,8 @@ pub fn trace_step<W: Write>(
 }
 
 /// The line of a step, by what it was, the machine after it, the cells that it has written, and what it has put out.
-fn line_of(
-    names: &PlaceNames,
+fn line_of<N: Names>(
+    names: &N,
     number: u64,
     what: &StepFields,
     machine: &Machine,
@@ -58,7 +59,7 @@ fn line_of(
     requires what { array_vec_len what.now ≤ 66 }
     requires few { length cells.now ≤ 10 }
     ensures { result.items ≡ field 8 (decimal number) ++ field 8 (decimal machine.now.cycles) ++ what.now.items
-        ++ or_none (flat_map (written names.now machine.now.cells) cells.now) ++ line_end output }
+        ++ or_none (flat_map (written (N.table names.now) machine.now.cells) cells.now) ++ line_end output }
 {
     let mut line = ArrayVec::new();
     push_field(&mut line, NUMBER_WIDTH, decimal_text(number).as_slice());

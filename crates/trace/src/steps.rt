@@ -11,7 +11,7 @@ ghost use Rattle.trace.specs.TraceLines.{added_text, entry_place, fetched_text, 
 
 use crate::fields::{StepFields, Text, place_text, step_fields};
 use crate::inputs::{input_text, interrupt_name, push_asked};
-use crate::names::{Names, PlaceNames, place_name};
+use crate::names::{Names, place_name};
 use arrayvec::ArrayVec;
 use cpu::{Fetched, Machine, NextStep, Processor, disassemble, instruction_name, named_address};
 use feed::input::Input;
@@ -30,9 +30,9 @@ const SIGN: u16 = 0o100000;
 const ENTRY_WORDS: u16 = 4;
 
 /// What the next step is: its place, its word and its text.
-pub fn what_text(names: &PlaceNames, processor: &Processor, machine: &Machine) -> StepFields
+pub fn what_text<N: Names>(names: &N, processor: &Processor, machine: &Machine) -> StepFields
     requires { FitsRun processor.now.scenario machine.now }
-    ensures items { result.items ≡ what_text names.now processor.now.scenario.rope machine.now (next_step processor.now.scenario machine.now) }
+    ensures items { result.items ≡ what_text (N.table names.now) processor.now.scenario.rope machine.now (next_step processor.now.scenario machine.now) }
     ensures short { array_vec_len result ≤ 66 }
 {
     match processor.next_step(machine) {

@@ -8,7 +8,7 @@ ghost use Rattle.space.specs.declared.place.Linear.TheVariants.{Erasable};
 ghost use Rattle.trace.specs.TraceLines.{cell_name, cell_reading, or_none, place_name, written};
 
 use crate::fields::Text;
-use crate::names::{Names, PlaceNames, place_name};
+use crate::names::{Names, place_name};
 use arrayvec::ArrayVec;
 use cpu::{Cell, Machine};
 use space::Linear;
@@ -24,15 +24,15 @@ pub(crate) type Line = ArrayVec<u8, LINE>;
 const FIRST_CHANNEL: u16 = 0o4000;
 
 /// Appends the cells that a step has written, with what is read there, or the sign that there is none.
-pub(crate) fn push_all_written(
+pub(crate) fn push_all_written<N: Names>(
     line: &mut Line,
-    names: &PlaceNames,
+    names: &N,
     machine: &Machine,
     cells: &[Cell],
 )
     requires room { array_vec_len line.old ≤ 126 }
     requires few { length cells.now ≤ 10 }
-    ensures items { line.new.items ≡ line.old.items ++ or_none (flat_map (written names.now machine.now.cells) cells.now) }
+    ensures items { line.new.items ≡ line.old.items ++ or_none (flat_map (written (N.table names.now) machine.now.cells) cells.now) }
     ensures short { array_vec_len line.new ≤ array_vec_len line.old + 160 }
 {
     let before = line.len();
@@ -43,10 +43,10 @@ pub(crate) fn push_all_written(
 }
 
 /// Appends each cell that a step has written.
-fn push_each(line: &mut Line, names: &PlaceNames, machine: &Machine, cells: &[Cell])
+fn push_each<N: Names>(line: &mut Line, names: &N, machine: &Machine, cells: &[Cell])
     requires room { array_vec_len line.old ≤ 126 }
     requires few { length cells.now ≤ 10 }
-    ensures items { line.new.items ≡ line.old.items ++ flat_map (written names.now machine.now.cells) cells.now }
+    ensures items { line.new.items ≡ line.old.items ++ flat_map (written (N.table names.now) machine.now.cells) cells.now }
     ensures short { array_vec_len line.new ≤ array_vec_len line.old + 16 * length cells.now }
 {
     for cell in cells {
@@ -55,9 +55,9 @@ fn push_each(line: &mut Line, names: &PlaceNames, machine: &Machine, cells: &[Ce
 }
 
 /// Appends a cell that a step has written, with what is read there: nothing of Z.
-fn push_written(line: &mut Line, names: &PlaceNames, machine: &Machine, cell: Cell)
+fn push_written<N: Names>(line: &mut Line, names: &N, machine: &Machine, cell: Cell)
     requires { array_vec_len line.old ≤ 340 }
-    ensures items { line.new.items ≡ line.old.items ++ written names.now machine.now.cells cell }
+    ensures items { line.new.items ≡ line.old.items ++ written (N.table names.now) machine.now.cells cell }
     ensures short { array_vec_len line.new ≤ array_vec_len line.old + 16 }
 {
     if cell != Cell::Z {

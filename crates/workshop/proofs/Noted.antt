@@ -8,10 +8,9 @@ use Rattle.workshop.specs.declared.fault.WorkshopFault.{WorkshopFault}
 use Rattle.workshop.specs.declared.fault.WorkshopFault.TheVariants.{NoMemory}
 use Rattle.workshop.specs.declared.noting.NamedCode.{NamedCode}
 use Rattle.workshop.specs.declared.origin.Origin.{Origin}
-use Rattle.workshop.specs.declared.origin.Origin.TheVariants as origin
 use Rattle.workshop.specs.Failures.{Reader}
 use Rattle.workshop.specs.Loading.{Reads, ReadsInputs}
-use Rattle.workshop.specs.Notings.{NotesRun, Noting, ReadsNamed, RunsNoted}
+use Rattle.workshop.specs.Notings.{NotesRun, Noting, ReadsNamed, ReadsNamedImage, RunsNoted}
 
 pub noted_by : (origin : Origin) (steps : ℕ) (before after : Noting) (code : NamedCode) (inputs : List Entry) (r : Result NamedCode WorkshopFault) (i : Result (List Entry) WorkshopFault)
     (result : Result Summary WorkshopFault) → r ≡ Ok code → i ≡ Ok inputs → Reads (ReadsNamed origin) before.files.program after.files.program r
@@ -24,7 +23,7 @@ noted_by origin steps before after code inputs r i result e f reads more run = r
 }
 
 -- nothing of an image was read, and memory ran out
-pub no_memory_before : (version : Version) (before : Reader) → Reads (ReadsNamed (origin.Image version)) before before (Err NoMemory)
+pub no_memory_before : (version : Version) (before : Reader) → Reads (λ old new. ReadsNamedImage version old new) before before (Err NoMemory)
 no_memory_before version before = record {
   bytes = λ told. record { read = Err rope.NoMemory; reads = refl; gives = refl };
   failures = refl;

@@ -10,7 +10,7 @@ use Rattle.workshop.specs.Inputs.{Code, assembled, code_of, loaded, of_feed, pre
 use Rattle.workshop.specs.Loading.{Files, Loads, LoadsThen, Reads, ReadsInputs, Tells}
 use Rattle.workshop.specs.declared.debugging.Opened.{Opened}
 use Rattle.workshop.specs.declared.fault.WorkshopFault.{WorkshopFault}
-use Rattle.workshop.specs.declared.fault.WorkshopFault.TheVariants.{NoMemory, ReadFailed, WriteFailed, Source, Feed, Rope, TooLong}
+use Rattle.workshop.specs.declared.fault.WorkshopFault.TheVariants.{NoMemory, ReadFailed, WriteFailed, Source, Feed, Rope, Table, TooLong}
 use Rattle.workshop.specs.declared.inputs.Loaded.{Loaded}
 use Rattle.workshop.specs.declared.origin.Origin.{Origin}
 use Rattle.workshop.specs.declared.origin.Origin.TheVariants as origin
@@ -26,6 +26,7 @@ tells_on x y WriteFailed h f = absurd h
 tells_on x y (Source fault) h f = f h
 tells_on x y (Feed fault) h f = f h
 tells_on x y (Rope fault) h f = f h
+tells_on x y (Table line) h f = f h
 tells_on x y TooLong h f = f h
 
 -- a feed was read, after a source

@@ -1,33 +1,48 @@
--- What the engine that tells all faults answers, and what it has then written.
+-- What the engines answer that tell what is wrong with a source, and with a feed, and what they have then written.
 use Rattle.std.specs.Prelude.{◌≡◌, ℕ, nat_lt, if◌then◌else◌, List, length, Bool, Result, Ok, Err, IfOk}
 use Rattle.feed.specs.Feed.{most_bytes}
 use Rattle.yayul.specs.Survey.{told}
 use Rattle.yayul.specs.declared.language.Language.{Language}
-use Rattle.faults.specs.Report.{report}
+use Rattle.faults.specs.FeedReport.{feed_faults, feed_report}
+use Rattle.faults.specs.Report.{count_text, report}
 use Rattle.faults.specs.Warnings.{warnings}
+use Rattle.workshop.specs.declared.checking.Tally.{Tally}
 use Rattle.workshop.specs.declared.fault.WorkshopFault.{WorkshopFault}
-use Rattle.workshop.specs.declared.fault.WorkshopFault.TheVariants.{TooLong}
+use Rattle.workshop.specs.declared.fault.WorkshopFault.TheVariants.{NoMemory, TooLong}
 use Rattle.workshop.specs.Failures.{Reader, Writer}
 use Rattle.workshop.specs.Loading.{Reads, ReadsText}
 use Rattle.workshop.specs.Ropes.{WritesText}
 
--- the faults and the warnings of a source of a language and of this name as text, with labels that no operand names where that is asked for; and how many faults there are
-abbrev pub reported : Language → List ℕ → Bool → List ℕ → Result (List ℕ × ℕ) WorkshopFault
-reported language name unused source =
-    if nat_lt most_bytes (length source) then Err TooLong else Ok (report name source (told language source) (warnings unused source), length (told language source))
+-- how many faults and warnings are told of a source of a language, with labels that no operand names where that is asked for
+abbrev pub tally : Language → Bool → List ℕ → Tally
+tally language unused source = record { errors = length (told language source); warnings = length (warnings language unused source) }
 
--- what an engine has that tells all faults
+-- the faults and the warnings of a source of a language and of this name as text; and how many there are
+abbrev pub reported : Language → List ℕ → Bool → List ℕ → Result (List ℕ × Tally) WorkshopFault
+reported language name unused source =
+    if nat_lt most_bytes (length source) then Err TooLong else Ok (report name source (told language source) (warnings language unused source), tally language unused source)
+
+-- the fault of a feed of this name as text, where it has one; and how many are told
+abbrev pub feed_reported : List ℕ → List ℕ → Result (List ℕ × ℕ) WorkshopFault
+feed_reported name feed = if nat_lt most_bytes (length feed) then Err TooLong else Ok (feed_report name feed, feed_faults feed)
+
+-- what an engine has that tells faults
 pub record Checking : Type 0 where
-  pub source : Reader
+  pub input : Reader
   pub out : Writer
 
--- where a source was read its faults are written, and how many there are is answered; after a fault nothing is
-abbrev pub ChecksThen : Result (List ℕ × ℕ) WorkshopFault → Writer → Writer → Result ℕ WorkshopFault → Type 0
+-- where an input was read its faults are written, and how many there are is answered; after a fault nothing is
+abbrev pub ChecksThen : {T : Type 0} → Result (List ℕ × T) WorkshopFault → Writer → Writer → Result T WorkshopFault → Type 0
 ChecksThen (Ok r) before after result = WritesText r.0 before after result × IfOk result (λ count. count ≡ r.1)
 ChecksThen (Err fault) before after result = (result ≡ Err fault) × (after ≡ before)
 
--- a source is read, and what was read decides what is written
-pub record Checks (language : Language) (name : List ℕ) (unused : Bool) (before after : Checking) (result : Result ℕ WorkshopFault) : Type 0 where
-  pub told_of : Result (List ℕ × ℕ) WorkshopFault
-  pub reads : Reads (λ old new. ReadsText (reported language name unused old) old new) before.source after.source told_of
+-- an input is read, and what was read decides what is written
+pub record Checks {T : Type 0} (gives : List ℕ → Result (List ℕ × T) WorkshopFault) (before after : Checking) (result : Result T WorkshopFault) : Type 0 where
+  pub told_of : Result (List ℕ × T) WorkshopFault
+  pub reads : Reads (λ old new. ReadsText (gives old) old new) before.input after.input told_of
   pub next : ChecksThen told_of before.out after.out result
+
+-- how many faults and warnings there are is written; where memory was refused nothing is
+abbrev pub TellsTally : Tally → Writer → Writer → Result (Unit {0}) WorkshopFault → Type 0
+TellsTally counted before after (Err NoMemory) = after ≡ before
+TellsTally counted before after result = WritesText (count_text counted.errors counted.warnings) before after result

@@ -5,9 +5,12 @@ use Rattle.rope.specs.Reading.{ReadsImage}
 use Rattle.rope.specs.declared.fault.RopeFault.{RopeFault}
 use Rattle.rope.specs.declared.spelling.Version.{Version}
 use Rattle.feed.specs.declared.entry.Entry.{Entry}
-use Rattle.yayul.specs.Program.{Program, Source}
+use Rattle.symbols.specs.Values.{SymbolTable}
+use Rattle.yayul.specs.Program.{Program}
 use Rattle.cover.specs.CoverText.{cover_text}
 use Rattle.cover.specs.Tallies.{AllAddUp, RowsAddUp}
+use Rattle.cover.specs.declared.shown.Shown.{Shown}
+use Rattle.cover.specs.declared.shown.Shown.TheVariants as shown
 use Rattle.cpu.specs.State.{Scenario}
 use Rattle.workshop.specs.declared.fault.WorkshopFault.{WorkshopFault}
 use Rattle.workshop.specs.declared.fault.WorkshopFault.TheVariants.{NoMemory}
@@ -20,36 +23,37 @@ use Rattle.workshop.specs.Loading.{Reads, ReadsInputs, ReadsText}
 use Rattle.workshop.specs.Ropes.{WritesText}
 use Rattle.workshop.specs.Runs.{Running}
 
--- what is covered: the words of a program, and of a source the source
+-- what is covered: the words of a program, and what is shown of it
 abbrev pub Subject : Type 0
-Subject = Words × Option Source
+Subject = Words × Shown
 
 -- what a source gives, and what an image does
 abbrev pub subject_of : Result Program WorkshopFault → Result Subject WorkshopFault
-subject_of (Ok p) = Ok (p.rope, Some p.source)
+subject_of (Ok p) = Ok (p.rope, shown.Source p.source)
 subject_of (Err fault) = Err fault
 
-abbrev pub imaged_subject : Result Words RopeFault → Result Subject WorkshopFault
-imaged_subject (Ok words) = Ok (words, None)
-imaged_subject (Err fault) = Err (of_rope_fault fault)
+abbrev pub imaged_subject : Option SymbolTable → Result Words RopeFault → Result Subject WorkshopFault
+imaged_subject names (Ok words) = Ok (words, shown.Image names)
+imaged_subject names (Err fault) = Err (of_rope_fault fault)
 
--- an image is read
-pub record ReadsImaged (version : Version) (old new : List ℕ) (result : Result Subject WorkshopFault) : Type 0 where
+-- an image is read, for whose places some names may stand
+pub record ReadsImaged (version : Version) (names : Option SymbolTable) (old new : List ℕ) (result : Result Subject WorkshopFault) : Type 0 where
   pub read : Result Words RopeFault
   pub reads : ReadsImage version old new read
-  pub gives : result ≡ imaged_subject read
+  pub gives : result ≡ imaged_subject names read
 
 -- what is covered is read, from where its words come
 abbrev pub ReadsSubject : Origin → List ℕ → List ℕ → Result Subject WorkshopFault → Type 0
 ReadsSubject (origin.Source language) old new result = ReadsText (subject_of (assembled language old)) old new result
-ReadsSubject (origin.Image version) old new result = ReadsImaged version old new result
+ReadsSubject (origin.Image version) old new result = ReadsImaged version None old new result
+ReadsSubject (origin.NamedImage version names) old new result = ReadsImaged version (Some names) old new result
 
 -- memory for the figures is refused before the first step, and nothing is written; or all steps are made and counted, each once,
 -- and their profile is written, whose rows add up
-abbrev pub CoversRun : Option Source → Scenario → ℕ → Writer → Writer → Result (Unit {0}) WorkshopFault → Type 0
-CoversRun source scenario steps before after result =
+abbrev pub CoversRun : Shown → Scenario → ℕ → Writer → Writer → Result (Unit {0}) WorkshopFault → Type 0
+CoversRun lines scenario steps before after result =
     ((result ≡ Err NoMemory) × (after ≡ before))
-    ⊎ (WritesText (cover_text source scenario steps) before after result × AllAddUp scenario steps × RowsAddUp scenario steps)
+    ⊎ (WritesText (cover_text lines scenario steps) before after result × AllAddUp scenario steps × RowsAddUp scenario steps)
 
 -- where the feed was read the run is covered, and after a fault nothing is written
 abbrev pub CoversThen : Subject → ℕ → Result (List Entry) WorkshopFault → Writer → Writer → Result (Unit {0}) WorkshopFault → Type 0

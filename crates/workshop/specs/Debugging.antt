@@ -4,7 +4,7 @@ use Rattle.words.specs.Readings.{TakesAtMost}
 use Rattle.cpu.specs.State.{State, start}
 use Rattle.debugger.specs.Transcript.{command_lines, lines_read, most_command_bytes}
 use Rattle.commands.specs.Extended.{extended_request_of}
-use Rattle.debugger.specs.Conversation.{Talk, Talks, efforts, lines_heard}
+use Rattle.debugger.specs.Conversation.{Talk, Talks, efforts, lines_heard, lines_within, most_extended_bytes}
 use Rattle.debugger.specs.Sessions.{Setting, Debugs}
 use Rattle.debugger.specs.declared.fault.DebugFault.{DebugFault}
 use Rattle.replay.specs.Calls.{Told, Saw, TimeTravel}
@@ -81,7 +81,7 @@ pub record DebugsProgram (from : Origin) (before after : Debugging) (result : Re
 
 -- what an extended session that was opened is over
 abbrev pub talk_of : Opened → Talk
-talk_of o = record { may_refuse = false; symbols = o.symbols; read = extended_request_of o.symbols; scenario = o.session.scenario }
+talk_of o = record { may_refuse = false; symbols = o.symbols; read = extended_request_of o.symbols; most = most_extended_bytes; scenario = o.session.scenario }
 
 -- the lines of an extended session are answered over a session that was opened, as commands are
 pub record AnswersExtended (o : Opened) (before after : Debugging) (result : Result (Unit {0}) WorkshopFault) : Type 0 where
@@ -91,10 +91,10 @@ pub record AnswersExtended (o : Opened) (before after : Debugging) (result : Res
   pub replies : before.commands.told ≡ true → before.out.told ≡ true →
       Talks (talk_of o) (record { before = before.commands.left; left = after.commands.left }) before.out.written after.out.written ended
   pub cost : before.commands.told ≡ true → OnOk result
-      (session.meter ≤ o.session.meter + (efforts (extended_request_of o.symbols) (lines_heard (extended_request_of o.symbols) (command_lines before.commands.left)) + 1) * session.n)
+      (session.meter ≤ o.session.meter + (efforts (extended_request_of o.symbols) (lines_heard (extended_request_of o.symbols) (lines_within most_extended_bytes before.commands.left)) + 1) * session.n)
   pub reader : after.commands.failures ≡ failures_if (has_read_failed result) before.commands.failures
   pub writer : after.out.failures ≡ failures_if (has_write_failed result) before.out.failures
-  pub read : before.commands.told ≡ true → TakesAtMost most_command_bytes before.commands.left after.commands.left
+  pub read : before.commands.told ≡ true → TakesAtMost most_extended_bytes before.commands.left after.commands.left
 
 -- where a session was opened its lines are answered, and after a fault none is read and nothing written
 abbrev pub DebugsExtendedThen : Result Opened WorkshopFault → Debugging → Debugging → Result (Unit {0}) WorkshopFault → Type 0

@@ -10,10 +10,12 @@ use Rattle.rope.specs.declared.fault.RopeFault.{RopeFault}
 use Rattle.rope.specs.declared.fault.RopeFault.TheVariants as rope_fault
 use Rattle.debugger.specs.declared.fault.DebugFault.{DebugFault}
 use Rattle.debugger.specs.declared.fault.DebugFault.TheVariants as debug_fault
+use Rattle.names.specs.declared.table.TableFault.{TableFault}
+use Rattle.names.specs.declared.table.TableFault.TheVariants as table_fault
 use Rattle.words.specs.declared.text.ReadFault.{ReadFault}
 use Rattle.words.specs.declared.text.ReadFault.TheVariants as read_fault
 use Rattle.workshop.specs.declared.fault.WorkshopFault.{WorkshopFault}
-use Rattle.workshop.specs.declared.fault.WorkshopFault.TheVariants.{NoMemory, ReadFailed, WriteFailed, Source, Feed, Rope, TooLong}
+use Rattle.workshop.specs.declared.fault.WorkshopFault.TheVariants.{NoMemory, ReadFailed, WriteFailed, Source, Feed, Rope, Table, TooLong}
 
 -- a fault of a text that is read whole, as an engine tells it
 abbrev pub of_read_fault : ReadFault → WorkshopFault
@@ -38,6 +40,11 @@ of_rope_fault rope_fault.NoMemory = NoMemory
 of_rope_fault rope_fault.ReadFailed = ReadFailed
 of_rope_fault fault = Rope fault
 
+-- a fault of a table of names, as an engine tells it
+abbrev pub of_table_fault : TableFault → WorkshopFault
+of_table_fault table_fault.NoMemory = NoMemory
+of_table_fault (table_fault.Line n) = Table n
+
 -- what ends a session of commands early, as an engine tells it
 abbrev pub of_debug_fault : DebugFault → WorkshopFault
 of_debug_fault debug_fault.NoMemory = NoMemory
@@ -52,6 +59,7 @@ number_of WriteFailed = 7
 number_of (Source fault) = fault.number
 number_of (Feed fault) = feed.number_of fault
 number_of (Rope fault) = rope.number_of fault
+number_of (Table line) = 36
 number_of TooLong = 34
 
 -- the line of a fault of the source: 0 counts as none
@@ -62,6 +70,7 @@ source_line_of fault = if fault.line == 0 then None else Some fault.line
 abbrev pub line_of : WorkshopFault → Option ℕ
 line_of (Source fault) = source_line_of fault
 line_of (Feed fault) = feed.line_of fault
+line_of (Table line) = Some line
 line_of _ = None
 
 -- the line of text that tells a fault
@@ -100,4 +109,5 @@ status_of WriteFailed = device_failed
 status_of (Source fault) = source_status fault
 status_of (Feed fault) = feed_status fault
 status_of (Rope fault) = rope_status fault
+status_of (Table line) = input_refused
 status_of TooLong = input_refused

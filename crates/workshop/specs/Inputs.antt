@@ -1,5 +1,5 @@
 -- What an engine makes of a source and of a feed.
-use Rattle.std.specs.Prelude.{ℕ, nat_lt, if◌then◌else◌, List, [], length, Result, Ok, Err}
+use Rattle.std.specs.Prelude.{ℕ, nat_lt, if◌then◌else◌, List, length, Result, Ok, Err}
 use Rattle.symbols.specs.Values.{SymbolTable}
 use Rattle.yayul.specs.Program.{Program, program}
 use Rattle.yayul.specs.declared.language.Language.{Language}
@@ -8,11 +8,12 @@ use Rattle.yayul.specs.declared.faults.Fault.{Fault}
 use Rattle.feed.specs.Feed.{inputs, most_bytes}
 use Rattle.feed.specs.declared.fault.FeedFault.{FeedFault}
 use Rattle.feed.specs.declared.entry.Entry.{Entry}
+use Rattle.names.specs.Tables.{table_of}
 use Rattle.rope.specs.Places.{Words}
 use Rattle.rope.specs.declared.fault.RopeFault.{RopeFault}
 use Rattle.cpu.specs.State.{Scenario}
 use Rattle.workshop.specs.declared.fault.WorkshopFault.{WorkshopFault}
-use Rattle.workshop.specs.declared.fault.WorkshopFault.TheVariants.{Source, TooLong}
+use Rattle.workshop.specs.declared.fault.WorkshopFault.TheVariants.{Source, Table, TooLong}
 use Rattle.workshop.specs.Faults.{of_feed_fault, of_rope_fault}
 use Rattle.workshop.specs.declared.inputs.Loaded.{Loaded}
 
@@ -30,6 +31,15 @@ abbrev pub of_feed : Result (List Entry) FeedFault → Result (List Entry) Works
 of_feed (Ok is) = Ok is
 of_feed (Err fault) = Err (of_feed_fault fault)
 
+-- names, or the line of the table that is refused
+abbrev pub of_table : Result SymbolTable ℕ → Result SymbolTable WorkshopFault
+of_table (Ok names) = Ok names
+of_table (Err line) = Err (Table line)
+
+-- the names of a table, which may have as many bytes as a feed, or its fault
+abbrev pub named_by : List ℕ → Result SymbolTable WorkshopFault
+named_by table = if nat_lt most_bytes (length table) then Err TooLong else of_table (table_of table)
+
 -- a program as it runs: its words in their places, and its symbols
 abbrev pub Code : Type 0
 Code = Words × SymbolTable
@@ -39,10 +49,10 @@ abbrev pub code_of : Result Program WorkshopFault → Result Code WorkshopFault
 code_of (Ok p) = Ok (p.rope, p.symbols)
 code_of (Err fault) = Err fault
 
--- what an image gives: its words, without symbols
-abbrev pub imaged : Result Words RopeFault → Result Code WorkshopFault
-imaged (Ok words) = Ok (words, [])
-imaged (Err fault) = Err (of_rope_fault fault)
+-- what an image gives: its words, with the names that stand for its places
+abbrev pub imaged : SymbolTable → Result Words RopeFault → Result Code WorkshopFault
+imaged names (Ok words) = Ok (words, names)
+imaged names (Err fault) = Err (of_rope_fault fault)
 
 -- a program and inputs, or the first fault: that of the program comes before that of the feed
 abbrev pub loaded : Result Code WorkshopFault → Result (List Entry) WorkshopFault → Result Loaded WorkshopFault

@@ -8,7 +8,9 @@ pub mod Inputs
 pub mod Laws
 pub mod Loading
 pub mod Notings
+pub mod Refused
 pub mod Ropes
 pub mod Runs
 pub mod Traces
 pub mod Progress
+pub mod CommandsEnd

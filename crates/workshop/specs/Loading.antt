@@ -7,6 +7,7 @@ use Rattle.rope.specs.Places.{Words}
 use Rattle.rope.specs.Reading.{ReadsImage}
 use Rattle.rope.specs.declared.spelling.Version.{Version}
 use Rattle.rope.specs.declared.fault.RopeFault.{RopeFault}
+use Rattle.symbols.specs.Values.{SymbolTable}
 use Rattle.workshop.specs.declared.fault.WorkshopFault.{WorkshopFault}
 use Rattle.workshop.specs.declared.fault.WorkshopFault.TheVariants.{NoMemory, ReadFailed, WriteFailed}
 use Rattle.workshop.specs.declared.inputs.Loaded.{Loaded}
@@ -28,16 +29,17 @@ pub record ReadsText {T : Type 0} (gives : Result T WorkshopFault) (old new : Li
   pub whole : OnOk result (new ≡ [])
   pub most : TakesAtMost (most_read result) old new
 
--- an image is read
-pub record ReadsCode (version : Version) (old new : List ℕ) (result : Result Code WorkshopFault) : Type 0 where
+-- an image is read, for whose places some names stand
+pub record ReadsCode (version : Version) (names : SymbolTable) (old new : List ℕ) (result : Result Code WorkshopFault) : Type 0 where
   pub read : Result Words RopeFault
   pub reads : ReadsImage version old new read
-  pub gives : result ≡ imaged read
+  pub gives : result ≡ imaged names read
 
 -- a program is read, from where its words come
 abbrev pub ReadsProgram : Origin → List ℕ → List ℕ → Result Code WorkshopFault → Type 0
 ReadsProgram (origin.Source language) old new result = ReadsText (code_of (assembled language old)) old new result
-ReadsProgram (origin.Image version) old new result = ReadsCode version old new result
+ReadsProgram (origin.Image version) old new result = ReadsCode version [] old new result
+ReadsProgram (origin.NamedImage version names) old new result = ReadsCode version names old new result
 
 -- the inputs of a feed are read
 abbrev pub ReadsInputs : List ℕ → List ℕ → Result (List Entry) WorkshopFault → Type 0

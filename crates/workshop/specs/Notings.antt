@@ -41,6 +41,7 @@ pub record ReadsNamedImage (version : Version) (old new : List ℕ) (result : Re
 abbrev pub ReadsNamed : Origin → List ℕ → List ℕ → Result NamedCode WorkshopFault → Type 0
 ReadsNamed (origin.Source language) old new result = ReadsText (named_of (assembled language old)) old new result
 ReadsNamed (origin.Image version) old new result = ReadsNamedImage version old new result
+ReadsNamed (origin.NamedImage version names) old new result = ReadsNamedImage version old new result
 
 -- the writers of what goes out, and of the notes
 pub record Texts : Type 0 where

@@ -1,70 +1,145 @@
-//! The engine that tells all faults of a source, and what in it is likely a mistake.
+//! The engines that tell all faults of a source, what in it is likely a mistake, and the fault of a feed.
 
-ghost use Rattle.std.specs.Prelude.{◌≡◌, IfOk};
+ghost use Rattle.std.specs.Prelude.{◌≡◌, ◌^◌, ◌+◌, ◌-◌, min, length, IfOk};
 ghost use Rattle.std.specs.Result.{result_map_both};
 ghost use Rattle.faults.specs.Report.{report};
 ghost use Rattle.faults.specs.Warnings.{warnings};
-ghost use Rattle.workshop.specs.Checks.{Checks, reported};
+ghost use Rattle.workshop.specs.Checks.{Checks, TellsTally, feed_reported, reported};
 ghost use Rattle.workshop.specs.Failures.{reader, writer};
 ghost use Rattle.workshop.specs.Loading.{Reads, ReadsText};
 
 use crate::fault::WorkshopFault;
-use faults::{report, warnings};
+use faults::{counts, feed_report, report, warnings};
 use std::alloc::{AllocError, Global};
 use words::{MOST_BYTES, Read, Write, read_text, write_all};
 use yayul::{Finding, Language, findings};
 
+/// How many faults and warnings were told.
+#[derive(Clone, Copy, PartialEq, Eq, Debug, Drop)]
+pub struct Tally {
+    /// Faults.
+    pub errors: usize,
+    /// Warnings.
+    pub warnings: usize,
+}
+
+impl Tally {
+    /// With so many faults more; the count stays at its greatest value.
+    pub fn with_errors(self, more: usize) -> Tally
+        ensures errors { result.errors ≡ min (self.errors + more) (2 ^ 64 - 1) }
+        ensures warnings { result.warnings ≡ self.warnings }
+    {
+        Tally {
+            errors: self.errors.saturating_add(more),
+            warnings: self.warnings,
+        }
+    }
+}
+
 /// Reads a source of a language whole, and writes a line for each fault that does not follow from another, with the source's name and the
-/// line that it stands on, among them a line for each warning, and then how many of both there are; it answers how many faults.
-/// Labels that no operand names are told of where that is asked for.
+/// line that it stands on, among them a line for each warning, and what is said where it has faults and is a feed or an image; it answers
+/// how many of both there are. Labels that no operand names are told of where that is asked for.
 ///
 /// The source has at most 8,388,608 bytes.
-pub fn check_engine<S: Read, W: Write>(
+pub fn check_source<S: Read, W: Write>(
     alloc: Global,
     language: Language,
     name: &[u8],
     unused: bool,
     source: &mut S,
     out: &mut W,
-) -> Result<usize, WorkshopFault>
-    ensures { Checks language name.now unused
-        (record { source = reader S.told S.left S.failures source.old; out = writer W.told W.written W.failures out.old })
-        (record { source = reader S.told S.left S.failures source.new; out = writer W.told W.written W.failures out.new }) result }
+) -> Result<Tally, WorkshopFault>
+    ensures { Checks (reported language name.now unused)
+        (record { input = reader S.told S.left S.failures source.old; out = writer W.told W.written W.failures out.old })
+        (record { input = reader S.told S.left S.failures source.new; out = writer W.told W.written W.failures out.new }) result }
 {
-    let (text, count) = read_report(alloc, language, name, unused, source)?;
+    let (text, tally) = read_report(alloc, language, name, unused, source)?;
     write_all(out, &text)?;
+    Ok(tally)
+}
+
+/// Reads a feed whole, and writes lines for its first fault, where it has one, with the feed's name and the line that it stands on, and what
+/// is said where it is a source or an image; it answers how many faults are told: as `feed::read` answers, none or one.
+///
+/// The feed has at most 8,388,608 bytes.
+pub fn check_feed<F: Read, W: Write>(
+    alloc: Global,
+    name: &[u8],
+    feed: &mut F,
+    out: &mut W,
+) -> Result<usize, WorkshopFault>
+    ensures { Checks (feed_reported name.now)
+        (record { input = reader F.told F.left F.failures feed.old; out = writer W.told W.written W.failures out.old })
+        (record { input = reader F.told F.left F.failures feed.new; out = writer W.told W.written W.failures out.new }) result }
+{
+    let (lines, count) = read_feed_report(alloc, name, feed)?;
+    write_all(out, &lines)?;
     Ok(count)
 }
 
-// Reads a source, and tells its faults and warnings as text, and how many faults there are.
+/// Writes how many faults and how many warnings were told.
+pub fn write_tally<W: Write>(alloc: Global, tally: &Tally, out: &mut W) -> Result<(), WorkshopFault>
+    ensures { TellsTally tally.now (writer W.told W.written W.failures out.old) (writer W.told W.written W.failures out.new) result }
+{
+    let text = match counts(alloc, tally.errors, tally.warnings) {
+        Ok(text) => text,
+        Err(_) => return Err(WorkshopFault::NoMemory),
+    };
+    Ok(write_all(out, &text)?)
+}
+
+// Reads a source, and tells its faults and warnings as text, and how many there are.
 fn read_report<S: Read>(
     alloc: Global,
     language: Language,
     name: &[u8],
     unused: bool,
     source: &mut S,
-) -> Result<(Vec<u8>, usize), WorkshopFault>
+) -> Result<(Vec<u8>, Tally), WorkshopFault>
     ensures { Reads (λ old new. ReadsText (reported language name.now unused old) old new)
         (reader S.told S.left S.failures source.old) (reader S.told S.left S.failures source.new) (result_map_both (λ r. (r.0.items, r.1)) (λ fault. fault) result) }
 {
     let source = read_text(alloc, source, MOST_BYTES)?;
     let findings = findings(alloc, language, &source)?;
-    match told_of(alloc, name, unused, &source, &findings) {
-        Ok(text) => Ok((text, findings.len())),
+    match told_of(alloc, language, name, unused, &source, &findings) {
+        Ok(told) => Ok(told),
         Err(_) => Err(WorkshopFault::NoMemory),
     }
 }
 
-// The faults of a source and its warnings as text.
+// The faults of a source of a language and its warnings as text, and how many there are.
 fn told_of(
     alloc: Global,
+    language: Language,
     name: &[u8],
     unused: bool,
     source: &[u8],
     findings: &[Finding],
-) -> Result<Vec<u8>, AllocError>
-    ensures { IfOk result (λ text. text.items ≡ report name.now source.now findings.now (warnings unused source.now)) }
+) -> Result<(Vec<u8>, Tally), AllocError>
+    ensures text { IfOk result (λ r. r.0.items ≡ report name.now source.now findings.now (warnings language unused source.now)) }
+    ensures count { IfOk result (λ r. r.1 ≡ record { errors = length findings.now; warnings = length (warnings language unused source.now) }) }
 {
-    let warnings = warnings(alloc, source, unused)?;
-    report(alloc, name, source, findings, &warnings)
+    let warnings = warnings(alloc, language, source, unused)?;
+    let text = report(alloc, name, source, findings, &warnings)?;
+    let tally = Tally {
+        errors: findings.len(),
+        warnings: warnings.len(),
+    };
+    Ok((text, tally))
+}
+
+// Reads a feed, and tells its fault as text, and how many are told.
+fn read_feed_report<F: Read>(
+    alloc: Global,
+    name: &[u8],
+    feed: &mut F,
+) -> Result<(Vec<u8>, usize), WorkshopFault>
+    ensures { Reads (λ old new. ReadsText (feed_reported name.now old) old new)
+        (reader F.told F.left F.failures feed.old) (reader F.told F.left F.failures feed.new) (result_map_both (λ r. (r.0.items, r.1)) (λ fault. fault) result) }
+{
+    let text = read_text(alloc, feed, MOST_BYTES)?;
+    match feed_report(alloc, name, &text) {
+        Ok(told) => Ok(told),
+        Err(_) => Err(WorkshopFault::NoMemory),
+    }
 }

@@ -1,11 +1,11 @@
 //! The engine that profiles a run.
 
-ghost use Rattle.std.specs.Prelude.{◌≡◌, ◌-◌, ◌≤◌, ◌^◌, true};
+ghost use Rattle.std.specs.Prelude.{◌≡◌, Some, ◌-◌, ◌≤◌, ◌^◌, true};
 ghost use Rattle.words.specs.Devices.{Writes, failures_after};
 ghost use Rattle.cover.specs.CoverText.{cover_text, profile_text, total_of};
 ghost use Rattle.cover.specs.Tallies.{AllAddUp, Counts, RowsAddUp, figures_at};
 ghost use Rattle.cpu.specs.Run.{run};
-ghost use Rattle.workshop.specs.Covers.{Covers, CoversRun, ReadsSubject};
+ghost use Rattle.workshop.specs.Covers.{Covers, CoversRun, ReadsImaged, ReadsSubject};
 ghost use Rattle.workshop.specs.Failures.{reader, writer};
 ghost use Rattle.workshop.specs.Loading.{Reads};
 ghost use Rattle.workshop.specs.Progress.{TellsAll, TellsRun};
@@ -15,12 +15,13 @@ use crate::fault::WorkshopFault;
 use crate::inputs::{read_feed, read_program};
 use crate::origin::Origin;
 use crate::progress::{Unheard, tell};
-use cover::{Figures, Tally, write_image_profile, write_source_profile};
+use cover::{Figures, Shown, Tally, write_image_profile, write_source_profile};
 use cpu::{Machine, Processor};
-use rope::Rope;
+use rope::{Rope, Version};
 use std::alloc::Global;
+use trace::PlaceNames;
 use words::{Read, Write, WriteFailed};
-use yayul::SourceRows;
+use yayul::Symbols;
 
 /// Reads a program and then a feed, makes some steps, and writes how often each word was executed and the cycles that this took:
 /// before the rows of a source's listing, or before the words of an image.
@@ -65,31 +66,49 @@ pub fn cover_and_tell<P: Read, F: Read, W: Write, T: Write>(
     cover(alloc, &rows, &mut processor, steps, out, progress)
 }
 
-/// Reads the words of a program, and of a source its lines.
+/// Reads the words of a program, and what is shown of it.
 fn read_subject<P: Read>(
     alloc: Global,
     origin: Origin,
     program: &mut P,
-) -> Result<(Rope, Option<SourceRows>), WorkshopFault>
+) -> Result<(Rope, Shown), WorkshopFault>
     ensures { Reads (ReadsSubject origin)
         (reader P.told P.left P.failures program.old) (reader P.told P.left P.failures program.new) result }
 {
     match origin {
         Origin::Source(language) => {
             let (rope, rows) = read_program(alloc, language, program)?.split_rows();
-            Ok((rope, Some(rows)))
+            Ok((rope, Shown::Source(rows)))
         }
         Origin::Image(version) => {
             let rope = Rope::read(alloc, program, version)?;
-            Ok((rope, None))
+            Ok((rope, Shown::Image(None)))
         }
+        Origin::NamedImage(version, names) => read_named_image(alloc, version, names, program),
     }
+}
+
+/// Reads an image for whose places some names stand.
+fn read_named_image<P: Read>(
+    alloc: Global,
+    version: Version,
+    names: Symbols,
+    program: &mut P,
+) -> Result<(Rope, Shown), WorkshopFault>
+    ensures { Reads (λ old new. ReadsImaged version (Some names) old new)
+        (reader P.told P.left P.failures program.old) (reader P.told P.left P.failures program.new) result }
+{
+    let Ok(names) = PlaceNames::new(alloc, names) else {
+        return Err(WorkshopFault::NoMemory);
+    };
+    let rope = Rope::read(alloc, program, version)?;
+    Ok((rope, Shown::Image(Some(names))))
 }
 
 /// Makes some steps from the start, and writes their profile.
 fn cover<W: Write, T: Write>(
     alloc: Global,
-    rows: &Option<SourceRows>,
+    rows: &Shown,
     processor: &mut Processor,
     steps: u64,
     out: &mut W,
@@ -117,15 +136,15 @@ fn write_profile<W: Write>(
     tally: &Tally,
     total: Figures,
     rope: &Rope,
-    rows: &Option<SourceRows>,
+    rows: &Shown,
     out: &mut W,
 ) -> Result<(), WriteFailed>
     ensures written { W.told ≡ true → Writes (W.written out.old) (W.written out.new) (profile_text (figures_at tally.now) total rope.now rows.now) result }
     ensures failures { W.failures out.new ≡ failures_after (W.failures out.old) result }
 {
     match rows {
-        Some(rows) => write_source_profile(tally, total, rope, rows, out),
-        None => write_image_profile(tally, total, rope, out),
+        Shown::Source(rows) => write_source_profile(tally, total, rope, rows, out),
+        Shown::Image(names) => write_image_profile(tally, total, rope, names, out),
     }
 }
 

@@ -4,11 +4,12 @@ ghost use Rattle.std.specs.Prelude.{◌≡◌, ◌≤◌, ◌+◌, ◌++◌, Som
 ghost use Rattle.arrayvec.specs.ArrayVec.{array_vec_len};
 ghost use Rattle.words.specs.Devices.{Writes, failures_after};
 ghost use Rattle.feed.specs.Faults.{line_text};
-ghost use Rattle.workshop.specs.Faults.{number_of, line_of, fault_text, status_of, of_debug_fault, of_feed_fault, of_read_fault, of_rope_fault, of_source_fault};
+ghost use Rattle.workshop.specs.Faults.{number_of, line_of, fault_text, status_of, of_debug_fault, of_feed_fault, of_read_fault, of_rope_fault, of_source_fault, of_table_fault};
 
 use arrayvec::ArrayVec;
 use debugger::DebugFault;
 use feed::FeedFault;
+use names::TableFault;
 use rope::RopeFault;
 use std::fmt;
 use words::{ReadFault, Write, WriteFailed, push_all, push_decimal, write_all};
@@ -29,7 +30,9 @@ pub enum WorkshopFault {
     Feed(FeedFault),
     /// The rope image has a fault.
     Rope(RopeFault),
-    /// The source or the feed has more than 8,388,608 bytes.
+    /// The line of this number of a table of names has no form that is taken.
+    Table(u32),
+    /// The source, the feed or the table of names has more than 8,388,608 bytes.
     TooLong,
 }
 
@@ -92,6 +95,17 @@ impl From<RopeFault> for WorkshopFault {
     }
 }
 
+impl From<TableFault> for WorkshopFault {
+    ghost from_gives = { λ fault e. e ≡ of_table_fault fault };
+
+    fn from(fault: TableFault) -> WorkshopFault {
+        match fault {
+            TableFault::NoMemory => WorkshopFault::NoMemory,
+            TableFault::Line(line) => WorkshopFault::Table(line),
+        }
+    }
+}
+
 impl From<DebugFault> for WorkshopFault {
     ghost from_gives = { λ fault e. e ≡ of_debug_fault fault };
 
@@ -116,6 +130,7 @@ impl WorkshopFault {
             WorkshopFault::Source(fault) => fault.number,
             WorkshopFault::Feed(fault) => fault.number(),
             WorkshopFault::Rope(fault) => fault.number(),
+            WorkshopFault::Table(_) => 36,
             WorkshopFault::TooLong => 34,
         }
     }
@@ -127,6 +142,7 @@ impl WorkshopFault {
         match self {
             WorkshopFault::Source(fault) if fault.line > 0 => Some(fault.line),
             WorkshopFault::Feed(fault) => fault.line(),
+            WorkshopFault::Table(line) => Some(*line),
             _ => None,
         }
     }
@@ -141,7 +157,7 @@ impl WorkshopFault {
             WorkshopFault::Feed(FeedFault::NoMemory | FeedFault::ReadFailed) => 3,
             WorkshopFault::Rope(RopeFault::NoMemory | RopeFault::ReadFailed) => 3,
             WorkshopFault::Source(_) | WorkshopFault::Feed(_) | WorkshopFault::Rope(_) => 1,
-            WorkshopFault::TooLong => 1,
+            WorkshopFault::Table(_) | WorkshopFault::TooLong => 1,
         }
     }
 }

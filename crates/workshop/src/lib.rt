@@ -3,6 +3,7 @@
 
 mod assembly;
 mod checking;
+mod commands_end;
 mod covering;
 mod debugging;
 mod ending;
@@ -10,14 +11,17 @@ mod engine;
 mod fault;
 mod inputs;
 pub mod laws;
+mod naming;
 mod noting;
 mod origin;
 mod progress;
+mod refused;
 mod ropes;
 mod tracing;
 
 pub use assembly::{asm_engine, asm_with_check_words, report_no_room};
-pub use checking::check_engine;
+pub use checking::{Tally, check_feed, check_source, write_tally};
+pub use commands_end::{Counted, tell_commands_end};
 pub use covering::{cover_and_tell, cover_program};
 pub use debugger::{debug_session, extended_session};
 pub use debugging::{
@@ -30,14 +34,16 @@ pub use engine::{
 };
 pub use fault::{WorkshopFault, report};
 pub use faults::{Refusal, all_headings, explanation, refusal_of};
+pub use naming::read_names;
 pub use noting::run_with_notes;
 pub use origin::Origin;
 pub use progress::Unheard;
+pub use refused::report_where;
 pub use rope::{Form, InForm, Version};
 pub use ropes::{
-    compare_engine, compare_only_engine, parity_engine, source_engine, sums_engine, upgrade_engine,
-    words_engine,
+    compare_engine, compare_only_engine, form_sums_engine, named_words_engine, parity_engine,
+    source_engine, sums_engine, upgrade_engine, words_engine,
 };
 pub use space::numbers::Bank;
 pub use tracing::{trace_and_tell, trace_program};
-pub use yayul::Language;
+pub use yayul::{Language, Symbols};

@@ -6,7 +6,7 @@ ghost use Rattle.notes.specs.RunNotes.{notes_text};
 ghost use Rattle.workshop.specs.Failures.{reader, writer};
 ghost use Rattle.workshop.specs.Inputs.{assembled};
 ghost use Rattle.workshop.specs.Loading.{Reads, ReadsText};
-ghost use Rattle.workshop.specs.Notings.{EndsNoted, ReadsNamed, RunsNoted, named_of};
+ghost use Rattle.workshop.specs.Notings.{EndsNoted, ReadsNamed, ReadsNamedImage, RunsNoted, named_of};
 ghost use Rattle.workshop.specs.Progress.{TellsRun};
 ghost use Rattle.workshop.specs.Runs.{Makes, summary_of};
 ghost use Rattle.cpu.specs.State.{Scenario};
@@ -18,7 +18,7 @@ use crate::origin::Origin;
 use crate::progress::tell;
 use cpu::{Machine, Processor};
 use notes::{Notebook, write_notes};
-use rope::Rope;
+use rope::{Rope, Version};
 use space::numbers::Eras;
 use std::alloc::Global;
 use trace::PlaceNames;
@@ -86,18 +86,29 @@ fn read_named<P: Read>(
 {
     match origin {
         Origin::Source(language) => read_named_source(alloc, language, program),
-        Origin::Image(version) => {
-            let Ok(named) = NamedPlaces::nothing(alloc) else {
-                return Err(WorkshopFault::NoMemory);
-            };
-            let rope = Rope::read(alloc, program, version)?;
-            Ok(NamedCode {
-                rope,
-                symbols: Symbols::new(alloc),
-                named,
-            })
-        }
+        Origin::Image(version) => read_unnamed(alloc, version, program),
+        Origin::NamedImage(version, _) => read_unnamed(alloc, version, program),
     }
+}
+
+/// Reads an image, whose words name no place.
+fn read_unnamed<P: Read>(
+    alloc: Global,
+    version: Version,
+    program: &mut P,
+) -> Result<NamedCode, WorkshopFault>
+    ensures { Reads (λ old new. ReadsNamedImage version old new)
+        (reader P.told P.left P.failures program.old) (reader P.told P.left P.failures program.new) result }
+{
+    let Ok(named) = NamedPlaces::nothing(alloc) else {
+        return Err(WorkshopFault::NoMemory);
+    };
+    let rope = Rope::read(alloc, program, version)?;
+    Ok(NamedCode {
+        rope,
+        symbols: Symbols::new(alloc),
+        named,
+    })
 }
 
 /// Reads a source of a language, and which erasable places its words name.

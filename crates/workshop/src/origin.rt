@@ -11,12 +11,14 @@ use words::Read;
 use yayul::{Language, Symbols};
 
 /// Where the words of a program come from.
-#[derive(Clone, Copy, PartialEq, Eq, Debug, Drop)]
+#[derive(Drop)]
 pub enum Origin {
     /// The text of a source of a language, which is assembled.
     Source(Language),
     /// A rope image of a version, which has no symbols.
     Image(Version),
+    /// A rope image of a version, with names that stand for its places.
+    NamedImage(Version, Symbols),
 }
 
 impl Origin {
@@ -34,6 +36,10 @@ impl Origin {
             Origin::Image(version) => {
                 let rope = Rope::read(alloc, file, version)?;
                 Ok((rope, Symbols::new(alloc)))
+            }
+            Origin::NamedImage(version, names) => {
+                let words = Rope::read(alloc, file, version)?;
+                Ok((words, names))
             }
         }
     }

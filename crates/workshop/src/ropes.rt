@@ -1,21 +1,28 @@
 //! The engines that read images: they show them as text, compare them, and upgrade them.
 
 ghost use Rattle.std.specs.Prelude.{ℕ, List};
+ghost use Rattle.audit.specs.FormSums.{form_lines};
 ghost use Rattle.audit.specs.SourceLines.{source_text};
 ghost use Rattle.audit.specs.Sums.{sum_lines};
 ghost use Rattle.audit.specs.WordLines.{word_lines};
+ghost use Rattle.names.specs.NamedLines.{named_lines};
 ghost use Rattle.rope.specs.Image.{image};
 ghost use Rattle.workshop.specs.Failures.{Reader, reader, writer};
 ghost use Rattle.workshop.specs.Ropes.{Compares, ComparesNext, ComparesOnly, Shows, TellsParity};
 
 use crate::fault::WorkshopFault;
 use crate::inputs::read_program;
-use audit::{Extent, write_differences, write_parities, write_source, write_sums, write_words};
+use audit::{
+    Extent, write_differences, write_form_sums, write_parities, write_source, write_sums,
+    write_words,
+};
+use names::write_named_words;
 use rope::{Dump, Rope, Version};
 use space::numbers::Bank;
 use std::alloc::Global;
+use trace::PlaceNames;
 use words::{Read, Write};
-use yayul::Language;
+use yayul::{Language, Symbols};
 
 /// Reads a rope image of a version to its end, and writes a line for each word of a bank, or of all banks: its place, the
 /// word, and the instruction that it is.
@@ -34,6 +41,30 @@ pub fn words_engine<R: Read, W: Write>(
 {
     let rope = Rope::read(alloc, image, version)?;
     Ok(write_words(&rope, bank, out)?)
+}
+
+/// Reads a rope image of a version to its end, and writes a line for each word of a bank, or of all banks, as `words_engine` does, with
+/// names for the places to which the words lead.
+///
+/// That there is no memory for the names is answered before anything is read, else the first fault of the image; then nothing is
+/// written.
+pub fn named_words_engine<R: Read, W: Write>(
+    alloc: Global,
+    names: Symbols,
+    image: &mut R,
+    version: Version,
+    bank: Option<Bank>,
+    out: &mut W,
+) -> Result<(), WorkshopFault>
+    ensures { Shows version (λ words. named_lines names words bank)
+        (record { image = reader R.told R.left R.failures image.old; out = writer W.told W.written W.failures out.old })
+        (record { image = reader R.told R.left R.failures image.new; out = writer W.told W.written W.failures out.new }) result }
+{
+    let Ok(named) = PlaceNames::new(alloc, names) else {
+        return Err(WorkshopFault::NoMemory);
+    };
+    let rope = Rope::read(alloc, image, version)?;
+    Ok(write_named_words(&rope, &named, bank, out)?)
 }
 
 /// Reads a rope image of a version to its end, and writes a source that gives the words of a bank, or of all banks.
@@ -69,6 +100,24 @@ pub fn sums_engine<R: Read, W: Write>(
 {
     let words = Rope::read(alloc, rope, version)?;
     Ok(write_sums(&words, out)?)
+}
+
+/// Reads a rope image of a version to its end, and writes a line for each bank: its number, the sums of its words in both orders of
+/// the bits, and in which the sum is the bank's number or the complement of it.
+///
+/// The first fault of the image is answered, and then nothing is written.
+pub fn form_sums_engine<R: Read, W: Write>(
+    alloc: Global,
+    rope: &mut R,
+    version: Version,
+    out: &mut W,
+) -> Result<(), WorkshopFault>
+    ensures { Shows version (form_lines version)
+        (record { image = reader R.told R.left R.failures rope.old; out = writer W.told W.written W.failures out.old })
+        (record { image = reader R.told R.left R.failures rope.new; out = writer W.told W.written W.failures out.new }) result }
+{
+    let rope = Rope::read(alloc, rope, version)?;
+    Ok(write_form_sums(&rope, version, out)?)
 }
 
 /// Reads a rope image of version 1 to its end, and writes the image of the same words in version 2.

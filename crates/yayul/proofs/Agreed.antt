@@ -6,7 +6,7 @@ use Rattle.std.specs.List.{list_any}
 use Rattle.std.specs.Option.{option_map_or}
 use Rattle.std.specs.Result.{result_err, result_unwrap_or}
 use Rattle.rope.specs.Places.{Words, bank_words, stands, with_words}
-use Rattle.yayul.specs.Layout.{Request, Layout, LineEffect, width, stands_at, word_place, after_words, lacks_room, extends, is_taken, is_taken_at, is_erasable, fault_if, standing, label_faults, defined, asked, asked_here, gives, label_alone, relocated, bank_target, erase, valued, ebank, and_then, location_at, early_value}
+use Rattle.yayul.specs.Layout.{Request, Layout, LineEffect, width, stands_at, word_place, after_words, lacks_room, extends, is_taken, is_taken_at, is_erasable, fault_if, standing, label_faults, defined, asked, asked_here, gives, label_alone, relocated, bank_target, equals, erase, ebank, and_then, location_at, early_value}
 use Rattle.yayul.specs.Words.{request_words, request_faults, extracode_of, extracode_fault}
 use Rattle.yayul.specs.Program.{placed_from}
 use Rattle.yayul.specs.Language.{BankFull, BankRange, CodeInErasable, Content, FaultKind, Fixed, Label, Location, Malformed, Missing, Named, NoMemory, Numeral, Operand, PlaceTaken, Undefined, Value}
@@ -20,12 +20,12 @@ use Rattle.yayul.proofs.Asked.{defined_keeps, free_place, here_value, meets_none
 use Rattle.yayul.proofs.Grown.{holds-named, known-named}
 use Rattle.yayul.proofs.Kept.{holds-next, holds-settled, holds-put_aside, known-settled, known-put_aside}
 use Rattle.yayul.proofs.Least.{none_least}
-use Rattle.yayul.proofs.Lifted.{Lifts, defined_after, defined_more, defined_requests, alone_lifts, relocated_lifts, ebank_lifts, erase_lifts, valued_lifts, target_by_ends}
+use Rattle.yayul.proofs.Lifted.{Lifts, defined_after, defined_more, defined_requests, alone_lifts, relocated_lifts, ebank_lifts, erase_lifts, equals_lifts, target_by_ends}
 use Rattle.yayul.proofs.Standing.{stands-held}
 
 -- ## Lines that ask for no words
 -- names more leave what is held as it is
-named_keeps : (line : ℕ) (s : Layout) (p : Placing) (names : List (List ℕ × Value)) → Keeps line s p → Keeps line (record s { symbols = s.symbols ++ names }) p
+pub named_keeps : (line : ℕ) (s : Layout) (p : Placing) (names : List (List ℕ × Value)) → Keeps line s p → Keeps line (record s { symbols = s.symbols ++ names }) p
 named_keeps line s p names keeps =
     record {
       holds = holds-named s.symbols names (map request_of p.waiting.items) line s.requests p.rope p.fault keeps.holds keeps.known;
@@ -85,11 +85,11 @@ module _ (line : ℕ) (s : Layout) (l after : Held) (p : Placing) (label : Label
       agreed line s l after p (erase (with_requests [] s) label count) (erase s label count) result agrees (erase_lifts s label count)
       (subst (λ t. LeadsTo (erase t label count) (layout_of after) result) agrees.same leads)
 
-  pub agreed_equals : (operand : Option Operand) (result : Result (Unit {0}) FaultKind) → LeadsTo (valued (layout_of l) label (early_value (layout_of l) operand)) (layout_of after) result
-      → LeadsOn line (valued s label (early_value s operand)) after p result
+  pub agreed_equals : (operand : Option Operand) (result : Result (Unit {0}) FaultKind) → LeadsTo (equals line (layout_of l) label operand) (layout_of after) result
+      → LeadsOn line (equals line s label operand) after p result
   agreed_equals operand result leads =
-      agreed line s l after p (valued (with_requests [] s) label (early_value s operand)) (valued s label (early_value s operand)) result agrees (valued_lifts s label (early_value s operand))
-      (subst (λ t. LeadsTo (valued t label (early_value t operand)) (layout_of after) result) agrees.same leads)
+      agreed line s l after p (equals line (with_requests [] s) label operand) (equals line s label operand) result agrees (equals_lifts s line label operand)
+      (subst (λ t. LeadsTo (equals line t label operand) (layout_of after) result) agrees.same leads)
 
   pub agreed_ebank : (operand : Option Operand) (result : Result (Unit {0}) FaultKind) → LeadsTo (ebank (layout_of l) label operand) (layout_of after) result → LeadsOn line (ebank s label operand) after p result
   agreed_ebank operand result leads =

@@ -8,7 +8,7 @@ use Rattle.std.specs.List.{list_any}
 use Rattle.std.specs.Option.{option_map_or}
 use Rattle.std.specs.Result.{result_unwrap_or}
 use Rattle.rope.specs.Places.{bank_words}
-use Rattle.yayul.specs.Layout.{statement_on, Request, and_then, value_here, early_value, defined, asked, asked_here, fault_if, standing, on_line, Layout, width, lacks_room, after_words, stands_at, is_taken, is_malformed, is_twice, is_erasable, word_place, gives, statement_effect, text_faults, line_effect, line_faults, layout_after, layout_faults}
+use Rattle.yayul.specs.Layout.{LineEffect, statement_on, Request, and_then, value_here, early_value, defined, asked, asked_here, fault_if, standing, on_line, Layout, width, lacks_room, after_words, stands_at, is_taken, is_malformed, is_twice, is_erasable, word_place, gives, statement_effect, text_faults, line_effect, line_faults, layout_after, layout_faults}
 use Rattle.yayul.specs.Inside.Sound.{AreFrom, AreRising, AreApart, AreBelow, AreOrdered, meets}
 use Rattle.yayul.specs.declared.faults.Fault.{Fault}
 use Rattle.yayul.specs.declared.faults.FaultKind.{FaultKind}
@@ -22,6 +22,7 @@ use Rattle.yayul.specs.declared.language.Operation.TheVariants.{Nothing, Unknown
 use Rattle.yayul.specs.declared.language.Content.{Content}
 use Rattle.symbols.specs.declared.values.Value.{Value}
 use Rattle.symbols.specs.declared.values.Value.TheVariants.{Fixed}
+use Rattle.yayul.proofs.Equalled.{by_later, promise_requests}
 use Rattle.yayul.proofs.Taken.{or-parts}
 
 -- a request asks for a word at a place
@@ -133,7 +134,8 @@ statement_next line s label Unknown e = inl refl
 statement_next line s label (Setloc operand) e = inl refl
 statement_next line s label (Bank taken number) e = inl refl
 statement_next line s label (Erase count) e = label_next line s label (value_here s.location)
-statement_next line s label (Equals operand) e = equals_next line s label (early_value s operand)
+statement_next line s label (Equals operand) e =
+    by_later (λ (x : LineEffect). IsNext line s.requests x.after.requests) line s label operand (λ value. equals_next line s label value) (λ o. inl (promise_requests line s label o))
 statement_next line s label (Ebank operand) e = inl refl
 statement_next line s label (Gives None) e = inl refl
 statement_next line s label (Gives (Some content)) e = gives_next line s label content e
@@ -146,7 +148,7 @@ no_others (k ∷ kinds) others e = absurd (cc)
 line_next : (line : ℕ) (s : Layout) (text : List ℕ) → line_faults line s text ≡ [] → IsNext line s.requests (line_effect line s text).after.requests
 unfolding line_effect
 line_next line s text e =
-    statement_next line s (statement_on s text).label (statement_on s text).operation (no_others (text_faults line text) (line_effect line s text).faults e)
+    statement_next line s (statement_on s text).label (statement_on s text).operation (no_others (text_faults s.language line text) (line_effect line s text).faults e)
 
 from-push : (n : ℕ) (rs : List Request) (r : Request) → AreFrom n rs → n ≤ r.line → AreFrom n (rs ++ r ∷ [])
 from-push n [] r p le = (le, tt)

@@ -1,5 +1,5 @@
 -- What a line taken apart says is what its pieces say.
-use Rattle.std.proofs.Common.{◌≡◌, List, [], ◌∷◌, length, nat_lt, Bool, true, Option, None, Some, ℕ, refl, ap, ◌∙◌, arith}
+use Rattle.std.proofs.Common.{◌≡◌, List, [], ◌∷◌, length, nat_lt, Bool, true, false, Option, None, Some, ℕ, drop, refl, ap, sym, ◌∙◌, arith}
 use Rattle.std.specs.Prelude.{if◌then◌else◌}
 use Rattle.std.proofs.lemmas.Bool.Decides.{nat_tests}
 use Rattle.std.proofs.lemmas.Option.{same_Some}
@@ -10,10 +10,10 @@ use Rattle.agc_text.specs.Views.{piece}
 use Rattle.agc_text.specs.declared.fields.Field.{Field}
 use Rattle.agc_text.specs.declared.fields.Line.{Line}
 use Rattle.yayul.specs.Operators.{operators}
-use Rattle.yayul.specs.Forms.{operation_in, operation_of}
-use Rattle.yayul.specs.Flight.{flight_operator, flight_operation_of, flight_operation_in, scales_after}
+use Rattle.yayul.specs.Forms.{operand_in, operation_in, operation_of}
+use Rattle.yayul.specs.Flight.{flight_operand_in, flight_operator, flight_operation_of, flight_operation_in, is_signed_name, named_operand, scales_after, standard_operation_of}
 use Rattle.yayul.specs.Inside.Representation.{text_of, followed_by, arguments_of, operation_by, flight_operation_by}
-use Rattle.yayul.specs.Language.{FlightOperator, Location, Octals, Operation, Operator, Nothing, PassedOver, VerbNoun}
+use Rattle.yayul.specs.Language.{FlightOperator, Location, Octals, Operand, Operation, Operator, Nothing, PassedOver, VerbNoun}
 use Rattle.agc_text.specs.Tables.{value_in}
 
 -- the text of a field is that of its piece
@@ -48,6 +48,19 @@ many (Some (Operator.Plain code)) a b c d more others = refl
 many (Some (Operator.Addressed code)) a b c d more others = refl
 many (Some (Operator.ToNext code)) a b c d more others = refl
 
+standard_many : (operator : Operator) → Alike (standard_operation_of operator)
+standard_many Operator.Setloc a b c d more others = refl
+standard_many (Operator.Bank taken) a b c d more others = refl
+standard_many Operator.Erase a b c d more others = refl
+standard_many Operator.Equals a b c d more others = refl
+standard_many Operator.Ebank a b c d more others = refl
+standard_many Operator.Octal a b c d more others = refl
+standard_many Operator.Decimal a b c d more others = refl
+standard_many Operator.FarAddress a b c d more others = refl
+standard_many (Operator.Plain code) a b c d more others = refl
+standard_many (Operator.Addressed code) a b c d more others = refl
+standard_many (Operator.ToNext code) a b c d more others = refl
+
 flight_many : (here : Location) (scales : List (List ℕ)) (operator : Option FlightOperator) → Alike (flight_operation_of here scales operator)
 flight_many here scales None a b c d more others = refl
 flight_many here scales (Some PassedOver) a b c d more others = refl
@@ -60,7 +73,7 @@ flight_many here scales (Some (FlightOperator.Decimal precision)) a b c d more o
 flight_many here scales (Some (FlightOperator.Complemented code)) a b c d more others = refl
 flight_many here scales (Some FlightOperator.FarComplement) a b c d more others = refl
 flight_many here scales (Some FlightOperator.BankWord) a b c d more others = refl
-flight_many here scales (Some (FlightOperator.Standard operator)) a b c d more others = many (Some operator) a b c d more others
+flight_many here scales (Some (FlightOperator.Standard operator)) a b c d more others = standard_many operator a b c d more others
 
 -- an operator says with fields what it says with the pieces after it
 with_arguments : (says : List (List ℕ) → Operation) → Alike says → (p : Piece) (rest : List Piece) → says (arguments_in (p ∷ rest)) ≡ says (texts rest)
@@ -107,3 +120,18 @@ flight_operation_by-pieces here line l pieces operator operand offset more =
     let a : arguments_of l ≡ arguments_in pieces =
     λ j. followed_by (text_of_piece l.operand (slice_get pieces 1) operand j) (followed_by (text_of_piece l.offset (slice_get pieces 2) offset j) (further (more j))) in
     flight_by_first here line (option_map piece l.operand) l.operator (arguments_of l) pieces operator operand a
+
+-- a name with a sign in front is an operand, with the offset
+pub signed_operand : (l : Line) (f : Field) (name : List ℕ) (result : Option Operand) → l.operand ≡ Some f → Some name ≡ (if is_signed_name f.text.now then Some f.text.now else None)
+    → result ≡ named_operand name (drop 1 (arguments_of l)) → result ≡ flight_operand_in (arguments_of l)
+signed_operand l f name result stands found says = says ∙ ap (λ a. named_operand name (drop 1 a)) args ∙ by_test (is_signed_name f.text.now) found ∙ ap flight_operand_in (sym args)
+  where
+    rest : List (List ℕ)
+    rest = followed_by (text_of l.offset) (further l.more)
+
+    args : arguments_of l ≡ f.text.now ∷ rest
+    args = ap (λ o. followed_by (text_of o) rest) stands
+
+    by_test : (b : Bool) → Some name ≡ (if b then Some f.text.now else None) → named_operand name rest ≡ (if b then named_operand f.text.now rest else operand_in (f.text.now ∷ rest))
+    by_test true e = ap (λ n. named_operand n rest) (same_Some name f.text.now e)
+    by_test false e = absurd (let bad : Some name ≡ None = e in cc)

@@ -8,9 +8,10 @@ use Rattle.yayul.specs.Operators.{operators}
 use Rattle.yayul.specs.Forms.{statement_of}
 use Rattle.yayul.specs.Flight.{flight_operators, uncounted_statement}
 use Rattle.yayul.specs.Layout.{fault_number, start, line_effect, layout_after}
+use Rattle.yayul.specs.Later.{with_values}
 use Rattle.yayul.specs.Words.{request_words, request_faults}
 use Rattle.yayul.specs.Program.{image_of, program}
-use Rattle.yayul.specs.Language.{Flight, Standard, FaultKind, BadLabel, TwiceDefined, UnknownOperator, BadOperand, BadBank, NotExtracode, WrongKindOfAddress, OutOfRange}
+use Rattle.yayul.specs.Language.{Flight, Standard, FaultKind, LongLine, BadLabel, TwiceDefined, UnknownOperator, BadOperand, BadBank, Undefined, UsedTooEarly, NotExtracode, WrongKindOfAddress, OutOfRange}
 
 -- a source of lines, each but the last followed by a semicolon here
 abbrev source : List ℕ → List ℕ
@@ -18,7 +19,7 @@ source text = map (λ byte. if byte == 0o73 then 0o12 else byte) text
 
 -- the bank, the offset and the word of each place that a source fills
 abbrev words : List ℕ → List (ℕ × ℕ × ℕ)
-words text = map (λ p. (p.bank, p.offset, p.word)) (image_of (layout_after 1 (start Flight) (lines text)))
+words text = map (λ p. (p.bank, p.offset, p.word)) (image_of (with_values (layout_after 1 (start Flight) (lines text))))
 
 -- sources with their words, in the order of their lines
 abbrev good : List (List ℕ × List (ℕ × ℕ × ℕ))
@@ -36,6 +37,14 @@ good =
     ∷ (codes " 2DEC .57735027; 2DEC 1738090 B-29; 2DEC -.1; 2DEC 3.986032 E10 B-36", (2, 0, 0o22363) ∷ (2, 1, 0o11643) ∷ (2, 2, 0o65) ∷ (2, 3, 0o1265) ∷ (2, 4, 0o74631) ∷ (2, 5, 0o63145) ∷ (2, 6, 0o22437) ∷ (2, 7, 0o16067) ∷ [])
     ∷ (codes " VN 0633; VN 9999; VN 0000", (2, 0, 0o1441) ∷ (2, 1, 0o30743) ∷ (2, 2, 0) ∷ [])
     ∷ (codes " -1DNADR 100; -2DNADR 400; -3DNADR 400; -4DNADR 400; -5DNADR 400; -6DNADR 154", (2, 0, 0o77677) ∷ (2, 1, 0o73377) ∷ (2, 2, 0o67377) ∷ (2, 3, 0o63377) ∷ (2, 4, 0o57377) ∷ (2, 5, 0o53623) ∷ [])
+    ∷ (codes " OCT 1 # a comment that goes on and on, as those of flight programs may, over more bytes than a line of the other language has, which are 120", (2, 0, 1) ∷ [])
+    ∷ (codes "-PHASE1 EQUALS 100; AD -PHASE1; TC -PHASE1 +1;+X/2 OCT 5; CA +X/2", (2, 0, 0o60100) ∷ (2, 1, 0o00101) ∷ (2, 2, 5) ∷ (2, 3, 0o34002) ∷ [])
+    ∷ (codes " TC 10000; TCF 10000; CA 12005; CADR 20000; TC 10000 +5; CA 77777", (2, 0, 0o2000) ∷ (2, 1, 0o12000) ∷ (2, 2, 0o32005) ∷ (2, 3, 0o10000) ∷ (2, 4, 0o2005) ∷ (2, 5, 0o33777) ∷ [])
+    ∷ (codes " SETLOC 10000; OCT 1; SETLOC 12000; OCT 2; SETLOC 20000; OCT 4", (0, 0, 1) ∷ (1, 0, 2) ∷ (4, 0, 4) ∷ [])
+    ∷ (codes "X EQUALS Y +1; CA X;Y EQUALS 100; CA X", (2, 0, 0o30101) ∷ (2, 1, 0o30101) ∷ [])
+    ∷ (codes "A = B;B = C +1;C = D;D = 5; CA A;E = F;F OCT 7; TC E; TC A", (2, 0, 0o30006) ∷ (2, 1, 7) ∷ (2, 2, 0o4001) ∷ (2, 3, 6) ∷ [])
+    ∷ (codes " 2CADR TAG; SETLOC 20000; OCT 1;TAG EQUALS PLACE -1; OCT 2;PLACE OCT 3", (2, 0, 0o2001) ∷ (2, 1, 0o10000) ∷ (4, 0, 1) ∷ (4, 1, 2) ∷ (4, 2, 3) ∷ [])
+    ∷ (codes " CA 10000 -4000;X EQUALS 7777 +1; CA X -1", (2, 0, 0o34000) ∷ (2, 1, 0o37777) ∷ [])
     ∷ (codes " BANK 5;X -CADR X; -GENADR X; -CCS 100; EBANK= 1400; -2CADR X; BBCON X", (5, 0, 0o65777) ∷ (5, 1, 0o75777) ∷ (5, 2, 0o67677) ∷ (5, 3, 0o75777) ∷ (5, 4, 0o65774) ∷ (5, 5, 0o12003) ∷ [])
     ∷ []
 
@@ -48,7 +57,31 @@ abbrev faulty : List (List ℕ × ℕ × FaultKind)
 faulty =
     (codes "X +3 OCT 5", 1, UnknownOperator)
     ∷ (codes "+ OCT 5", 1, BadLabel)
-    ∷ (codes "+3X OCT 5", 1, BadLabel)
+    ∷ (codes "-LONGNAME OCT 5", 1, BadLabel)
+    ∷ (codes "-A$ OCT 5", 1, BadLabel)
+    ∷ (codes "-X OCT 1;-X OCT 2", 2, TwiceDefined)
+    ∷ (codes " AD -", 1, BadOperand)
+    ∷ (codes " AD -8", 1, BadOperand)
+    ∷ (codes " AD -NONE", 1, Undefined)
+    ∷ (codes " AD -X Y;-X EQUALS 5", 1, BadOperand)
+    ∷ (codes " TC 14000", 1, OutOfRange)
+    ∷ (codes " TC 17777", 1, OutOfRange)
+    ∷ (codes " TC 77777 +1", 1, OutOfRange)
+    ∷ (codes " SETLOC 14000", 1, OutOfRange)
+    ∷ (codes "X EQUALS 10000; TC X", 2, OutOfRange)
+    ∷ (codes " EBANK= 10000", 1, WrongKindOfAddress)
+    ∷ (codes "X EQUALS Y;Y EQUALS X", 1, UsedTooEarly)
+    ∷ (codes "X EQUALS X", 1, UsedTooEarly)
+    ∷ (codes " CA X;X EQUALS NOWHERE", 2, UsedTooEarly)
+    ∷ (codes "X EQUALS Y; SETLOC X;Y EQUALS 5", 2, UsedTooEarly)
+    ∷ (codes " EBANK= Y;Y EQUALS 5", 1, UsedTooEarly)
+    ∷ (codes "X EQUALS Y;X EQUALS 5;Y EQUALS 6", 2, TwiceDefined)
+    ∷ (codes "X EQUALS Y;X EQUALS Z;Y EQUALS 6", 2, TwiceDefined)
+    ∷ (codes "X EQUALS Y;Y OCT 5;X OCT 6", 3, TwiceDefined)
+    ∷ (codes "X OCT 5;X EQUALS Y;Y EQUALS 6", 2, TwiceDefined)
+    ∷ (codes "X EQUALS Y +77777;Y EQUALS 5", 1, OutOfRange)
+    ∷ (codes " EQUALS Y;Y EQUALS 5", 1, BadLabel)
+    ∷ (codes " TC X;X EQUALS Y;Y EQUALS Z; FROB;Z EQUALS 5", 4, UnknownOperator)
     ∷ (codes " +3 +3 OCT 5", 1, UnknownOperator)
     ∷ (codes " EQUALS", 1, BadLabel)
     ∷ (codes "X EQUALS;X EQUALS", 2, TwiceDefined)
@@ -111,6 +144,12 @@ refused =
     ∷ (codes " DEC -1 B-14", 1, BadOperand)
     ∷ (codes " -CADR 4000", 1, UnknownOperator)
     ∷ (codes " BBCON 4000", 1, UnknownOperator)
+    ∷ (codes "X EQUALS Y;Y EQUALS 5", 1, UsedTooEarly)
+    ∷ (codes " OCT 1 # a comment that goes on and on, as those of flight programs may, over more bytes than a line of the other language has, which are 120", 1, LongLine)
+    ∷ (codes "-PHASE1 EQUALS 100", 1, BadLabel)
+    ∷ (codes " AD -PHASE1", 1, BadOperand)
+    ∷ (codes " TC 10000", 1, OutOfRange)
+    ∷ (codes " SETLOC 10000", 1, OutOfRange)
     ∷ []
 
 each_refused : map (λ row. program Standard (source row.0)) refused ≡ map (λ row. Err (record { line = row.1; number = fault_number row.2 })) refused

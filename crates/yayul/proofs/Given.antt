@@ -1,5 +1,5 @@
 -- A source of the words of some banks gives them.
-use Rattle.std.proofs.Common.{◌≡◌, ◌<◌, ◌≤◌, ◌+◌, ◌*◌, ◌^◌, ◌==◌, ◌&&◌, eqb, nat_le, nat_lt, ℕ, zero, suc, List, [], ◌∷◌, ◌++◌, length, map, Some, None, Ok, Bool, true, false, refl, arith, ◌∙◌, ap, sym, inl, inr}
+use Rattle.std.proofs.Common.{◌≡◌, ◌<◌, ◌≤◌, ◌+◌, ◌*◌, ◌^◌, ◌==◌, ◌&&◌, eqb, nat_le, nat_lt, ℕ, zero, suc, List, [], ◌∷◌, ◌++◌, length, map, Some, None, Ok, Bool, true, false, refl, arith, ◌∙◌, ap, sym, subst, inl, inr}
 use Rattle.std.specs.Prelude.{flat_map, if◌then◌else◌}
 use Rattle.std.specs.List.{list_all, list_any, range_with_len}
 use Rattle.std.proofs.lemmas.Bool.{cases_eq}
@@ -15,13 +15,13 @@ use Rattle.rope.proofs.PlaceLaws.{slot_at-no_words, slot_at-with_word, with_word
 use Rattle.yayul.specs.Layout.{Request, Layout, start, stands_at, bank_end, text_faults, line_effect, statement_effect, line_faults, layout_after, layout_faults, LineEffect}
 use Rattle.yayul.specs.Words.{request_words, request_faults, word_faults}
 use Rattle.yayul.specs.Program.{Program, program, placed}
-use Rattle.yayul.specs.Language.{Standard, Constant, Location, Statement}
+use Rattle.yayul.specs.Language.{Language, Standard, Constant, Location, Statement}
 use Rattle.yayul.proofs.Lines.{faultless_line}
 use Rattle.yayul.proofs.Said.{word_text, bank_text, word_said, bank_said}
 
 -- a layout at a fixed place, without a symbol
 abbrev pub at : ℕ → ℕ → List Request → Layout
-at bank offset requests = record { language = Standard; location = Location.Fixed bank offset; symbols = []; requests = requests; extracode = false; eb = 0 }
+at bank offset requests = record { language = Standard; location = Location.Fixed bank offset; symbols = []; promised = []; promises = []; requests = requests; extracode = false; eb = 0 }
 
 -- what the line of a word asks for
 abbrev pub asked_word : ℕ → ℕ → ℕ → ℕ → Request
@@ -34,11 +34,14 @@ pub record MayStand (line : ℕ) (text : List ℕ) : Type 0 where
   pub short : length text ≤ 120
   pub early : line < 65537
 
-no_text_faults : (line : ℕ) (text : List ℕ) → MayStand line text → text_faults line text ≡ []
-no_text_faults line text may =
-    let short : nat_lt line_length (length text) ≡ false = grind (arith, nat_tests, may.short) in
-    let early : eqb line 65537 ≡ false = grind (arith, nat_tests, may.early) in
-    rw (may.bytes, short, early) refl
+no_text_faults : (line : ℕ) (language : Language) (text : List ℕ) → MayStand line text → language ≡ Standard → text_faults language line text ≡ []
+no_text_faults line language text may standard = subst (λ (spoken : Language). text_faults spoken line text ≡ []) (sym standard) none
+  where
+    none : text_faults Standard line text ≡ []
+    none =
+        let short : nat_lt line_length (length text) ≡ false = grind (arith, nat_tests, may.short) in
+        let early : eqb line 65537 ≡ false = grind (arith, nat_tests, may.early) in
+        rw (may.bytes, short, early) refl
 
 word_effect : (line bank offset word : ℕ) (rs : List Request) (comment : List ℕ) → word < 8 ^ 5 → offset < 0o2000 → list_any (stands_at bank offset) rs ≡ false
     → line_effect line (at bank offset rs) (word_text word comment) ≡ record { faults = []; after = at bank (offset + 1) (rs ++ asked_word line bank offset word ∷ []) }
@@ -133,10 +136,10 @@ reached_more words first line bank offset rs lt within after before = record {
 
 -- ## Lines
 -- a line without a fault
-one_line : (line : ℕ) (s after : Layout) (text : List ℕ) (rest : List (List ℕ)) → MayStand line text → line_effect line s text ≡ record { faults = []; after = after }
+one_line : (line : ℕ) (s after : Layout) (text : List ℕ) (rest : List (List ℕ)) → MayStand line text → s.language ≡ Standard → line_effect line s text ≡ record { faults = []; after = after }
     → (layout_faults line s (text ∷ rest) ≡ layout_faults (line + 1) after rest) × (layout_after line s (text ∷ rest) ≡ layout_after (line + 1) after rest)
-one_line line s after text rest may effect =
-    let none : line_faults line s text ≡ [] = rw (no_text_faults line text may) (ap (λ (e : LineEffect). e.faults) effect) in (
+one_line line s after text rest may standard effect =
+    let none : line_faults line s text ≡ [] = rw (no_text_faults line s.language text may standard) (ap (λ (e : LineEffect). e.faults) effect) in (
       faultless_line line s text rest none ∙ ap (λ (e : LineEffect). layout_faults (line + 1) e.after rest) effect,
       ap (λ (e : LineEffect). layout_after (line + 1) e.after rest) effect,
     )
@@ -177,7 +180,7 @@ words_pass words comment first bank may lt after (suc n) line offset next rs res
     let word = word_at words bank offset in
     let texts = word_texts words comment bank (offset + 1) n ++ rest in
     let step = one_line line (at bank offset rs) (at bank (offset + 1) (rs ++ asked_word line bank offset word ∷ [])) (word_text word (comment bank offset)) texts
-    (record { bytes = may.bytes bank offset; short = may.short bank offset; early = omega (arith, is, most) })
+    (record { bytes = may.bytes bank offset; short = may.short bank offset; early = omega (arith, is, most) }) refl
     (word_effect line bank offset word rs (comment bank offset) (may.few bank offset) (omega (arith, whole)) (before.free bank offset (omega (arith, whole)) (omega arith))) in
     let more : place_number bank offset + 1 ≡ place_number bank (offset + 1) = omega arith in
     let later = words_pass words comment first bank may lt after n (line + 1) (offset + 1) next (rs ++ asked_word line bank offset word ∷ []) rest (omega (arith, whole)) (omega (arith, is)) most
@@ -197,7 +200,7 @@ banks_pass words comment first may zero bank line from offset next rs few after 
 banks_pass words comment first may (suc n) bank line from offset next rs few after is most before =
     let rest = banks_texts words comment (bank + 1) n in
     let step = one_line line (at from offset rs) (at bank 0 rs) (bank_text bank) (word_texts words comment bank 0 bank_words ++ rest)
-    (record { bytes = may.bank_bytes bank; short = may.bank_short bank; early = omega (arith, is, most) })
+    (record { bytes = may.bank_bytes bank; short = may.bank_short bank; early = omega (arith, is, most) }) refl
     (bank_effect line bank from offset rs (omega (arith, few)) (before.end bank (omega arith))) in
     let middle : ℕ = line + 1 + bank_words in
     let here = words_pass words comment first bank may (omega (arith, few)) after bank_words (line + 1) 0 middle rs rest (omega arith) refl (omega (arith, is, most)) before in

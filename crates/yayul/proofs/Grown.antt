@@ -33,6 +33,7 @@ module _ (table more : List (List ℕ × Value)) where
 
   term-stays : (here : Value) (t : Term) → Stays (term_value Undefined table here t) (term_value Undefined (table ++ more) here t)
   term-stays here (term.Number number) = inr refl
+  term-stays here (term.Place bank offset) = inr refl
   term-stays here term.Here = inr refl
   term-stays here (term.Named name) = by_value (value_in table name) refl
     where

@@ -8,7 +8,7 @@ use Rattle.agc_text.specs.Tables.{value_in}
 use Rattle.symbols.specs.Values.{place_of}
 use Rattle.yayul.specs.Operators.{is_bank}
 use Rattle.yayul.specs.Forms.{greatest_number}
-use Rattle.yayul.specs.Layout.{Layout, fault_number, fault_if, standing, and_then, moved, moved_value, term_value, value_of, location_of, location_at, erasable_number, erasable_place, value_here, early_value, is_malformed, is_missing, is_twice, is_taken, is_erasable, lacks_room, width, bank_target, erased_to, statement_effect}
+use Rattle.yayul.specs.Layout.{Layout, fault_number, fault_if, standing, and_then, moved, moved_value, term_value, value_of, location_of, location_at, erasable_number, erasable_place, value_here, early_value, is_malformed, is_missing, is_twice, is_taken, is_erasable, lacks_room, width, bank_target, erased_to, equals, is_later, promised, valued, statement_effect}
 use Rattle.yayul.specs.Inside.Answers.{lesser_kind, least_kind}
 use Rattle.yayul.specs.Language.{FaultKind, NotAscii, LongLine, TooManyLines, BadLabel, TwiceDefined, UnknownOperator, BadOperand, UsedTooEarly, BadBank, BankFull, PlaceTaken, CodeInErasable, NeedsExtend, NoMemory, NotExtracode, OutOfRange, Undefined, WrongKindOfAddress, Label, Operation, Nothing, Unknown, Setloc, Bank, Erase, Equals, Ebank, Gives, BankRange, Numeral, NoForm, TooLarge, Is, Operand, Shift, Plus, Minus, Term, Value, Num, Erasable, Fixed, Location}
 
@@ -77,6 +77,7 @@ moved_value_late shift (Fixed bank n) = then_late (λ m. Ok (Fixed bank m)) (mov
 term_late : (table : List (List ℕ × Value)) (here : Value) (term : Term) → FailsLate (term_value UsedTooEarly table here term)
 term_late table here (Term.Number number) = then_late (λ n. Ok (Num n)) (ok_or number OutOfRange) (ok_or_late number OutOfRange refl) (λ n. tt)
 term_late table here (Term.Named name) = ok_or_late (value_in table name) UsedTooEarly refl
+term_late table here (Term.Place bank offset) = tt
 term_late table here Term.Here = tt
 
 early_late : (s : Layout) (operand : Option Operand) → FailsLate (early_value s operand)
@@ -116,6 +117,20 @@ bare_late label r late =
     stands_late (fault_if (not (is_missing label)) BadLabel) (result_err r ∷ []) (late_if (not (is_missing label)) BadLabel refl)
     (stands_late (result_err r) [] (late_err r late) tt)
 
+valued_late : (s : Layout) (label : Label) (value : Result Value FaultKind) → FailsLate value → AreLate (valued s label value).faults
+valued_late s label value late =
+    stands_late (fault_if (is_missing label || is_malformed label) BadLabel) (fault_if (is_twice s label) TwiceDefined ∷ result_err value ∷ []) (late_if (is_missing label || is_malformed label) BadLabel refl)
+    (stands_late (fault_if (is_twice s label) TwiceDefined) (result_err value ∷ []) (late_if (is_twice s label) TwiceDefined refl)
+    (stands_late (result_err value) [] (late_err value late) tt))
+
+equals_late : (line : ℕ) (s : Layout) (label : Label) (operand : Option Operand) → AreLate (equals line s label operand).faults
+equals_late line s label None = valued_late s label (Err BadOperand) refl
+equals_late line s label (Some operand) = by_test (is_later s operand)
+  where
+    by_test : (b : Bool) → AreLate (if b then promised line s label operand else valued s label (early_value s (Some operand))).faults
+    by_test true = valued_late s label (Ok (Num 0)) tt
+    by_test false = valued_late s label (early_value s (Some operand)) (early_late s (Some operand))
+
 pub statement_late : (line : ℕ) (s : Layout) (label : Label) (operation : Operation) → AreLate (statement_effect line s label operation).faults
 statement_late line s label Nothing =
     label_late s label (fault_if (not (is_missing label) && lacks_room 1 s.location) BankFull ∷ [])
@@ -127,10 +142,7 @@ statement_late line s label (Erase count) =
     label_late s label (fault_if (not (is_missing label) && lacks_room 1 s.location) BankFull ∷ result_err (erased_to s.location count) ∷ [])
     (stands_late (fault_if (not (is_missing label) && lacks_room 1 s.location) BankFull) (result_err (erased_to s.location count) ∷ []) (late_if (not (is_missing label) && lacks_room 1 s.location) BankFull refl)
     (stands_late (result_err (erased_to s.location count)) [] (late_err (erased_to s.location count) (erased_late s.location count)) tt))
-statement_late line s label (Equals operand) =
-    stands_late (fault_if (is_missing label || is_malformed label) BadLabel) (fault_if (is_twice s label) TwiceDefined ∷ result_err (early_value s operand) ∷ []) (late_if (is_missing label || is_malformed label) BadLabel refl)
-    (stands_late (fault_if (is_twice s label) TwiceDefined) (result_err (early_value s operand) ∷ []) (late_if (is_twice s label) TwiceDefined refl)
-    (stands_late (result_err (early_value s operand)) [] (late_err (early_value s operand) (early_late s operand)) tt))
+statement_late line s label (Equals operand) = equals_late line s label operand
 statement_late line s label (Ebank operand) =
     bare_late label _ (then_late erasable_place (early_value s operand) (early_late s operand) (λ v. then_late erasable_number (location_at v) (location_late v) erasable_late))
 statement_late line s label (Gives None) = label_late s label (Some BadOperand ∷ []) (refl, tt)

@@ -20,6 +20,7 @@ mod Names
 mod NamedRows
 mod Nearest
 mod Apart
+mod Equalled
 mod Once
 mod Standing
 mod Grown
@@ -35,6 +36,7 @@ mod Patched
 mod Ended
 mod Lifted
 mod Agreed
+mod Finished
 pub mod Octals
 pub mod Said
 pub mod Given

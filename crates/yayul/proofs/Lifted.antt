@@ -1,11 +1,12 @@
 -- What a line does that asks for no words is the same, whatever requests stand before it.
-use Rattle.std.proofs.Common.{◌≡◌, ℕ, true, List, [], ◌∷◌, ◌++◌, Option, Result, Ok, Err, refl, ap, sym, inl, inr, append-nil, ◌<◌, arith}
+use Rattle.std.proofs.Common.{◌≡◌, ℕ, Bool, true, false, List, [], ◌∷◌, ◌++◌, Option, None, Some, Result, Ok, Err, refl, ap, sym, inl, inr, append-nil, ◌<◌, arith}
 use Rattle.std.proofs.lemmas.Bool.{cases_Bool}
 use Rattle.std.proofs.lemmas.Bool.Decides.{nat_tests}
+use Rattle.std.specs.Prelude.{if◌then◌else◌}
 use Rattle.rope.specs.Places.{banks}
 use Rattle.yayul.specs.Operators.{is_bank}
-use Rattle.yayul.specs.Layout.{Layout, LineEffect, defined, value_here, label_alone, relocated, bank_target, erase, valued, ebank}
-use Rattle.yayul.specs.Language.{All, BankRange, TwoOrThree, Label, Malformed, Missing, Named, FaultKind, Operand, Numeral, NoForm, TooLarge, Is, Value, Location}
+use Rattle.yayul.specs.Layout.{Layout, LineEffect, defined, value_here, label_alone, relocated, bank_target, early_value, equals, erase, is_later, promised, valued, ebank}
+use Rattle.yayul.specs.Language.{All, BadOperand, BankRange, TwoOrThree, Label, Malformed, Missing, Named, FaultKind, Operand, Numeral, NoForm, TooLarge, Is, Value, Location}
 use Rattle.yayul.specs.Inside.Answers.{with_requests}
 use Rattle.yayul.specs.Inside.Representation.{bank_target_by}
 use Rattle.yayul.specs.Inside.Sound.{AreEnds}
@@ -88,6 +89,20 @@ module _ (s : Layout) where
       record { faults = valued_faults label (Ok value); after = defined_after label value; requests = defined_requests label value; symbols = defined_more s label value }
   valued_lifts label (Err kind) =
       record { faults = valued_faults label (Err kind); after = refl; requests = refl; symbols = none_more s.symbols }
+
+  promised_lifts : (line : ℕ) (label : Label) (operand : Operand) → Lifts s (promised line bare label operand) (promised line s label operand)
+  promised_lifts line Missing operand = record { faults = refl; after = refl; requests = refl; symbols = none_more s.symbols }
+  promised_lifts line Malformed operand = record { faults = refl; after = refl; requests = refl; symbols = none_more s.symbols }
+  promised_lifts line (Named name) operand = record { faults = refl; after = refl; requests = refl; symbols = none_more s.symbols }
+
+  pub equals_lifts : (line : ℕ) (label : Label) (operand : Option Operand) → Lifts s (equals line bare label operand) (equals line s label operand)
+  equals_lifts line label None = valued_lifts label (Err BadOperand)
+  equals_lifts line label (Some operand) = by_test (is_later s operand)
+    where
+      by_test : (b : Bool)
+          → Lifts s (if b then promised line bare label operand else valued bare label (early_value s (Some operand))) (if b then promised line s label operand else valued s label (early_value s (Some operand)))
+      by_test true = promised_lifts line label operand
+      by_test false = valued_lifts label (early_value s (Some operand))
 
 -- the bank that an operator takes is one of those with words
 taken_bank : (taken : BankRange) (n : ℕ) → is_bank taken n ≡ true → n < banks

@@ -1,5 +1,5 @@
 -- No name is defined twice.
-use Rattle.std.proofs.Common.{◌≡◌, ◌≢◌, ℕ, zero, suc, ◌+◌, ◌<◌, true, false, not, ◌&&◌, ◌||◌, get_or, length, List, [], ◌∷◌, Option, Some, None, is_some, Result, Ok, Err, refl, sym, subst, inl, inr, arith}
+use Rattle.std.proofs.Common.{◌≡◌, ◌≢◌, ℕ, zero, suc, ◌+◌, ◌<◌, true, false, not, ◌&&◌, ◌||◌, get_or, length, List, [], ◌∷◌, ◌++◌, Option, Some, None, is_some, Result, Ok, Err, refl, sym, subst, inl, inr, arith}
 use Rattle.std.proofs.lemmas.Bool.{cases_Bool}
 use Rattle.std.proofs.lemmas.Cmp.{nat_list_eq_equiv}
 use Rattle.std.proofs.lemmas.List.Quantifiers.{all_pairs_push}
@@ -8,11 +8,14 @@ use Rattle.std.specs.Option.{option_map_or}
 use Rattle.std.specs.Result.{result_err, result_unwrap_or}
 use Rattle.agc_text.specs.Lines.{lines}
 use Rattle.agc_text.specs.Tables.{same_name, value_in}
-use Rattle.yayul.specs.Layout.{statement_on, Layout, and_then, value_here, early_value, defined, asked, asked_here, fault_if, standing, start, width, lacks_room, is_taken, is_malformed, is_missing, is_twice, is_erasable, word_place, erased_to, statement_effect, text_faults, line_effect, line_faults, layout_after, layout_faults}
-use Rattle.yayul.specs.Program.{Program, least, completed, program, unless_fault}
+use Rattle.yayul.specs.Later.{first_fault, with_values}
+use Rattle.yayul.specs.Layout.{LineEffect, valued, statement_on, Layout, and_then, value_here, early_value, defined, asked, asked_here, fault_if, standing, start, width, lacks_room, is_taken, is_malformed, is_missing, is_twice, is_erasable, word_place, erased_to, statement_effect, text_faults, line_effect, line_faults, layout_after, layout_faults}
+use Rattle.yayul.specs.Program.{Program, least, completed, finished, program, unless_fault}
 use Rattle.yayul.specs.Language.{BadLabel, BankFull, Bank, CodeInErasable, Content, Ebank, Equals, Erase, Fault, FaultKind, Gives, Label, Language, Malformed, Missing, Named, Nothing, Operation, PlaceTaken, Setloc, TwiceDefined, Unknown, Value}
 use Rattle.yayul.specs.Laws.{NamesStandOnce, StandOnce}
 use Rattle.yayul.proofs.Asked.{none_stands, no_others, head_faults}
+use Rattle.yayul.proofs.Equalled.{by_later, promise_symbols, settled_holds}
+use Rattle.yayul.proofs.Taken.{or-parts}
 
 -- a name that a table does not have is the name of none of its entries
 is_of_none : (name : List ℕ) (table : List (List ℕ × Value)) (k : ℕ) (d : List ℕ × Value) → value_in table name ≡ None → k < length table → (get_or table k d).0 ≢ name
@@ -26,16 +29,20 @@ is_of_none name (e ∷ es) (suc k) d none lt =
       | inr apart ↦ is_of_none name es k d (rw apart at none) (omega (arith, lt))
     ]
 
--- a name that no earlier line defines is defined once
-defined_once : (s : Layout) (label : Label) (value : Value) → StandOnce s.symbols → is_twice s label ≡ false → StandOnce (defined s label value).symbols
-defined_once s Missing value once new = once
-defined_once s Malformed value once new = once
-defined_once s (Named name) value once new =
-    all_pairs_push (λ (a b : List ℕ × Value). a.0 ≢ b.0) s.symbols (name, value) once (λ k d lt. is_of_none name s.symbols k d (none_of (value_in s.symbols name) new) lt)
+-- a name that a table does not have is one more
+one_more : (table : List (List ℕ × Value)) (name : List ℕ) (value : Value) → is_some (value_in table name) ≡ false → StandOnce table → StandOnce (table ++ (name, value) ∷ [])
+one_more table name value new once =
+    all_pairs_push (λ (a b : List ℕ × Value). a.0 ≢ b.0) table (name, value) once (λ k d lt. is_of_none name table k d (none_of (value_in table name) new) lt)
   where
     none_of : (found : Option Value) → is_some found ≡ false → found ≡ None
     none_of None e = refl
     none_of (Some v) e = absurd (let bad : true ≡ false = e in cc)
+
+-- a name that no earlier line defines is defined once
+defined_once : (s : Layout) (label : Label) (value : Value) → StandOnce s.symbols → is_twice s label ≡ false → StandOnce (defined s label value).symbols
+defined_once s Missing value once new = once
+defined_once s Malformed value once new = once
+defined_once s (Named name) value once new = one_more s.symbols name value (or-parts (is_some (value_in s.symbols name)) (is_some (value_in s.promised name)) new).0 once
 
 -- where a label's faults do not stand, it is new
 new_label : (s : Layout) (label : Label) (others : List (Option FaultKind)) → standing (fault_if (is_malformed label) BadLabel ∷ fault_if (is_twice s label) TwiceDefined ∷ others) ≡ [] → is_twice s label ≡ false
@@ -56,6 +63,12 @@ equals_once : (s : Layout) (label : Label) (value : Result Value FaultKind) → 
 equals_once s label (Ok value) once new = defined_once s label value once new
 equals_once s label (Err kind) once new = once
 
+valued_once : (s : Layout) (label : Label) (value : Result Value FaultKind) → StandOnce s.symbols → (valued s label value).faults ≡ [] → StandOnce (valued s label value).after.symbols
+valued_once s label value once e =
+    equals_once s label value once
+    (none_stands (is_twice s label) TwiceDefined (result_err value ∷ [])
+    (none_stands (is_missing label || is_malformed label) BadLabel (fault_if (is_twice s label) TwiceDefined ∷ result_err value ∷ []) e).1).0
+
 -- a faultless line leaves each name defined once
 statement_once : (line : ℕ) (s : Layout) (label : Label) (operation : Operation) → StandOnce s.symbols → (statement_effect line s label operation).faults ≡ [] → StandOnce (statement_effect line s label operation).after.symbols
 statement_once line s label Nothing once e = defined_once s label (value_here s.location) once (new_label s label (fault_if (not (is_missing label) && lacks_room 1 s.location) BankFull ∷ []) e)
@@ -65,9 +78,8 @@ statement_once line s label (Bank taken number) once e = once
 statement_once line s label (Erase count) once e =
     defined_once s label (value_here s.location) once (new_label s label (fault_if (not (is_missing label) && lacks_room 1 s.location) BankFull ∷ result_err (erased_to s.location count) ∷ []) e)
 statement_once line s label (Equals operand) once e =
-    equals_once s label (early_value s operand) once
-    (none_stands (is_twice s label) TwiceDefined (result_err (early_value s operand) ∷ [])
-    (none_stands (is_missing label || is_malformed label) BadLabel (fault_if (is_twice s label) TwiceDefined ∷ result_err (early_value s operand) ∷ []) e).1).0
+    by_later (λ (x : LineEffect). x.faults ≡ [] → StandOnce x.after.symbols) line s label operand (λ value none. valued_once s label value once none)
+    (λ o none. subst (λ (symbols : List (List ℕ × Value)). StandOnce symbols) (sym (promise_symbols line s label o)) once) e
 statement_once line s label (Ebank operand) once e = once
 statement_once line s label (Gives None) once e = once
 statement_once line s label (Gives (Some content)) once e =
@@ -78,7 +90,7 @@ statement_once line s label (Gives (Some content)) once e =
 line_once : (line : ℕ) (s : Layout) (text : List ℕ) → StandOnce s.symbols → line_faults line s text ≡ [] → StandOnce (line_effect line s text).after.symbols
 unfolding line_effect
 line_once line s text once e =
-    statement_once line s (statement_on s text).label (statement_on s text).operation once (no_others (text_faults line text) (line_effect line s text).faults e)
+    statement_once line s (statement_on s text).label (statement_on s text).operation once (no_others (text_faults s.language line text) (line_effect line s text).faults e)
 
 -- faultless lines leave each name defined once
 once_after : (texts : List (List ℕ)) (line : ℕ) (s : Layout) → StandOnce s.symbols → layout_faults line s texts ≡ [] → StandOnce (layout_after line s texts).symbols
@@ -99,5 +111,8 @@ none_of_least (f ∷ fs) e = absurd (cc)
 pub names_stand_once : (language : Language) (source : List ℕ) → NamesStandOnce language source
 unfolding program
 names_stand_once language source =
-    unless_once (least (layout_faults 1 (start language) (lines source))) (completed (layout_after 1 (start language) (lines source)) (record { language = language; text = source })) (λ none.
-    unless_once (least _) (Ok _) (λ _. once_after (lines source) 1 (start language) (λ i j d lt within. omega (arith, within)) (none_of_least (layout_faults 1 (start language) (lines source)) none)))
+    let after : Layout = layout_after 1 (start language) (lines source) in
+    unless_once (least (layout_faults 1 (start language) (lines source))) (finished after (record { language = language; text = source })) (λ none.
+    unless_once (first_fault (with_values after).symbols after.promises) (completed (with_values after) (record { language = language; text = source })) (λ _.
+    unless_once (least _) (Ok _) (λ _. settled_holds (λ table. StandOnce table) one_more after.promises after.symbols
+    (once_after (lines source) 1 (start language) (λ i j d lt within. omega (arith, within)) (none_of_least (layout_faults 1 (start language) (lines source)) none)))))

@@ -1,15 +1,16 @@
 -- Small sources, told by the definitions alone: where each fault stands, and what is left out since it follows from another.
-use Rattle.std.proofs.Common.{◌≡◌, ℕ, ◌+◌, List, [], ◌∷◌, refl, map}
+use Rattle.std.proofs.Common.{◌≡◌, ℕ, ◌+◌, List, [], ◌∷◌, ◌++◌, replicate, refl, map}
 use Rattle.std.specs.Prelude.{codes, ◌==◌, if◌then◌else◌}
 use Rattle.agc_text.specs.Fields.{runs}
 use Rattle.agc_text.specs.Lines.{lines}
 use Rattle.space.specs.Places.{window, fb_of, sup_of}
-use Rattle.yayul.specs.Language.{Standard}
+use Rattle.yayul.specs.Language.{Flight, Standard}
 use Rattle.yayul.specs.Operators.{operators}
 use Rattle.yayul.specs.Forms.{statement_of}
+use Rattle.yayul.specs.Flight.{flight_operators, uncounted_statement}
 use Rattle.yayul.specs.Layout.{line_effect}
 use Rattle.yayul.specs.Words.{request_words, request_faults}
-use Rattle.yayul.specs.Survey.{span_at, told}
+use Rattle.yayul.specs.Survey.{span_at, span_in, told}
 use Rattle.yayul.specs.declared.finding.Finding.{Finding}
 
 -- a source of lines, each but the last followed by a semicolon here
@@ -39,5 +40,21 @@ told_rows =
     ∷ []
 
 each_told : map {B = List (ℕ × ℕ × ℕ × ℕ)} (λ r. map row (told Standard (source r.0))) told_rows ≡ map {B = List (ℕ × ℕ × ℕ × ℕ)} (λ r. r.1) told_rows
-unfolding told span_at runs operators statement_of line_effect request_words request_faults lines window fb_of sup_of
+unfolding told span_in span_at runs operators statement_of line_effect request_words request_faults lines window fb_of sup_of
 each_told = refl
+
+-- so it is in the language of flight programs: on a line with a count the fields after it are marked
+abbrev flight_rows : List (List ℕ × List (ℕ × ℕ × ℕ × ℕ))
+flight_rows =
+    (codes "+3 CA X", (1, 7, 1, 17) ∷ [])
+    ∷ (codes " -1 FROB X", (1, 5, 4, 15) ∷ [])
+    ∷ (codes "  +8D TC 14000 +5", (1, 10, 8, 26) ∷ [])
+    ∷ (codes "-LONGNAME CA -X", (1, 1, 9, 13) ∷ (1, 14, 2, 17) ∷ [])
+    ∷ (codes "X EQUALS Y; CA X;Y EQUALS X;Z EQUALS X +1", (1, 10, 1, 18) ∷ (2, 5, 1, 17) ∷ (3, 10, 1, 18) ∷ (4, 10, 1, 18) ∷ [])
+    ∷ (codes "X EQUALS Y +77777;Y EQUALS 5; CA NONE", (1, 10, 8, 26) ∷ (3, 5, 4, 17) ∷ [])
+    ∷ (replicate 121 0o40 ++ codes "# one byte and its sign too many", (1, 121, 2, 11) ∷ [])
+    ∷ []
+
+each_flight : map {B = List (ℕ × ℕ × ℕ × ℕ)} (λ r. map row (told Flight (source r.0))) flight_rows ≡ map {B = List (ℕ × ℕ × ℕ × ℕ)} (λ r. r.1) flight_rows
+unfolding told span_in span_at runs operators flight_operators statement_of uncounted_statement line_effect request_words request_faults lines window fb_of sup_of
+each_flight = refl

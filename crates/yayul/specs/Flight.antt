@@ -1,13 +1,29 @@
 -- The language of flight programs: what it has beyond the standard one, and what a line says in either.
-use Rattle.std.specs.Prelude.{ℕ, ◌+◌, ◌*◌, ◌/◌, ◌%◌, ◌==◌, ◌&&◌, Bool, List, [], ◌∷◌, length, take, drop, slice_get, codes, Option, None, Some, option_map, if◌then◌else◌}
+use Rattle.std.specs.Prelude.{ℕ, ◌+◌, ◌-◌, ◌*◌, ◌/◌, ◌%◌, ◌==◌, ◌&&◌, ◌||◌, not, nat_le, nat_lt, Bool, true, false, List, [], ◌∷◌, length, take, drop, slice_get, codes, Option, None, Some, option_map, if◌then◌else◌}
+use Rattle.std.specs.List.{list_any}
 use Rattle.std.specs.Option.{option_map_or, option_or}
 use Rattle.agc_text.specs.Digits.{number_of}
-use Rattle.agc_text.specs.Fields.{Piece, texts, fields, label_of, others_of}
+use Rattle.agc_text.specs.Fields.{Piece, texts, before_comment, fields, label_of, others_of}
 use Rattle.agc_text.specs.Tables.{value_in}
 use Rattle.yayul.specs.Operators.{operators, addressed, code}
-use Rattle.yayul.specs.Forms.{is_sign, first_is, is_digits, alone, complemented, number_in, octal_in, with_form, moved_by, operand_in, operation_of, label_in, statement_of}
+use Rattle.yayul.specs.Forms.{is_sign, first_is, is_digits, greatest_number, alone, complemented, number_in, octal_in, with_form, shift_in, moved_by, operand_in, operation_of, label_in, statement_of}
 use Rattle.yayul.specs.Scales.{decimal_content}
-use Rattle.yayul.specs.Language.{Address, All, Bank, BankRange, BankWord, Channel, Complemented, Constant, Constants, Content, Equals, ErasablePlace, FarComplement, FixedPlace, Flight, FlightOperator, Gives, Is, Language, Location, Nine, No, NoForm, Nothing, Numeral, Octals, One, Operand, Operation, Operator, PassedOver, Plus, Standard, Statement, Ten, Term, Twelve, Two, TwoOrThree, Unknown, VerbNoun}
+use Rattle.yayul.specs.Language.{Address, Addressed, All, Bank, BankRange, BankWord, Channel, Complemented, Constant, Constants, Content, Ebank, Equals, ErasablePlace, FarAddress, FarComplement, FixedPlace, Flight, FlightOperator, Gives, Is, Label, Language, Location, Minus, Missing, Named, Nine, No, NoForm, Nothing, Numeral, Octals, One, Operand, Operation, Operator, PassedOver, Plus, Setloc, Shift, Standard, Statement, Ten, Term, Twelve, Two, TwoOrThree, Unknown, VerbNoun}
+
+abbrev pub is_flight : Language → Bool
+is_flight Standard = false
+is_flight Flight = true
+
+-- ## Lines
+-- the most lines of a source
+abbrev pub most_lines : Language → ℕ
+most_lines Standard = 65536
+most_lines Flight = 262144
+
+-- the bytes of a line that its length counts: in the language of flight programs of a comment its first `#` alone
+abbrev pub measured : Language → List ℕ → List ℕ
+measured Standard line = line
+measured Flight line = take (length (before_comment line) + 1) line
 
 -- ## Counts
 -- a count: a sign and digits, which may end in `D`
@@ -30,6 +46,51 @@ first_field line = option_or (label_of (fields line)) (slice_get (others_of (fie
 -- a line without a count that stands first
 abbrev pub uncounted : List ℕ → List ℕ
 uncounted line = without_count line (first_field line)
+
+-- ## Names and operands
+-- a sign and a name's characters, 2 to 8 in all, where not digits alone follow the sign
+abbrev pub is_signed_name : List ℕ → Bool
+is_signed_name text =
+    first_is is_sign text && nat_le 2 (length text) && nat_le (length text) 8 && not (list_any (λ byte. byte == 0o44) text)
+    && not (is_digits (drop 1 text))
+
+-- a label, where its field has a name's form
+abbrev pub flight_label_in : Option (List ℕ) → Label
+flight_label_in None = Missing
+flight_label_in (Some text) = if is_signed_name text then Named text else label_in (Some text)
+
+-- a name, with an offset or none
+abbrev pub named_operand : List ℕ → List (List ℕ) → Option Operand
+named_operand name [] = Some (moved_by (Term.Named name) (Plus (Some 0)))
+named_operand name (offset ∷ []) = option_map (moved_by (Term.Named name)) (shift_in offset)
+named_operand name _ = None
+
+-- an operand, which may be a name with a sign in front
+abbrev pub flight_operand_in : List (List ℕ) → Option Operand
+flight_operand_in [] = None
+flight_operand_in (text ∷ rest) = if is_signed_name text then named_operand text rest else operand_in (text ∷ rest)
+
+-- a number that names a place of a bank, besides banks 2 and 3: bank 0 from 010000 on, bank 1 from 012000, bank 4 from 020000, and so on
+abbrev pub is_pseudo_address : ℕ → Bool
+is_pseudo_address n = nat_le 0o10000 n && nat_le n greatest_number && (nat_lt n 0o14000 || nat_le 0o20000 n)
+
+-- the place that it names
+abbrev pub pseudo_place : ℕ → Operand
+pseudo_place n = moved_by (Term.Place (n / 0o2000 - 4) (n % 0o2000)) (Plus (Some 0))
+
+-- a number so many on, which may name a place
+abbrev pub placed : Operand → ℕ → Operand
+placed operand n = if is_pseudo_address n then pseudo_place n else operand
+
+-- an operand; a number, moved by its offset, may name a place
+abbrev pub with_place : Operand → Term → Shift → Operand
+with_place operand (Term.Number (Some n)) (Plus (Some count)) = placed operand (n + count)
+with_place operand (Term.Number (Some n)) (Minus (Some count)) = placed operand (n - count)
+with_place operand _ _ = operand
+
+-- an operand that asks for an address or a place
+abbrev pub address_in : List (List ℕ) → Option Operand
+address_in rest = option_map (λ operand. with_place operand operand.term operand.shift) (flight_operand_in rest)
 
 -- ## Operators
 -- each operator that the standard language lacks, or has with fewer forms
@@ -79,7 +140,7 @@ flight_operator name = option_or (value_in flight_operators name) (option_map Fl
 -- the location, where no field stands, else the operand
 abbrev pub operand_or_here : List (List ℕ) → Option Operand
 operand_or_here [] = Some (moved_by Term.Here (Plus (Some 0)))
-operand_or_here (text ∷ rest) = operand_in (text ∷ rest)
+operand_or_here (text ∷ rest) = flight_operand_in (text ∷ rest)
 
 -- the bank of a location
 abbrev pub bank_at : Location → Numeral
@@ -117,6 +178,14 @@ abbrev pub scales_after : List ℕ → Option Piece → List (List ℕ)
 scales_after line None = []
 scales_after line (Some operand) = texts (fields (after_field line operand))
 
+-- what an operator of the standard language says with the fields after it
+abbrev pub standard_operation_of : Operator → List (List ℕ) → Operation
+standard_operation_of Operator.Setloc rest = Setloc (address_in rest)
+standard_operation_of Operator.Ebank rest = Ebank (address_in rest)
+standard_operation_of Operator.FarAddress rest = Gives (option_map FarAddress (address_in rest))
+standard_operation_of (Operator.Addressed code) rest = Gives (option_map (Addressed code) (address_in rest))
+standard_operation_of operator rest = operation_of (Some operator) rest
+
 -- what an operator says with the fields after it, where it stands at a location, and where these stand after its operand
 abbrev pub flight_operation_of : Location → List (List ℕ) → Option FlightOperator → List (List ℕ) → Operation
 flight_operation_of here scales None rest = Unknown
@@ -128,10 +197,10 @@ flight_operation_of here scales (Some Octals) rest = Gives (octals_in rest)
 flight_operation_of here scales (Some VerbNoun) rest = Gives (with_form Constant (alone verb_noun_in rest))
 flight_operation_of here scales (Some (FlightOperator.Decimal precision)) [] = Gives None
 flight_operation_of here scales (Some (FlightOperator.Decimal precision)) (text ∷ rest) = Gives (decimal_content precision text scales)
-flight_operation_of here scales (Some (FlightOperator.Complemented i)) rest = Gives (option_map (Complemented i) (operand_in rest))
-flight_operation_of here scales (Some FlightOperator.FarComplement) rest = Gives (option_map FarComplement (operand_in rest))
-flight_operation_of here scales (Some FlightOperator.BankWord) rest = Gives (option_map BankWord (operand_in rest))
-flight_operation_of here scales (Some (FlightOperator.Standard operator)) rest = operation_of (Some operator) rest
+flight_operation_of here scales (Some (FlightOperator.Complemented i)) rest = Gives (option_map (Complemented i) (address_in rest))
+flight_operation_of here scales (Some FlightOperator.FarComplement) rest = Gives (option_map FarComplement (address_in rest))
+flight_operation_of here scales (Some FlightOperator.BankWord) rest = Gives (option_map BankWord (address_in rest))
+flight_operation_of here scales (Some (FlightOperator.Standard operator)) rest = standard_operation_of operator rest
 
 -- ## Statements
 -- what the fields besides the label say
@@ -142,7 +211,7 @@ flight_operation_in here line (operator ∷ rest) = flight_operation_of here (sc
 -- what a line says that has no count
 unfoldable pub uncounted_statement : Location → List ℕ → Statement
 uncounted_statement here line = record {
-  label = label_in (option_map (λ piece. piece.text) (label_of (fields line)));
+  label = flight_label_in (option_map (λ piece. piece.text) (label_of (fields line)));
   operation = flight_operation_in here line (others_of (fields line));
 }
 

@@ -10,7 +10,7 @@ use Rattle.space.specs.declared.place.Linear.TheVariants as linear
 use Rattle.symbols.specs.Values.{place_of}
 use Rattle.yayul.specs.Operators.{is_bank, stays_extended}
 use Rattle.yayul.specs.Forms.{greatest_number}
-use Rattle.yayul.specs.Flight.{statement_in}
+use Rattle.yayul.specs.Flight.{is_flight, most_lines, measured, statement_in}
 use Rattle.yayul.specs.Language.{Addressed, BadBank, BadLabel, BadOperand, Bank, BankFull, BankRange, BankWord, CodeInErasable, Complemented, Constant, Constants, Content, Ebank, Equals, Erasable, Erase, FarAddress, FarComplement, Fault, FaultKind, Fixed, Gives, Is, Label, Language, Location, LongLine, Malformed, Minus, Missing, Named, NeedsExtend, NoForm, NoMemory, NotAscii, NotExtracode, Nothing, Num, Numeral, Operand, Operation, OutOfRange, PlaceTaken, Plain, Plus, Setloc, Shift, Statement, Term, TooLarge, TooManyLines, TwiceDefined, Undefined, Unknown, UnknownOperator, UsedTooEarly, Value, WrongKindOfAddress}
 
 -- ## Faults
@@ -70,6 +70,7 @@ moved_value shift (Fixed bank n) = and_then (λ m. Ok (Fixed bank m)) (moved 0o1
 abbrev pub term_value : FaultKind → List (List ℕ × Value) → Value → Term → Result Value FaultKind
 term_value missing table here (Term.Number number) = and_then (λ n. Ok (Num n)) (ok_or number OutOfRange)
 term_value missing table here (Term.Named name) = ok_or (value_in table name) missing
+term_value missing table here (Term.Place bank offset) = Ok (Fixed bank offset)
 term_value missing table here Term.Here = Ok here
 
 -- the value of an operand
@@ -129,18 +130,26 @@ pub record Request : Type 0 where
   pub extracode : Bool
   pub eb : ℕ
 
--- what stands before a line: the language of the source, the location, and what earlier lines gave
+-- a name that waits for the value of an operand, whose symbol a later line may define
+pub record Promise : Type 0 where
+  pub line : ℕ
+  pub name : List ℕ
+  pub operand : Operand
+
+-- what stands before a line: the language of the source, the location, and what earlier lines gave, the names that wait for a value among it, with values of no account
 pub record Layout : Type 0 where
   pub language : Language
   pub location : Location
   pub symbols : List (List ℕ × Value)
+  pub promised : List (List ℕ × Value)
+  pub promises : List Promise
   pub requests : List Request
   pub extracode : Bool
   pub eb : ℕ
 
 -- before the first line: bank 2, offset 0, erasable bank 0
 abbrev pub start : Language → Layout
-start language = record { language = language; location = Location.Fixed 2 0; symbols = []; requests = []; extracode = false; eb = 0 }
+start language = record { language = language; location = Location.Fixed 2 0; symbols = []; promised = []; promises = []; requests = []; extracode = false; eb = 0 }
 
 -- how many words a content gives
 abbrev pub width : Content → ℕ
@@ -184,7 +193,7 @@ is_missing _ = false
 
 -- the label stands on an earlier line
 abbrev pub is_twice : Layout → Label → Bool
-is_twice s (Named name) = is_some (value_in s.symbols name)
+is_twice s (Named name) = is_some (value_in s.symbols name) || is_some (value_in s.promised name)
 is_twice s _ = false
 
 -- the label has a value from here on
@@ -241,6 +250,32 @@ valued s label value = record {
   after = result_unwrap_or (and_then (λ v. Ok (defined s label v)) value) s;
 }
 
+-- a symbol that no earlier line defines
+abbrev pub is_undefined : List (List ℕ × Value) → Term → Bool
+is_undefined table (Term.Named name) = not (is_some (value_in table name))
+is_undefined table _ = false
+
+-- in the language of flight programs an operand may be a symbol of a later line
+abbrev pub is_later : Layout → Operand → Bool
+is_later s operand = is_flight s.language && is_undefined s.symbols operand.term
+
+-- a name more waits
+abbrev pub with_promise : ℕ → Layout → Label → Operand → Layout
+with_promise line s (Named name) operand = record s {
+  promised = s.promised ++ (name, Num 0) ∷ [];
+  promises = s.promises ++ record { line = line; name = name; operand = operand } ∷ [];
+}
+with_promise line s _ operand = s
+
+-- a line whose label waits for the value of an operand
+abbrev pub promised : ℕ → Layout → Label → Operand → LineEffect
+promised line s label operand = record { faults = (valued s label (Ok (Num 0))).faults; after = with_promise line s label operand }
+
+-- EQUALS: the label has the value of the operand, or waits for it
+abbrev pub equals : ℕ → Layout → Label → Option Operand → LineEffect
+equals line s label None = valued s label (Err BadOperand)
+equals line s label (Some operand) = if is_later s operand then promised line s label operand else valued s label (early_value s (Some operand))
+
 -- the location after so many erasable words and one
 abbrev pub erased_to : Location → Numeral → Result Location FaultKind
 erased_to here NoForm = Err BadOperand
@@ -289,7 +324,7 @@ statement_effect line s label Unknown = refused s label UnknownOperator
 statement_effect line s label (Setloc operand) = relocated s label (and_then location_at (early_value s operand))
 statement_effect line s label (Bank taken number) = relocated s label (bank_target s taken number)
 statement_effect line s label (Erase count) = erase s label count
-statement_effect line s label (Equals operand) = valued s label (early_value s operand)
+statement_effect line s label (Equals operand) = equals line s label operand
 statement_effect line s label (Ebank operand) = ebank s label operand
 statement_effect line s label (Gives None) = refused s label BadOperand
 statement_effect line s label (Gives (Some content)) = gives line s label content
@@ -302,15 +337,15 @@ statement_on s text = statement_in s.language s.location text
 unfoldable pub line_effect : ℕ → Layout → List ℕ → LineEffect
 line_effect line s text = statement_effect line s (statement_on s text).label (statement_on s text).operation
 
--- the faults of a line's bytes, its length and its number, which is at most 65,536
-abbrev pub text_faults : ℕ → List ℕ → List FaultKind
-text_faults line text =
-    standing (fault_if (not (list_all is_text_byte text)) NotAscii ∷ fault_if (nat_lt line_length (length text)) LongLine
-    ∷ fault_if (line == 65537) TooManyLines ∷ [])
+-- the faults of a line's bytes, its length and its number
+abbrev pub text_faults : Language → ℕ → List ℕ → List FaultKind
+text_faults language line text =
+    standing (fault_if (not (list_all is_text_byte text)) NotAscii ∷ fault_if (nat_lt line_length (length (measured language text))) LongLine
+    ∷ fault_if (line == most_lines language + 1) TooManyLines ∷ [])
 
 -- the layout faults of a line
 abbrev pub line_faults : ℕ → Layout → List ℕ → List FaultKind
-line_faults line s text = text_faults line text ++ (line_effect line s text).faults
+line_faults line s text = text_faults s.language line text ++ (line_effect line s text).faults
 
 -- what stands after some lines, the first of them with a number
 abbrev pub layout_after : ℕ → Layout → List (List ℕ) → Layout

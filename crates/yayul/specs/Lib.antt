@@ -4,6 +4,7 @@ pub mod Forms
 pub mod Scales
 pub mod Flight
 pub mod Layout
+pub mod Later
 pub mod Words
 pub mod Program
 pub mod Survey

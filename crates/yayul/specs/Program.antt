@@ -4,6 +4,7 @@ use Rattle.std.specs.Result.{result_unwrap_or}
 use Rattle.agc_text.specs.Lines.{lines}
 use Rattle.rope.specs.Places.{Words, Placed, no_words, with_words}
 use Rattle.yayul.specs.Layout.{Request, Layout, start, layout_after, layout_faults}
+use Rattle.yayul.specs.Later.{first_fault, with_values}
 use Rattle.yayul.specs.Words.{request_words, word_faults}
 use Rattle.yayul.specs.Language.{Fault, Language, Value}
 
@@ -50,11 +51,15 @@ abbrev pub completed : Layout → Source → Result Program Fault
 completed s source =
     unless_fault (least (word_faults s.symbols s.requests)) (Ok (record { rope = with_words no_words (image_of s); symbols = s.symbols; source = source }))
 
+-- what the layout of a source comes to, with the values of the names that wait, where each has one
+abbrev pub finished : Layout → Source → Result Program Fault
+finished s source = unless_fault (first_fault (with_values s).symbols s.promises) (completed (with_values s) source)
+
 -- the least layout fault of a source, else what its layout comes to
 unfoldable pub program : Language → List ℕ → Result Program Fault
 program language text =
     unless_fault (least (layout_faults 1 (start language) (lines text)))
-    (completed (layout_after 1 (start language) (lines text)) (record { language = language; text = text }))
+    (finished (layout_after 1 (start language) (lines text)) (record { language = language; text = text }))
 
 -- want of memory, which stands on no line
 abbrev pub no_memory : Fault

@@ -1,15 +1,17 @@
 -- All faults of a source: what each line is refused for, where on the line, and what is left out since it follows from an earlier fault.
-use Rattle.std.specs.Prelude.{ℕ, ◌+◌, ◌-◌, ◌==◌, ◌&&◌, ◌||◌, not, Bool, true, false, List, [], ◌∷◌, ◌++◌, length, map, filter, take, Option, None, Some, is_some, slice_get, if◌then◌else◌}
+use Rattle.std.specs.Prelude.{ℕ, ◌+◌, ◌-◌, ◌==◌, ◌&&◌, ◌||◌, not, nat_le, Bool, true, false, List, [], ◌∷◌, ◌++◌, length, map, filter, take, Option, None, Some, is_some, slice_get, if◌then◌else◌}
 use Rattle.std.specs.List.{list_any, list_all, position_or_len}
 use Rattle.std.specs.Option.{option_map_or, option_or}
 use Rattle.agc_text.specs.Bytes.{line_length, is_text_byte}
 use Rattle.agc_text.specs.Fields.{Piece, fields, label_of, others_of}
 use Rattle.agc_text.specs.Lines.{lines}
 use Rattle.agc_text.specs.Tables.{value_in}
+use Rattle.yayul.specs.Flight.{most_lines, measured, uncounted}
 use Rattle.yayul.specs.Layout.{Layout, start, word_place, standing, text_faults, fault_number, statement_on, line_effect, extends}
+use Rattle.yayul.specs.Later.{waiting_kind, with_values}
 use Rattle.yayul.specs.Words.{content_words, extracode_of, extracode_fault}
 use Rattle.std.specs.Result.{result_err}
-use Rattle.yayul.specs.Language.{Addressed, BadBank, BadLabel, BadOperand, Bank, BankFull, BankWord, CodeInErasable, Complemented, Content, Ebank, Equals, Erase, FarAddress, FarComplement, FaultKind, Fixed, Gives, Label, Language, LongLine, Malformed, Missing, Named, NeedsExtend, NotAscii, NoMemory, NotExtracode, Num, Operation, OutOfRange, PlaceTaken, Setloc, Term, TooManyLines, TwiceDefined, Undefined, Unknown, UnknownOperator, UsedTooEarly, Value, WrongKindOfAddress}
+use Rattle.yayul.specs.Language.{Addressed, BadBank, BadLabel, BadOperand, Bank, BankFull, BankWord, CodeInErasable, Complemented, Content, Ebank, Equals, Erase, FarAddress, FarComplement, FaultKind, Fixed, Flight, Gives, Label, Language, LongLine, Malformed, Missing, Named, NeedsExtend, NotAscii, NoMemory, NotExtracode, Num, Operation, OutOfRange, PlaceTaken, Setloc, Standard, Term, TooManyLines, TwiceDefined, Undefined, Unknown, UnknownOperator, UsedTooEarly, Value, WrongKindOfAddress}
 use Rattle.yayul.specs.declared.finding.Span.{Span}
 use Rattle.yayul.specs.declared.finding.Finding.{Finding}
 use Rattle.yayul.specs.declared.doubt.Known.{Known}
@@ -56,6 +58,16 @@ span_at text BadOperand = operand_span text (field_at text 0) (field_at text 1) 
 span_at text WrongKindOfAddress = operand_span text (field_at text 0) (field_at text 1) (field_at text 2)
 span_at text OutOfRange = operand_span text (field_at text 0) (field_at text 1) (field_at text 2)
 span_at text _ = first_of text (field_at text 0) (label_of (fields text))
+
+-- some bytes so many later, within so many
+abbrev pub later : ℕ → ℕ → Span → Span
+later most count span = record { start = if nat_le (count + span.start) most then count + span.start else most; width = span.width }
+
+-- the same in a language: on a line with a count the fields after it
+unfoldable pub span_in : Language → List ℕ → FaultKind → Span
+span_in Standard text kind = span_at text kind
+span_in Flight text LongLine = record { start = line_length; width = length (measured Flight text) - line_length }
+span_in Flight text kind = later (length text) (length text - length (uncounted text)) (span_at (uncounted text) kind)
 
 -- ## What stands before a line
 -- what stands before a line: the layout, in which a refused line does nothing; the names that refused lines have as labels, with values of no account; and what is known in spite of them
@@ -121,7 +133,7 @@ some_stands (kind ∷ kinds) = true
 
 -- a line is refused for its bytes, its length, its number or its fields
 abbrev pub is_refused : ℕ → Layout → List ℕ → Bool
-is_refused line s text = some_stands (text_faults line text) || some_stands (layout_kinds line s text)
+is_refused line s text = some_stands (text_faults s.language line text) || some_stands (layout_kinds line s text)
 
 -- what stands after a line
 abbrev pub passed_line : ℕ → Survey → List ℕ → Survey
@@ -135,6 +147,10 @@ passed_line line s text = record {
 abbrev pub passed_lines : ℕ → Survey → List (List ℕ) → Survey
 passed_lines line s [] = s
 passed_lines line s (text ∷ texts) = passed_lines (line + 1) (passed_line line s text) texts
+
+-- the same with the values of the names that wait
+abbrev pub settled_survey : Survey → Survey
+settled_survey s = record s { layout = with_values s.layout }
 
 -- ## What is told of a line
 -- the word faults of a line: of the words that it gives where a layout stands, by the symbols of the whole source
@@ -217,21 +233,23 @@ abbrev pub is_one_of : List FaultKind → FaultKind → Bool
 is_one_of kinds kind = list_any (λ other. fault_number other == fault_number kind) kinds
 
 -- a fault with its place
-abbrev pub finding : ℕ → List ℕ → FaultKind → Finding
-finding line text kind = record { line = line; number = fault_number kind; span = span_at text kind }
+abbrev pub finding : Language → ℕ → List ℕ → FaultKind → Finding
+finding language line text kind = record { line = line; number = fault_number kind; span = span_in language text kind }
 
 -- those of some faults that do not follow from others, each once
-abbrev pub told_of : Doubt → ℕ → List ℕ → List FaultKind → List Finding
-told_of d line text kinds = map (finding line text) (filter (λ kind. is_one_of kinds kind && not (follows d kind)) kinds_in_order)
+abbrev pub told_of : Language → Doubt → ℕ → List ℕ → List FaultKind → List Finding
+told_of language d line text kinds = map (finding language line text) (filter (λ kind. is_one_of kinds kind && not (follows d kind)) kinds_in_order)
 
--- the faults of a line where a survey stands: of its bytes, its length and its number, of its fields, and of its words
+-- the faults of a line where a survey stands: of its bytes, its length and its number, of its fields, of a name that waits, and of its words
 abbrev pub line_kinds : Survey → ℕ → Survey → List ℕ → List FaultKind
 line_kinds whole line s text =
-    text_faults line text ++ layout_kinds line s.layout text ++ word_kinds whole.layout.symbols s.layout (statement_on s.layout text).operation
+    text_faults s.layout.language line text ++ layout_kinds line s.layout text
+    ++ standing (waiting_kind whole.layout.symbols s.layout (statement_on s.layout text).label (statement_on s.layout text).operation ∷ [])
+    ++ word_kinds whole.layout.symbols s.layout (statement_on s.layout text).operation
 
 -- what is told of a line, where this stands before it, and this after the last line
 abbrev pub told_line : Survey → ℕ → Survey → List ℕ → List Finding
-told_line whole line s text = told_of (doubt whole.lost s.lost s.known text (statement_on s.layout text).operation) line text (line_kinds whole line s text)
+told_line whole line s text = told_of s.layout.language (doubt whole.lost s.lost s.known text (statement_on s.layout text).operation) line text (line_kinds whole line s text)
 
 -- what is told of some lines
 abbrev pub told_lines : Survey → ℕ → Survey → List (List ℕ) → List Finding
@@ -239,9 +257,9 @@ told_lines whole line s [] = []
 told_lines whole line s (text ∷ texts) = told_line whole line s text ++ told_lines whole (line + 1) (passed_line line s text) texts
 
 -- the lines that are looked at: as many as a source may have, and one
-abbrev pub looked_at : List ℕ → List (List ℕ)
-looked_at source = take 65537 (lines source)
+abbrev pub looked_at : Language → List ℕ → List (List ℕ)
+looked_at language source = take (most_lines language + 1) (lines source)
 
 -- what is told of a source
 unfoldable pub told : Language → List ℕ → List Finding
-told language source = told_lines (passed_lines 1 (unmarked language) (looked_at source)) 1 (unmarked language) (looked_at source)
+told language source = told_lines (settled_survey (passed_lines 1 (unmarked language) (looked_at language source))) 1 (unmarked language) (looked_at language source)

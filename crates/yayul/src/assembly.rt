@@ -3,14 +3,15 @@
 ghost use Rattle.std.specs.Prelude.{◌≡◌, ◌++◌, ℕ, map, OnOk};
 ghost use Rattle.agc_text.specs.Lines.{lines};
 ghost use Rattle.yayul.specs.Layout.{Layout as LaidOut, start};
-ghost use Rattle.yayul.specs.Program.{program, completed, GivesProgram};
-ghost use Rattle.yayul.specs.Inside.Answers.{Keeps, LaysOut, TellsOn};
+ghost use Rattle.yayul.specs.Program.{program, finished, completed, GivesProgram};
+ghost use Rattle.yayul.specs.Inside.Answers.{Agrees, Keeps, LaysOut, TellsOn};
 ghost use Rattle.yayul.specs.Inside.Representation.{request_of, shown_by_mark, lines_show};
 ghost use Rattle.yayul.specs.Inside.Waiting.{Holds};
 
 use crate::assembled::Program;
 use crate::faults::{Fault, FaultKind};
 use crate::language::Language;
+use crate::later::{first_fault, settle};
 use crate::layout::{Layout, Placing};
 use crate::mark::Marks;
 use agc_text::next_line;
@@ -30,7 +31,7 @@ pub fn assemble(alloc: Global, language: Language, source: &[u8]) -> Result<Prog
         return Err(NO_MEMORY);
     };
     let layout = lay_out(alloc, language, source, &mut placing, &mut marks)?;
-    complete(alloc, placing, layout.symbols, language, source, marks)
+    finish(alloc, placing, layout, language, source, marks)
 }
 
 /// Lays out the lines of a source, up to the first fault, places their words, and appends what each shows in the listing.
@@ -71,6 +72,34 @@ fn fault_on(line: u32, kind: FaultKind) -> Fault
             line,
             number: kind.number(),
         },
+    }
+}
+
+/// The program of the lines of a source, or the first fault of names that wait, or the least fault of words.
+fn finish(
+    alloc: Global,
+    placing: Placing,
+    layout: Layout,
+    language: Language,
+    source: &[u8],
+    marks: Marks,
+) -> Result<Program, Fault>
+    ghost laid_out: { LaidOut }
+    requires agrees { (line : ℕ) × Agrees line laid_out layout placing }
+    requires shown { map shown_by_mark marks ≡ lines_show 1 (start language) (lines source.now) }
+    ensures { GivesProgram (finished laid_out (record { language = language; text = source.now })) result }
+{
+    let Layout {
+        mut symbols,
+        promises,
+        ..
+    } = layout;
+    let Ok(()) = settle(&mut symbols, &promises) else {
+        return Err(NO_MEMORY);
+    };
+    match first_fault(&symbols, &promises) {
+        Some(fault) => Err(fault),
+        None => complete(alloc, placing, symbols, language, source, marks),
     }
 }
 

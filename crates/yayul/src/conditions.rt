@@ -2,7 +2,7 @@
 
 ghost use Rattle.std.specs.Prelude.{◌≡◌, ◌∷◌, [], ℕ};
 ghost use Rattle.std.specs.Result.{result_err};
-ghost use Rattle.yayul.specs.Layout.{Layout as LaidOut, standing, statement_effect, bare_faults, label_alone, refused, relocated, bank_target, erase, valued, ebank, early_value, width};
+ghost use Rattle.yayul.specs.Layout.{Layout as LaidOut, standing, statement_effect, bare_faults, label_alone, refused, relocated, bank_target, erase, equals, ebank, width};
 ghost use Rattle.yayul.specs.Survey.{word_kinds, content_kinds};
 ghost use Rattle.yayul.specs.declared.language.Operation.TheVariants as operation;
 ghost use Rattle.yayul.specs.Inside.Answers.{layout_of, tested_faults, Agrees};
@@ -94,12 +94,16 @@ impl Layout {
     }
 
     fn equals_conditions(&self, label: &Label, operand: &Option<Operand>) -> Conditions
-        ensures { standing result ≡ (valued (layout_of self.now) label.now (early_value (layout_of self.now) operand.now)).faults }
+        ensures { (line : ℕ) → standing result ≡ (equals line (layout_of self.now) label.now operand.now).faults }
     {
+        let fault = match operand {
+            Some(operand) if self.is_later(operand) => None,
+            _ => fault_of(&self.value_of(operand)),
+        };
         [
             FaultKind::BadLabel.when(label.is_missing() || label.is_malformed()),
             FaultKind::TwiceDefined.when(self.is_twice(label)),
-            fault_of(&self.value_of(operand)),
+            fault,
             None,
             None,
         ]

@@ -115,7 +115,7 @@ impl Operand {
     {
         match &self.term {
             Term::Named(name) => symbols.named(name).is_some(),
-            Term::Number(_) | Term::Here => false,
+            Term::Number(_) | Term::Place(..) | Term::Here => false,
         }
     }
 }

@@ -4,9 +4,14 @@ ghost use Rattle.std.specs.Prelude.{◌≡◌, ◌+◌, ◌<◌, ◌≤◌, ◌^
 ghost use Rattle.std.specs.Option.{option_map};
 ghost use Rattle.agc_text.specs.Bytes.{is_text_byte};
 ghost use Rattle.agc_text.specs.Views.{piece, end_of};
-ghost use Rattle.yayul.specs.Survey.{wrong_place, wrong_byte, span_of, through, first_of, span_at};
+ghost use Rattle.yayul.specs.Survey.{wrong_place, wrong_byte, span_of, through, first_of, span_at, span_in, later};
+ghost use Rattle.yayul.specs.Flight.{measured, uncounted};
+ghost use Rattle.yayul.specs.declared.faults.FaultKind.TheVariants.{LongLine};
+ghost use Rattle.yayul.specs.declared.language.Language.TheVariants.{Flight};
 
 use crate::faults::FaultKind;
+use crate::flight::{measured, uncounted};
+use crate::language::Language;
 use agc_text::{Field, LINE_LENGTH, Line, is_text};
 
 /// Some bytes of a line.
@@ -29,9 +34,55 @@ pub struct Finding {
     pub span: Span,
 }
 
-/// The bytes of a line that are to blame for a fault.
+impl Span {
+    // The bytes so many later, within so many.
+    fn later(self, most: usize, count: usize) -> Span
+        ensures { result ≡ later most count self }
+    {
+        let start = match count.checked_add(self.start) {
+            Some(start) if start <= most => start,
+            _ => most,
+        };
+        Span {
+            start,
+            width: self.width,
+        }
+    }
+}
+
+/// The bytes of a line that are to blame for a fault in a language.
+#[tactic(auto, unfolding(crate::specs::Survey::span_in))]
+pub(crate) fn span_in(language: Language, text: &[u8], kind: FaultKind) -> Span
+    ensures { result ≡ span_in language text.now kind }
+{
+    match language {
+        Language::Standard => span_at(text, kind),
+        Language::Flight => flight_span(text, kind),
+    }
+}
+
+// The same in a flight program: on a line with a count the fields after it.
+#[tactic(auto, unfolding(crate::specs::Survey::span_in))]
+fn flight_span(text: &[u8], kind: FaultKind) -> Span
+    ensures { result ≡ span_in Flight text.now kind }
+{
+    match kind {
+        FaultKind::LongLine => Span {
+            start: LINE_LENGTH,
+            width: measured(Language::Flight, text)
+                .len()
+                .saturating_sub(LINE_LENGTH),
+        },
+        _ => {
+            let uncounted = uncounted(text);
+            span_at(uncounted, kind).later(text.len(), text.len() - uncounted.len())
+        }
+    }
+}
+
+// The bytes of a line that are to blame for a fault.
 #[tactic(auto, unfolding(crate::specs::Survey::span_at))]
-pub(crate) fn span_at(text: &[u8], kind: FaultKind) -> Span
+fn span_at(text: &[u8], kind: FaultKind) -> Span
     ensures { result ≡ span_at text.now kind }
 {
     let line = Line::of(text);

@@ -1,27 +1,55 @@
 //! What a line of a flight program says.
 
-ghost use Rattle.std.specs.Prelude.{◌≡◌, true, IfSome, option_and_then, drop, ◌+◌, length, Some};
+ghost use Rattle.std.specs.Prelude.{◌≡◌, ◌≤◌, ◌≢◌, true, IfSome, option_and_then, drop, ◌+◌, length, Some, None, if◌then◌else◌};
 ghost use Rattle.std.specs.Option.{option_map};
 ghost use Rattle.agc_text.specs.Tables.{value_in};
 ghost use Rattle.agc_text.specs.Views.{piece, IsSliceOf, end_of};
-ghost use Rattle.yayul.specs.Flight.{is_count, without_count, uncounted, flight_operators, flight_operator, operand_or_here, scales_after, signed_octal_in, both, octals_in, verb_noun_in, bank_at, bank_or_here, flight_operation_of, uncounted_statement};
+ghost use Rattle.yayul.specs.Flight.{most_lines, measured, is_count, without_count, uncounted, is_signed_name, flight_label_in, named_operand, flight_operand_in, is_pseudo_address, pseudo_place, placed, with_place, address_in, flight_operators, flight_operator, operand_or_here, scales_after, signed_octal_in, both, octals_in, verb_noun_in, bank_at, bank_or_here, standard_operation_of, flight_operation_of, uncounted_statement};
 ghost use Rattle.yayul.specs.Forms.{alone};
 ghost use Rattle.yayul.specs.Scales.{decimal_content};
-ghost use Rattle.yayul.specs.Inside.Codes.{flight_has_room};
-ghost use Rattle.yayul.specs.Inside.Representation.{arguments_of, flight_operation_by};
+ghost use Rattle.yayul.specs.Inside.Codes.{has_room, flight_has_room};
+ghost use Rattle.yayul.specs.Inside.Representation.{text_of, arguments_of, flight_operation_by};
 
 use crate::decimal::complemented;
 use crate::instruction::AddressedInstruction;
 use crate::language::{
-    BankRange, Content, DoubleWord, FlightOperator, Location, Numeral, Operand, Operation,
-    Precision, Shift, Statement, Term,
+    BankRange, Content, DoubleWord, FlightOperator, Label, Language, Location, Numeral, Operand,
+    Operation, Operator, Precision, Shift, Statement, Term,
 };
+use crate::name::holds_dollar_sign;
 use crate::number::{begins_with_sign, is_digits, octal_in};
+use crate::operand::shift_in;
 use crate::operator::flight_operator_of;
 use crate::scaled::decimal_content;
 use crate::statement::{bank_in, constant_of, label_in, operand_in, operation_of};
-use agc_text::{Field, Line, decimal};
+use agc_text::{Field, Line, decimal, length_before_byte};
+use space::numbers::Offset;
+use symbols::{FixedBank, NAME_LENGTH, Name};
 use words::Word;
+
+/// The most lines of a source.
+pub fn most_lines(language: Language) -> u32
+    ensures value { result ≡ most_lines language }
+    ensures few { result ≤ 262144 }
+{
+    match language {
+        Language::Standard => 65_536,
+        Language::Flight => 262_144,
+    }
+}
+
+/// The bytes of a line that its length counts: in a flight program of a comment its first `#` alone.
+pub(crate) fn measured(language: Language, text: &[u8]) -> &[u8]
+    ensures { result.now ≡ measured language text.now }
+{
+    match language {
+        Language::Standard => text,
+        Language::Flight => {
+            let before = length_before_byte(text, b'#');
+            text.get(..before + 1).unwrap_or(text)
+        }
+    }
+}
 
 /// What a line says, where it stands at a location.
 pub(crate) fn flight_statement(here: Location, text: &[u8]) -> Statement
@@ -31,8 +59,9 @@ pub(crate) fn flight_statement(here: Location, text: &[u8]) -> Statement
 }
 
 // A line without a count that stands first.
-fn uncounted(text: &[u8]) -> &[u8]
-    ensures { result.now ≡ uncounted text.now }
+pub(crate) fn uncounted(text: &[u8]) -> &[u8]
+    ensures value { result.now ≡ uncounted text.now }
+    ensures within { length result.now ≤ length text.now }
 {
     let line = Line::of(text);
     match line.label {
@@ -47,7 +76,8 @@ fn uncounted(text: &[u8]) -> &[u8]
 // A line without its first field, where that is a count.
 fn without_count<'a>(text: &'a [u8], first: Field<'a>) -> &'a [u8]
     requires { IsSliceOf text.now first }
-    ensures { result.now ≡ without_count text.now (Some (piece first.entry)) }
+    ensures value { result.now ≡ without_count text.now (Some (piece first.entry)) }
+    ensures within { length result.now ≤ length text.now }
 {
     if is_count(first.text) {
         &text[first.start + first.text.len()..]
@@ -69,9 +99,43 @@ fn uncounted_statement(here: Location, text: &[u8]) -> Statement
 {
     let line = Line::of(text);
     Statement {
-        label: label_in(line.label),
+        label: flight_label_in(line.label),
         operation: operation_by(here, text, &line),
     }
+}
+
+// The label in a field, where it has a name's form.
+fn flight_label_in(field: Option<Field<'_>>) -> Label
+    ensures { result ≡ flight_label_in (text_of field.entry) }
+{
+    match field {
+        Some(field) => match signed_name_of(field.text) {
+            Some(name) => Label::Named(name),
+            None => label_in(Some(field)),
+        },
+        None => Label::Missing,
+    }
+}
+
+// The name of these characters, where it has a sign in front.
+fn signed_name_of(text: &[u8]) -> Option<Name>
+    ensures { result ≡ (if is_signed_name text.now then Some text.now else None) }
+{
+    if is_signed_name(text) {
+        Name::try_new(text)
+    } else {
+        None
+    }
+}
+
+fn is_signed_name(text: &[u8]) -> bool
+    ensures { result ≡ is_signed_name text.now }
+{
+    begins_with_sign(text)
+        && text.len() >= 2
+        && text.len() <= NAME_LENGTH
+        && !holds_dollar_sign(text)
+        && !is_digits(text.get(1..).unwrap_or(&[]))
 }
 
 // What the fields besides the label say.
@@ -107,20 +171,134 @@ fn flight_operation_of(
         Some(FlightOperator::Decimal(precision)) => {
             Operation::Gives(decimal_on(precision, text, line))
         }
-        Some(FlightOperator::Complemented(code)) => Operation::Gives(match operand_in(line) {
+        Some(FlightOperator::Complemented(code)) => Operation::Gives(match address_in(line) {
             Some(operand) => Some(Content::Complemented(AddressedInstruction::new(code), operand)),
             None => None,
         }),
-        Some(FlightOperator::FarComplement) => Operation::Gives(match operand_in(line) {
+        Some(FlightOperator::FarComplement) => Operation::Gives(match address_in(line) {
             Some(operand) => Some(Content::FarComplement(operand)),
             None => None,
         }),
-        Some(FlightOperator::BankWord) => Operation::Gives(match operand_in(line) {
+        Some(FlightOperator::BankWord) => Operation::Gives(match address_in(line) {
             Some(operand) => Some(Content::BankWord(operand)),
             None => None,
         }),
-        Some(FlightOperator::Standard(operator)) => operation_of(Some(operator), line),
+        Some(FlightOperator::Standard(operator)) => standard_operation_of(operator, line),
     }
+}
+
+// What an operator of the standard language says with the fields after it.
+fn standard_operation_of(operator: Operator, line: &Line<'_>) -> Operation
+    requires { has_room operator ≡ true }
+    ensures { result ≡ standard_operation_of operator (arguments_of line.now) }
+{
+    match operator {
+        Operator::Setloc => Operation::Setloc(address_in(line)),
+        Operator::Ebank => Operation::Ebank(address_in(line)),
+        Operator::FarAddress => Operation::Gives(match address_in(line) {
+            Some(operand) => Some(Content::FarAddress(operand)),
+            None => None,
+        }),
+        Operator::Addressed(code) => Operation::Gives(match address_in(line) {
+            Some(operand) => Some(Content::Addressed(AddressedInstruction::new(code), operand)),
+            None => None,
+        }),
+        Operator::Bank(_)
+        | Operator::Erase
+        | Operator::Equals
+        | Operator::Octal
+        | Operator::Decimal
+        | Operator::Plain(_)
+        | Operator::ToNext(_) => operation_of(Some(operator), line),
+    }
+}
+
+// The operand, which may be a number that names a place.
+fn address_in(line: &Line<'_>) -> Option<Operand>
+    ensures { result ≡ address_in (arguments_of line.now) }
+{
+    match flight_operand_in(line) {
+        Some(operand) => Some(with_place(operand)),
+        None => None,
+    }
+}
+
+// An operand; a number, moved by its offset, may name a place.
+fn with_place(operand: Operand) -> Operand
+    ensures { result ≡ with_place operand operand.term operand.shift }
+{
+    match (&operand.term, operand.shift) {
+        (Term::Number(Some(number)), Shift::Plus(Some(count))) => {
+            let moved = u32::from(number.to_u16()) + u32::from(count.to_u16());
+            placed(operand, moved)
+        }
+        (Term::Number(Some(number)), Shift::Minus(Some(count))) => {
+            let moved = number.to_u16().saturating_sub(count.to_u16());
+            placed(operand, u32::from(moved))
+        }
+        _ => operand,
+    }
+}
+
+// A number so many on, which may name a place.
+fn placed(operand: Operand, number: u32) -> Operand
+    ensures { result ≡ placed operand number }
+{
+    if is_pseudo_address(number) {
+        pseudo_place(number)
+    } else {
+        operand
+    }
+}
+
+// Whether a number names a place of a bank, besides banks 2 and 3.
+fn is_pseudo_address(number: u32) -> bool
+    ensures { result ≡ is_pseudo_address number }
+{
+    (0o10000..=0o77777).contains(&number) && !(0o14000..0o20000).contains(&number)
+}
+
+// The place that a number names: bank 0 from 010000 on, bank 1 from 012000, and so on.
+fn pseudo_place(number: u32) -> Operand
+    requires { is_pseudo_address number ≡ true }
+    ensures { result ≡ pseudo_place number }
+{
+    let bank = FixedBank::try_new((number / 0o2000 - 4) as u16);
+    let offset = Offset::try_new((number % 0o2000) as u16);
+    match (bank, offset) {
+        (Some(bank), Some(offset)) => Operand {
+            term: Term::Place(bank, offset),
+            shift: Shift::Plus(Some(Word::ZERO)),
+        },
+        _ => unreachable!(),
+    }
+}
+
+// The operand, which may be a name with a sign in front.
+fn flight_operand_in(line: &Line<'_>) -> Option<Operand>
+    ensures { result ≡ flight_operand_in (arguments_of line.now) }
+{
+    let operand = line.operand?;
+    match signed_name_of(operand.text) {
+        Some(name) => named_operand(name, line),
+        None => operand_in(line),
+    }
+}
+
+// A name, with the offset or none.
+fn named_operand(name: Name, line: &Line<'_>) -> Option<Operand>
+    requires { line.now.operand ≢ None }
+    ensures { result ≡ named_operand name (drop 1 (arguments_of line.now)) }
+{
+    let shift = match line.offset {
+        None => Shift::Plus(Some(Word::ZERO)),
+        Some(_) if line.more => return None,
+        Some(offset) => shift_in(offset.text)?,
+    };
+    Some(Operand {
+        term: Term::Named(name),
+        shift,
+    })
 }
 
 // The octal digits, where no further field stands.
@@ -217,7 +395,7 @@ fn operand_or_here(line: &Line<'_>) -> Option<Operand>
             term: Term::Here,
             shift: Shift::Plus(Some(Word::ZERO)),
         }),
-        Some(_) => operand_in(line),
+        Some(_) => flight_operand_in(line),
     }
 }
 

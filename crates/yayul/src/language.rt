@@ -1,6 +1,7 @@
 //! What a source is made of: its operators, its operands and what its lines say.
 
 use crate::instruction::{AddressedInstruction, PlainInstruction};
+use space::numbers::Offset;
 use symbols::{FixedBank, Name};
 use words::Word;
 
@@ -159,6 +160,8 @@ pub(crate) enum Term {
     Number(Option<Word>),
     /// A symbol.
     Named(Name),
+    /// A place of a bank, by its number in a flight program.
+    Place(FixedBank, Offset),
     /// The location before the line.
     Here,
 }

@@ -7,7 +7,7 @@ ghost use Rattle.yayul.specs.Inside.Sound.{number_at, end_at};
 use crate::bank::ErasableBank;
 use crate::faults::Fault;
 use crate::language::{Language, Location};
-use crate::request::WordRequest;
+use crate::request::{Promise, WordRequest};
 use rope::Rope;
 use symbols::Symbols;
 
@@ -20,6 +20,9 @@ pub(crate) struct Layout {
     pub(crate) language: Language,
     pub(crate) location: Location,
     pub(crate) symbols: Symbols,
+    /// The names that wait for a value, with values of no account.
+    pub(crate) promised: Symbols,
+    pub(crate) promises: Vec<Promise>,
     pub(crate) extracode: bool,
     pub(crate) eb: ErasableBank,
     ghost located: { number_at location ≤ end_at location },

@@ -1,8 +1,11 @@
 //! What each line does to the layout: the symbols of a source, and the words that its lines ask for.
 
-ghost use Rattle.std.specs.Prelude.{◌≡◌, ◌<◌, ◌∷◌, [], false, ◌&&◌, not, IfOk, IfErr, OnOk, Some};
+ghost use Rattle.std.specs.Prelude.{◌≡◌, ◌<◌, ◌≤◌, length, ◌∷◌, [], ◌++◌, ℕ, List, false, ◌&&◌, not, is_some, IfOk, IfErr, OnOk, Some};
+ghost use Rattle.agc_text.specs.Tables.{value_in};
+ghost use Rattle.symbols.specs.declared.values.Value.{Value as Symbol};
+ghost use Rattle.yayul.specs.declared.language.Label.TheVariants.{Named};
 ghost use Rattle.std.specs.Result.{result_err};
-ghost use Rattle.yayul.specs.Layout.{Layout as LaidOut, fault_if, standing, start, word_place, width, lacks_room, is_missing, is_twice, label_alone, refused, bare_faults, relocated, and_then, location_at, erasable_place, early_value, valued, ebank, erase, gives, statement_effect, statement_on, text_faults};
+ghost use Rattle.yayul.specs.Layout.{Layout as LaidOut, fault_if, standing, start, word_place, width, lacks_room, is_missing, is_twice, label_alone, refused, bare_faults, relocated, and_then, location_at, erasable_place, early_value, valued, is_later, promised, equals, ebank, erase, gives, statement_effect, statement_on, text_faults};
 ghost use Rattle.yayul.specs.declared.faults.FaultKind.TheVariants.{BankFull};
 ghost use Rattle.yayul.specs.Inside.Answers.{layout_of, least_kind, labelled, words_faults, LeadsTo, Agrees, LeadsOn, LineLeadsOn, TakesWords, passed};
 ghost use Rattle.yayul.specs.Inside.Representation.{request_of, holds_word};
@@ -10,19 +13,20 @@ ghost use Rattle.yayul.specs.Inside.Sound.{IsLocation};
 
 use crate::bank::ErasableBank;
 use crate::faults::{FaultKind, least_fault, lesser_kind};
-use crate::flight::flight_statement;
-use crate::language::{Content, Label, Language, Location, Numeral, Operand, Operation, Statement};
+use crate::flight::{flight_statement, measured, most_lines};
+use crate::language::{
+    Content, Label, Language, Location, Numeral, Operand, Operation, Statement, Term,
+};
 use crate::layout::{Layout, Placing};
 use crate::mark::Mark;
-use crate::request::WordRequest;
+use crate::request::{Promise, WordRequest};
 use crate::statement::statement_of;
 use crate::values::{erasable_place, location_at, value_of};
 use agc_text::{LINE_LENGTH, is_text};
+use arrayvec::ArrayVec;
 use std::alloc::Global;
-use symbols::{FixedBank, Symbols, Value};
-
-/// The most lines of a source.
-pub(crate) const LINE_COUNT: u32 = 65_536;
+use symbols::{FixedBank, NAME_LENGTH, Name, Symbols, Value};
+use words::Word;
 
 impl Layout {
     /// What stands before the first line. Nothing is allocated.
@@ -33,6 +37,8 @@ impl Layout {
             language,
             location: Location::Fixed(FixedBank::two(), 0),
             symbols: Symbols::new(alloc),
+            promised: Symbols::new(alloc),
+            promises: Vec::new(alloc),
             extracode: false,
             eb: ErasableBank::of_place(0),
         }
@@ -47,7 +53,7 @@ impl Layout {
     ) -> Result<Mark, FaultKind>
         ensures { (s : LaidOut) → Agrees line s self.old placing.old → LineLeadsOn line s text.now self.new placing.new result }
     {
-        if let Some(kind) = text_fault(line, text) {
+        if let Some(kind) = text_fault(self.language, line, text) {
             return Err(kind);
         }
         let statement = self.statement_on(text);
@@ -85,7 +91,7 @@ impl Layout {
                 self.relocate(&label, placing.bank_target(range, number))
             }
             Operation::Erase(count) => self.erase(label, count),
-            Operation::Equals(operand) => self.equals(label, operand),
+            Operation::Equals(operand) => self.equals(line, label, operand),
             Operation::Ebank(operand) => self.ebank(&label, operand),
             Operation::Gives(Some(content)) => self.give(placing, line, label, content),
             Operation::Gives(None) => Err(self.refused(&label, FaultKind::BadOperand)),
@@ -175,8 +181,85 @@ impl Layout {
         }
     }
 
-    // EQUALS and =: the label has the value of the operand.
-    fn equals(&mut self, label: Label, operand: Option<Operand>) -> Result<(), FaultKind>
+    // EQUALS and =: the label has the value of the operand, or waits for it.
+    fn equals(&mut self, line: u32, label: Label, operand: Option<Operand>) -> Result<(), FaultKind>
+        ensures { LeadsTo (equals line (layout_of self.old) label operand) (layout_of self.new) result }
+    {
+        match operand {
+            Some(operand) => {
+                if self.is_later(&operand) {
+                    self.promise(line, label, operand)
+                } else {
+                    self.equals_known(label, Some(operand))
+                }
+            }
+            None => self.equals_known(label, None),
+        }
+    }
+
+    /// Whether an operand is a symbol that a later line may define.
+    pub(crate) fn is_later(&self, operand: &Operand) -> bool
+        ensures { result ≡ is_later (layout_of self.now) operand.now }
+    {
+        match (self.language, &operand.term) {
+            (Language::Flight, Term::Named(name)) => self.symbols.named(name).is_none(),
+            _ => false,
+        }
+    }
+
+    // The label waits for the value of an operand.
+    fn promise(&mut self, line: u32, label: Label, operand: Operand) -> Result<(), FaultKind>
+        ensures { LeadsTo (promised line (layout_of self.old) label operand) (layout_of self.new) result }
+    {
+        match label {
+            Label::Named(name) => self.promise_name(line, name, operand),
+            Label::Missing | Label::Malformed => Err(FaultKind::BadLabel),
+        }
+    }
+
+    // A name waits for the value of an operand.
+    fn promise_name(&mut self, line: u32, name: Name, operand: Operand) -> Result<(), FaultKind>
+        ensures { LeadsTo (promised line (layout_of self.old) (Named name) operand) (layout_of self.new) result }
+    {
+        if self.symbols.named(&name).is_some() {
+            return Err(FaultKind::TwiceDefined);
+        }
+        match self.promised.define(name, Value::Num(Word::ZERO)) {
+            Ok(true) => self.hold(line, operand),
+            Ok(false) => Err(FaultKind::TwiceDefined),
+            Err(_) => Err(FaultKind::NoMemory),
+        }
+    }
+
+    // Holds the promise of the name that was promised last.
+    fn hold(&mut self, line: u32, operand: Operand) -> Result<(), FaultKind>
+        ensures held { OnOk result ((before : List (List ℕ × Symbol)) (name : List ℕ) (value : Symbol) → self.old.promised ≡ before ++ (name, value) ∷ [] → layout_of self.new ≡ (record (layout_of self.old) { promises = (layout_of self.old).promises ++ record { line = line; name = name; operand = operand } ∷ [] })) }
+        ensures err { IfErr result (λ kind. kind ≡ FaultKind.NoMemory) }
+    {
+        let promise = Promise {
+            line,
+            name: self.last_promised(),
+            operand,
+        };
+        match self.promises.push(promise) {
+            Ok(()) => Ok(()),
+            Err(_) => Err(FaultKind::NoMemory),
+        }
+    }
+
+    // The name that was promised last.
+    fn last_promised(&self) -> ArrayVec<u8, NAME_LENGTH>
+        ensures { (before : List (List ℕ × Symbol)) (name : List ℕ) (value : Symbol) → self.now.promised ≡ before ++ (name, value) ∷ [] → result.items ≡ name }
+    {
+        let last = self.promised.len().saturating_sub(1);
+        match self.promised.entry(last) {
+            Some(entry) => copy_of(entry.0),
+            None => ArrayVec::new(),
+        }
+    }
+
+    // The label has the value of the operand, its symbols those of earlier lines.
+    fn equals_known(&mut self, label: Label, operand: Option<Operand>) -> Result<(), FaultKind>
         ensures { LeadsTo (valued (layout_of self.old) label (early_value (layout_of self.old) operand)) (layout_of self.new) result }
     {
         if label.is_missing() {
@@ -313,6 +396,7 @@ impl Layout {
         ensures { LeadsTo (labelled (layout_of self.old) label value) (layout_of self.new) result }
     {
         match label {
+            Label::Named(name) if self.is_promised(&name) => Err(FaultKind::TwiceDefined),
             Label::Named(name) => match self.symbols.define(name, value) {
                 Ok(true) => Ok(()),
                 Ok(false) => Err(FaultKind::TwiceDefined),
@@ -328,10 +412,29 @@ impl Layout {
         ensures { result ≡ is_twice (layout_of self.now) label.now }
     {
         match label {
-            Label::Named(name) => self.symbols.named(name).is_some(),
+            Label::Named(name) => self.symbols.named(name).is_some() || self.is_promised(name),
             Label::Missing => false,
             Label::Malformed => false,
         }
+    }
+
+    // Whether a name waits for a value.
+    fn is_promised(&self, name: &Name) -> bool
+        ensures { result ≡ is_some (value_in self.now.promised name.now) }
+    {
+        self.promised.len() > 0 && self.promised.named(name).is_some()
+    }
+}
+
+// A copy of a name.
+fn copy_of(name: &[u8]) -> ArrayVec<u8, NAME_LENGTH>
+    requires { length name.now ≤ NAME_LENGTH }
+    ensures { result.items ≡ name.now }
+{
+    let mut copy = ArrayVec::new();
+    match copy.try_extend_from_slice(name) {
+        Ok(()) => copy,
+        Err(_) => unreachable!(),
     }
 }
 
@@ -355,19 +458,19 @@ pub(crate) fn fault_of<T>(outcome: &Result<T, FaultKind>) -> Option<FaultKind>
 }
 
 // The least fault of a line's bytes, its length and its number.
-fn text_fault(line: u32, text: &[u8]) -> Option<FaultKind>
-    ensures { result ≡ least_kind (text_faults line text.now) }
+fn text_fault(language: Language, line: u32, text: &[u8]) -> Option<FaultKind>
+    ensures { result ≡ least_kind (text_faults language line text.now) }
 {
-    least_fault(&text_conditions(line, text))
+    least_fault(&text_conditions(language, line, text))
 }
 
 /// The faults of a line's bytes, its length and its number, each where its condition holds.
-pub(crate) fn text_conditions(line: u32, text: &[u8]) -> [Option<FaultKind>; 3]
-    ensures { standing result ≡ text_faults line text.now }
+pub(crate) fn text_conditions(language: Language, line: u32, text: &[u8]) -> [Option<FaultKind>; 3]
+    ensures { standing result ≡ text_faults language line text.now }
 {
     [
         FaultKind::NotAscii.when(!is_text(text)),
-        FaultKind::LongLine.when(text.len() > LINE_LENGTH),
-        FaultKind::TooManyLines.when(line == LINE_COUNT + 1),
+        FaultKind::LongLine.when(measured(language, text).len() > LINE_LENGTH),
+        FaultKind::TooManyLines.when(line == most_lines(language) + 1),
     ]
 }

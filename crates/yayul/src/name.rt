@@ -28,7 +28,7 @@ fn is_name(text: &[u8]) -> bool
         && !is_digits(text)
 }
 
-fn holds_dollar_sign(text: &[u8]) -> bool
+pub(crate) fn holds_dollar_sign(text: &[u8]) -> bool
     ensures { result ≡ list_any (λ byte. byte == 0o44) text.now }
 {
     text.iter().any(|byte| *byte == b'$')

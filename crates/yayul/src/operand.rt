@@ -38,7 +38,7 @@ fn term_in(text: &[u8]) -> Option<Term>
 }
 
 // A sign followed by a number, where the text has that form.
-fn shift_in(text: &[u8]) -> Option<Shift>
+pub(crate) fn shift_in(text: &[u8]) -> Option<Shift>
     ensures { result ≡ shift_in text.now }
 {
     match text {

@@ -1,9 +1,19 @@
-//! Requests for words.
+//! Requests for words, and for values.
 
 use crate::bank::ErasableBank;
-use crate::language::Content;
+use crate::language::{Content, Operand};
+use arrayvec::ArrayVec;
 use space::numbers::Offset;
-use symbols::FixedBank;
+use symbols::{FixedBank, NAME_LENGTH};
+
+/// A name that waits for the value of an operand, whose symbol a later line may define.
+#[derive(Drop)]
+pub(crate) struct Promise {
+    /// The line, counted from 1.
+    pub(crate) line: u32,
+    pub(crate) name: ArrayVec<u8, NAME_LENGTH>,
+    pub(crate) operand: Operand,
+}
 
 /// The words that a line asks for, from a place on.
 #[derive(Drop)]

@@ -6,17 +6,19 @@ ghost use Rattle.std.specs.Option.{option_map_or};
 ghost use Rattle.yayul.specs.Layout.{standing, fault_number, statement_on};
 ghost use Rattle.yayul.specs.Inside.Answers.{layout_of};
 ghost use Rattle.yayul.specs.Program.{no_memory};
-ghost use Rattle.yayul.specs.Survey.{Survey as Surveyed, unmarked, noted, displaces, some_stands, passed_line, passed_lines, is_one_of, follows, finding, told_of, told_line, told_lines, looked_at, told};
+ghost use Rattle.yayul.specs.Survey.{Survey as Surveyed, unmarked, noted, displaces, some_stands, passed_line, passed_lines, settled_survey, is_one_of, follows, finding, told_of, told_line, told_lines, looked_at, told};
 ghost use Rattle.yayul.specs.Inside.Surveys.{Surveys, kinds_of};
 
 use crate::assembly::NO_MEMORY;
 use crate::conditions::Conditions;
 use crate::doubt::{Doubt, Known};
 use crate::faults::{Fault, FaultKind, least_fault};
-use crate::finding::{Finding, span_at};
+use crate::finding::{Finding, span_in};
+use crate::flight::most_lines;
 use crate::language::{Label, Language, Statement};
+use crate::later::settle;
 use crate::layout::{Layout, Placing};
-use crate::line::{LINE_COUNT, text_conditions};
+use crate::line::text_conditions;
 use agc_text::next_line;
 use std::alloc::{AllocError, Global};
 use symbols::{Symbols, Value};
@@ -59,7 +61,7 @@ impl Survey {
         ensures err { IfErr result (λ fault. fault ≡ no_memory) }
     {
         let Statement { label, operation } = statement;
-        let of_text = text_conditions(line, text);
+        let of_text = text_conditions(self.layout.language, line, text);
         let of_layout = self.layout.conditions(&self.placing, &label, &operation);
         let refused = is_refused(&of_text, &of_layout);
         let displaced = is_displaced(&of_layout);
@@ -71,6 +73,17 @@ impl Survey {
             .layout
             .operation(&mut self.placing, line, label, operation)
         {
+            Ok(()) => Ok(()),
+            Err(_) => Err(NO_MEMORY),
+        }
+    }
+
+    // Gives the names that wait their values.
+    fn settle(&mut self) -> Result<(), Fault>
+        ensures settled { (line : ℕ) (s : Surveyed) → Surveys line s self.old → OnOk result (Surveys line (settled_survey s) self.new) }
+        ensures err { IfErr result (λ fault. fault ≡ no_memory) }
+    {
+        match settle(&mut self.layout.symbols, &self.layout.promises) {
             Ok(()) => Ok(()),
             Err(_) => Err(NO_MEMORY),
         }
@@ -130,20 +143,21 @@ pub fn findings(alloc: Global, language: Language, source: &[u8]) -> Result<Vec<
     ensures told { IfOk result (λ findings. findings.items ≡ told language source.now) }
     ensures err { IfErr result (λ fault. fault ≡ no_memory) }
 {
-    let whole = passed_lines(alloc, language, source)?;
+    let mut whole = passed_lines(alloc, language, source)?;
+    whole.settle()?;
     told_lines(alloc, language, source, &whole)
 }
 
 // What stands after the lines of a source.
 fn passed_lines(alloc: Global, language: Language, source: &[u8]) -> Result<Survey, Fault>
-    ensures passed { IfOk result (λ survey. (line : ℕ) × Surveys line (passed_lines 1 (unmarked language) (looked_at source.now)) survey) }
+    ensures passed { IfOk result (λ survey. (line : ℕ) × Surveys line (passed_lines 1 (unmarked language) (looked_at language source.now)) survey) }
     ensures err { IfErr result (λ fault. fault ≡ no_memory) }
 {
     let mut survey = Survey::start(alloc, language)?;
     let mut rest = source;
     let mut line = 1;
     while let Some((text, after)) = next_line(rest) {
-        if line > LINE_COUNT + 1 {
+        if line > most_lines(language) + 1 {
             return Ok(survey);
         }
         let statement = survey.layout.statement_on(text);
@@ -161,8 +175,8 @@ fn told_lines(
     source: &[u8],
     whole: &Survey,
 ) -> Result<Vec<Finding>, Fault>
-    requires { (line : ℕ) × Surveys line (passed_lines 1 (unmarked language) (looked_at source.now)) whole.now }
-    ensures told { IfOk result (λ findings. findings.items ≡ told_lines (passed_lines 1 (unmarked language) (looked_at source.now)) 1 (unmarked language) (looked_at source.now)) }
+    requires { (line : ℕ) × Surveys line (settled_survey (passed_lines 1 (unmarked language) (looked_at language source.now))) whole.now }
+    ensures told { IfOk result (λ findings. findings.items ≡ told_lines (settled_survey (passed_lines 1 (unmarked language) (looked_at language source.now))) 1 (unmarked language) (looked_at language source.now)) }
     ensures err { IfErr result (λ fault. fault ≡ no_memory) }
 {
     let mut survey = Survey::start(alloc, language)?;
@@ -170,7 +184,7 @@ fn told_lines(
     let mut rest = source;
     let mut line = 1;
     while let Some((text, after)) = next_line(rest) {
-        if line > LINE_COUNT + 1 {
+        if line > most_lines(language) + 1 {
             return Ok(told);
         }
         let statement = survey.layout.statement_on(text);
@@ -211,12 +225,14 @@ const KINDS_IN_ORDER: [FaultKind; 18] = [
 struct LineFaults {
     of_text: [Option<FaultKind>; 3],
     of_layout: Conditions,
+    of_promise: Option<FaultKind>,
     of_words: [Option<FaultKind>; 2],
 }
 
 // A line of which faults are told.
 #[derive(Clone, Copy, Drop)]
 struct Telling<'a> {
+    language: Language,
     line: u32,
     text: &'a [u8],
     doubt: Doubt,
@@ -237,13 +253,17 @@ impl Survey {
     {
         let Statement { label, operation } = statement;
         let telling = Telling {
+            language: self.layout.language,
             line,
             text,
             doubt: Doubt::of(&whole.lost, &self.lost, self.known, text, operation),
         };
         let faults = LineFaults {
-            of_text: text_conditions(line, text),
+            of_text: text_conditions(self.layout.language, line, text),
             of_layout: self.layout.conditions(&self.placing, label, operation),
+            of_promise: self
+                .layout
+                .waiting_condition(&whole.layout.symbols, label, operation),
             of_words: self
                 .layout
                 .word_conditions(&whole.layout.symbols, operation),
@@ -255,7 +275,7 @@ impl Survey {
 impl Telling<'_> {
     // Appends what is told of the faults of the line.
     fn tell(self, faults: &LineFaults, told: &mut Vec<Finding>) -> Result<(), AllocError>
-        ensures { OnOk result (told.new.items ≡ told.old.items ++ told_of self.entry.doubt self.entry.line self.entry.text.now (kinds_of faults.now)) }
+        ensures { OnOk result (told.new.items ≡ told.old.items ++ told_of self.entry.language self.entry.doubt self.entry.line self.entry.text.now (kinds_of faults.now)) }
     {
         self.tell_each(faults, &KINDS_IN_ORDER, told)
     }
@@ -267,7 +287,7 @@ impl Telling<'_> {
         kinds: &[FaultKind],
         told: &mut Vec<Finding>,
     ) -> Result<(), AllocError>
-        ensures { OnOk result (told.new.items ≡ told.old.items ++ map (finding self.entry.line self.entry.text.now) (filter (λ kind. is_one_of (kinds_of faults.now) kind && not (follows self.entry.doubt kind)) kinds.now)) }
+        ensures { OnOk result (told.new.items ≡ told.old.items ++ map (finding self.entry.language self.entry.line self.entry.text.now) (filter (λ kind. is_one_of (kinds_of faults.now) kind && not (follows self.entry.doubt kind)) kinds.now)) }
     {
         for kind in kinds {
             if faults.has(*kind) && !self.doubt.follows(*kind) {
@@ -278,12 +298,12 @@ impl Telling<'_> {
     }
 
     fn finding(self, kind: FaultKind) -> Finding
-        ensures { result ≡ finding self.entry.line self.entry.text.now kind }
+        ensures { result ≡ finding self.entry.language self.entry.line self.entry.text.now kind }
     {
         Finding {
             line: self.line,
             number: kind.number(),
-            span: span_at(self.text, kind),
+            span: span_in(self.language, self.text, kind),
         }
     }
 }
@@ -296,6 +316,7 @@ impl LineFaults {
     {
         is_one_of(&self.of_text, kind)
             || is_one_of(&self.of_layout, kind)
+            || is_kind(self.of_promise, kind)
             || is_one_of(&self.of_words, kind)
     }
 }

@@ -133,6 +133,7 @@ fn term_value(
             Some(value) => Ok(Point::of_value(value)),
             None => Err(missing),
         },
+        Term::Place(bank, offset) => Ok(Point::Fixed(*bank, offset.number())),
         Term::Here => Ok(Point::of_location(here)),
     }
 }

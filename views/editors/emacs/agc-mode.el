@@ -6,17 +6,18 @@
 ;;; Code:
 
 (defconst agc-directives
-  '("SETLOC" "BANK" "BLOCK" "ERASE" "EQUALS" "=" "EBANK="))
+  '("EQUALS" "=" "SETLOC" "BANK" "BLOCK" "ERASE" "EBANK="))
 
 (defconst agc-constants
   '("OCT" "DEC" "ADRES" "ECADR" "CADR" "FCADR" "2CADR"))
 
 (defconst agc-instructions
-  '("TC" "TCR" "CCS" "TCF" "DAS" "LXCH" "INCR" "ADS" "CA" "CAE" "CAF" "CS" "INDEX" "NDX" "DXCH" "TS" "XCH" "AD" "MASK" "MSK"
-    "RELINT" "INHINT" "EXTEND" "RESUME" "XXALQ" "XLQ" "RETURN" "DDOUBL" "ZL" "COM" "DTCF" "DTCB" "OVSK" "TCAA" "DOUBLE" "NOOP"))
+  '("TCR" "NDX" "MSK" "CAE" "CAF" "RELINT" "INHINT" "EXTEND" "RESUME" "XXALQ" "XLQ" "RETURN" "DDOUBL" "ZL" "COM" "DTCF" "DTCB"
+    "OVSK" "TCAA" "DOUBLE" "NOOP" "TC" "CCS" "TCF" "DAS" "LXCH" "INCR" "ADS" "CA" "CS" "INDEX" "DXCH" "TS" "XCH" "AD" "MASK"))
 
 (defconst agc-extracodes
-  '("READ" "WRITE" "RAND" "WAND" "ROR" "WOR" "RXOR" "DV" "BZF" "MSU" "QXCH" "AUG" "DIM" "DCA" "DCS" "SU" "BZMF" "MP" "ZQ" "DCOM" "SQUARE"))
+  '("ZQ" "DCOM" "SQUARE" "READ" "WRITE" "RAND" "WAND" "ROR" "WOR" "RXOR" "DV" "BZF" "MSU" "QXCH" "AUG" "DIM" "DCA" "DCS" "SU"
+    "BZMF" "MP"))
 
 (defun agc-operator (names)
   "Return a pattern of a line whose operator is one of NAMES."

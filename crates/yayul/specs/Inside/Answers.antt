@@ -11,7 +11,7 @@ use Rattle.yayul.specs.Language.{BankFull, CodeInErasable, Content, Fault, Fault
 use Rattle.yayul.specs.declared.layout.Layout.{Layout as Held}
 use Rattle.yayul.specs.declared.layout.Placing.{Placing}
 use Rattle.yayul.specs.declared.mark.Mark.{Mark}
-use Rattle.yayul.specs.Inside.Representation.{request_of, is_undefined, holds_word, shown_by_mark}
+use Rattle.yayul.specs.Inside.Representation.{promise_of, request_of, is_undefined, holds_word, shown_by_mark}
 use Rattle.yayul.specs.Inside.Sound.{AreEnds}
 use Rattle.yayul.specs.Inside.Waiting.{Holds, AreKnown, held}
 
@@ -36,7 +36,7 @@ with_requests rs s = record s { requests = rs }
 
 -- the layout that stands after some lines, without what they ask for
 abbrev pub layout_of : Held → Layout
-layout_of l = record { language = l.language; location = l.location; symbols = l.symbols; requests = []; extracode = l.extracode; eb = l.eb }
+layout_of l = record { language = l.language; location = l.location; symbols = l.symbols; promised = l.promised; promises = map promise_of l.promises.items; requests = []; extracode = l.extracode; eb = l.eb }
 
 -- the words are held that a layout asks for, which stands before a line
 pub record Keeps (line : ℕ) (s : Layout) (p : Placing) : Type 0 where

@@ -15,7 +15,7 @@ use Rattle.symbols.specs.declared.values.Value.TheVariants.{Num, Erasable, Fixed
 use Rattle.yayul.specs.Forms.{operation_of}
 use Rattle.yayul.specs.Flight.{flight_operation_of, flight_operator, scales_after}
 use Rattle.yayul.specs.Language.{BadBank, BadOperand, BankRange, FaultKind, Is, Location, NoForm, Numeral, TooLarge, Undefined}
-use Rattle.yayul.specs.Layout.{Request, Layout, word_place, after_words, statement_on, line_effect}
+use Rattle.yayul.specs.Layout.{Promise, Request, Layout, word_place, after_words, statement_on, line_effect}
 use Rattle.yayul.specs.Listing.{Margin, Shown, nothing, line_rows, shown}
 use Rattle.yayul.specs.Operators.{operators, is_bank}
 use Rattle.yayul.specs.Program.{Source, Program}
@@ -25,6 +25,7 @@ use Rattle.yayul.specs.declared.language.Operation.{Operation}
 use Rattle.yayul.specs.declared.language.Operation.TheVariants.{Nothing}
 use Rattle.yayul.specs.declared.mark.Mark.{Mark}
 use Rattle.yayul.specs.declared.mark.Mark.TheVariants as mark
+use Rattle.yayul.specs.declared.request.Promise.{Promise as StoredPromise}
 use Rattle.yayul.specs.declared.request.WordRequest.{WordRequest}
 use Rattle.yayul.specs.declared.values.Point.{Point}
 use Rattle.yayul.specs.declared.values.Point.TheVariants as point
@@ -62,6 +63,10 @@ value_at (point.Fixed bank n) = Fixed bank n
 -- a request as it is stored
 abbrev pub request_of : WordRequest → Request
 request_of r = record { line = r.line; bank = r.bank; offset = r.offset; content = r.content; extracode = r.extracode; eb = r.eb }
+
+-- a promise as it is stored
+abbrev pub promise_of : StoredPromise → Promise
+promise_of p = record { line = p.line; name = p.name.items; operand = p.operand }
 
 -- one or two words, in order
 abbrev pub words_in : LineWords → List ℕ

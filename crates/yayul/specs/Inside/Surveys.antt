@@ -1,5 +1,5 @@
 -- What the code holds of a survey.
-use Rattle.std.specs.Prelude.{◌≡◌, ◌++◌, ℕ, List}
+use Rattle.std.specs.Prelude.{◌≡◌, ◌++◌, ◌∷◌, [], ℕ, List}
 use Rattle.yayul.specs.Layout.{standing}
 use Rattle.yayul.specs.Language.{FaultKind}
 use Rattle.yayul.specs.Survey.{Survey}
@@ -9,7 +9,7 @@ use Rattle.yayul.specs.declared.survey.Survey.{Survey as Held}
 
 -- the faults of a line
 abbrev pub kinds_of : LineFaults → List FaultKind
-kinds_of f = standing f.of_text ++ standing f.of_layout ++ standing f.of_words
+kinds_of f = standing f.of_text ++ standing f.of_layout ++ standing (f.of_promise ∷ []) ++ standing f.of_words
 
 -- what stands before a line agrees with a survey
 pub record Surveys (line : ℕ) (s : Survey) (v : Held) : Type 0 where

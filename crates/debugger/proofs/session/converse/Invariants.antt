@@ -2,9 +2,8 @@ use Rattle.std.proofs.Common.{◌≡◌, ◌+◌, ◌*◌, ◌≤◌, true}
 use Rattle.cpu.specs.Run.{outs}
 use Rattle.commands.specs.Lines.{text_ahead, most_ahead, ReadsWithin}
 use Rattle.debugger.specs.Replies.{last_of, tail_length}
-use Rattle.debugger.specs.Transcript.{most_command_bytes}
 use Rattle.debugger.specs.Executions.{desk}
-use Rattle.debugger.specs.Conversation.{efforts, reading}
+use Rattle.debugger.specs.Conversation.{efforts, reading, most_bytes}
 use Rattle.debugger.proofs.LineByLine.{Taken, Answered}
 use Rattle.debugger.proofs.session.converse.Given as goal
 
@@ -14,10 +13,10 @@ invariant-commands g l = record {
   tail : l.desk.tail ≡ last_of tail_length (outs l.session.scenario l.session.n);
   reader : g.R.Read.failures l.commands ≡ g.R.Read.failures l.fn.commands;
   writer : g.W.Write.failures l.out ≡ g.W.Write.failures l.fn.out;
-  reads : g.R.Read.told ≡ true → ReadsWithin (g.R.Read.left l.fn.commands) (g.R.Read.left l.commands) most_command_bytes l.reader.more;
-  lines : g.R.Read.told ≡ true → (r : Taken (reading l.manner l.symbols) (g.R.Read.left l.fn.commands) most_command_bytes (text_ahead l.reader (g.R.Read.left l.commands)) (most_ahead l.reader))
+  reads : g.R.Read.told ≡ true → ReadsWithin (g.R.Read.left l.fn.commands) (g.R.Read.left l.commands) (most_bytes l.manner) l.reader.more;
+  lines : g.R.Read.told ≡ true → (r : Taken (reading l.manner l.symbols) (g.R.Read.left l.fn.commands) (most_bytes l.manner) (text_ahead l.reader (g.R.Read.left l.commands)) (most_ahead l.reader))
       × (l.session.meter ≤ l.fn.session.meter + (efforts (reading l.manner l.symbols) r.done + 1) * l.session.n)
-      × (g.W.Write.told ≡ true → Answered (record { may_refuse = g.K.Keeper.may_refuse; symbols = l.symbols; read = reading l.manner l.symbols; scenario = l.fn.session.scenario }) r.done (desk l.session l.desk.position l.desk.breakpoints) (g.W.Write.written l.fn.out) (g.W.Write.written l.out));
+      × (g.W.Write.told ≡ true → Answered (record { may_refuse = g.K.Keeper.may_refuse; symbols = l.symbols; read = reading l.manner l.symbols; most = most_bytes l.manner; scenario = l.fn.session.scenario }) r.done (desk l.session l.desk.position l.desk.breakpoints) (g.W.Write.written l.fn.out) (g.W.Write.written l.out));
 }
 
 abbrev pub decreases-commands : goal.decreases-commands

@@ -87,3 +87,6 @@ returns-in-34 c = rw c.in-34.is refl
 
 pub returns-in-35 : goal.returns-in-35
 returns-in-35 c = rw c.in-35.is refl
+
+pub returns-in-36 : goal.returns-in-36
+returns-in-36 c = rw c.in-36.is refl

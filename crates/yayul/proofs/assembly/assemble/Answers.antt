@@ -1,14 +1,14 @@
 use Rattle.std.proofs.lemmas.Result.{err_from_is_err_and}
 use Rattle.agc_text.specs.Lines.{lines}
 use Rattle.yayul.specs.Layout.{start, layout_after}
-use Rattle.yayul.specs.Program.{program, completed}
+use Rattle.yayul.specs.Program.{program, finished}
 use Rattle.yayul.proofs.Completed.{program_ok, program_err, answers_same}
 use Rattle.yayul.proofs.assembly.assemble.Goals as goal
 
 pub returns : goal.returns
 returns c =
-    answers_same (program c.args.language c.args.source.now) (completed (layout_after 1 (start c.args.language) (lines c.args.source.now)) (record { language = c.args.language; text = c.args.source.now })) c.complete.result
-    (program_ok c.args.language c.args.source.now c.in_ok-layout.ensures.lays_out.0) c.complete.ensures
+    answers_same (program c.args.language c.args.source.now) (finished (layout_after 1 (start c.args.language) (lines c.args.source.now)) (record { language = c.args.language; text = c.args.source.now })) c.finish.result
+    (program_ok c.args.language c.args.source.now c.in_ok-layout.ensures.lays_out.0) c.finish.ensures
 
 pub returns-in_err-layout : goal.returns-in_err-layout
 returns-in_err-layout c =

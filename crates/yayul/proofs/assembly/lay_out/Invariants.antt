@@ -1,5 +1,6 @@
-use Rattle.std.proofs.Common.{◌≡◌, ◌≤◌, ◌++◌, length, map}
+use Rattle.std.proofs.Common.{◌≡◌, ◌≤◌, ◌+◌, ◌++◌, length, map}
 use Rattle.agc_text.specs.Lines.{lines}
+use Rattle.yayul.specs.Flight.{most_lines}
 use Rattle.yayul.specs.Layout.{Layout, start, layout_after, layout_faults}
 use Rattle.yayul.specs.Inside.Representation.{shown_by_mark, lines_show}
 use Rattle.yayul.specs.Inside.Answers.{Agrees}
@@ -12,7 +13,8 @@ invariant-loop-text l = record {
   same_faults : layout_faults 1 (start l.fn.language) (lines l.source) ≡ layout_faults l.line state (lines l.rest);
   same_layout : layout_after 1 (start l.fn.language) (lines l.source) ≡ layout_after l.line state (lines l.rest);
   same_shown : map shown_by_mark l.initial.marks ++ lines_show 1 (start l.fn.language) (lines l.source) ≡ map shown_by_mark l.marks ++ lines_show l.line state (lines l.rest);
-  few : l.line ≤ 65537;
+  language : state.language ≡ l.fn.language;
+  few : l.line ≤ most_lines l.fn.language + 1;
 }
 
 abbrev pub decreases-loop-text : goal.decreases-loop-text

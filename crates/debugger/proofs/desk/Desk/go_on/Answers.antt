@@ -9,19 +9,19 @@ use Rattle.debugger.proofs.desk.Desk.go_on.Goals as goal
 
 pub returns-in-Some-clause-executes : goal.returns-in-Some-clause-executes
 unfolding extended_reply
-returns-in-Some-clause-executes g c = λ told symbols.
+returns-in-Some-clause-executes g c = λ told terms.
     let s = c.args.session.now in
     let looked = c.next_stop.ensures.looked in
     let shown = c.stop_text.ensures.looked in
     let scene = shown.scenario ∙ looked.scenario in
     let steps = shown.steps ∙ looked.steps in
     let some : next_stop (history s.scenario) (desk s c.args.self.now.position c.args.self.now.breakpoints) c.args.steps ≡ Some c.in-Some.step = sym c.next_stop.ensures.next ∙ c.in-Some.is in
-    replies-text g.K.Keeper.may_refuse (to_asked symbols (On c.args.steps)) _ _ _ _ c.stop_text.result.items _ _ (λ answers additions. rw (some, scene, steps, c.stop_text.ensures.text, looked.scenario) refl) c.as_slice.ensures.value (c.write_all.ensures.written told)
+    replies-text g.K.Keeper.may_refuse (to_asked terms (On c.args.steps)) _ _ _ _ c.stop_text.result.items _ _ (λ answers additions. rw (some, scene, steps, c.stop_text.ensures.text, looked.scenario) refl) c.as_slice.ensures.value (c.write_all.ensures.written told)
 
 pub returns-in-None-clause-executes : goal.returns-in-None-clause-executes
 unfolding extended_reply
-returns-in-None-clause-executes g c = λ told symbols.
+returns-in-None-clause-executes g c = λ told terms.
     let s = c.args.session.now in
     let looked = c.next_stop.ensures.looked in
     let none : next_stop (history s.scenario) (desk s c.args.self.now.position c.args.self.now.breakpoints) c.args.steps ≡ None = sym c.next_stop.ensures.next ∙ c.in-None.is in
-    replies-same g.K.Keeper.may_refuse (to_asked symbols (On c.args.steps)) (grows_on c.args.steps) _ _ _ _ _ (λ answers additions. rw none refl) (rw (looked.scenario, looked.steps) at (c.grow_on.ensures.executes told))
+    replies-same g.K.Keeper.may_refuse (to_asked terms (On c.args.steps)) (grows_on c.args.steps) _ _ _ _ _ (λ answers additions. rw none refl) (rw (looked.scenario, looked.steps) at (c.grow_on.ensures.executes told))

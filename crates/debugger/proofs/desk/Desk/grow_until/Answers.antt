@@ -5,6 +5,7 @@ use Rattle.debugger.specs.Replies.{ending_line}
 use Rattle.debugger.specs.ExtendedReplies.{unhit}
 use Rattle.debugger.specs.Executions.{makes_until}
 use Rattle.debugger.proofs.Stepping.{steps-broken, steps-told}
+use Rattle.debugger.specs.declared.manner.Manner.TheVariants as manner
 use Rattle.debugger.proofs.desk.Desk.grow_until.Goals as goal
 
 pub returns-in-Ok-clause-executes : goal.returns-in-Ok-clause-executes
@@ -16,11 +17,11 @@ returns-in-Ok-clause-executes g c = λ told.
     let scene : t.scenario ≡ s.scenario = looked.scenario ∙ c.grow.ensures.scenario in
     let at : c.steps-self.result ≡ t.n = omega arith in
     let made = c.in-Ok.ensures.growth told in
-    steps-told g.K.Keeper.may_refuse s c.args.self.now.position c.args.self.now.breakpoints (makes_until c.args.cycles) (λ e. ending_line (unhit e)) (Cycles c.args.cycles ∷ []) most_count (λ n. n) t c.steps-self.result c.in-Ok.ending (W.written c.args.out.now) (W.written c.grow.new.out) (W.written c.tell_ending.new.out) c.tell_ending.result
+    steps-told manner.Extended g.K.Keeper.may_refuse s c.args.self.now.position c.args.self.now.breakpoints (makes_until c.args.cycles) (λ e. ending_line (unhit e)) (Cycles c.args.cycles ∷ []) most_count (λ n. n) t c.steps-self.result c.in-Ok.ending (W.written c.args.out.now) (W.written c.grow.new.out) (W.written c.tell_ending.new.out) c.tell_ending.result
     (λ answers additions. refl) scene at (rw looked.steps made) (rw (c.unhit.ensures, c.grow.ensures.scenario) at (c.tell_ending.ensures.written told))
 
 pub returns-in-Err-clause-executes : goal.returns-in-Err-clause-executes
 returns-in-Err-clause-executes g c = λ told.
     let W = g.W.Write in
-    steps-broken g.K.Keeper.may_refuse c.args.session.now c.args.self.now.position c.args.self.now.breakpoints (makes_until c.args.cycles) (λ e. ending_line (unhit e)) (Cycles c.args.cycles ∷ []) most_count (λ n. n) (W.written c.args.out.now) (W.written c.grow.new.out)
+    steps-broken manner.Extended g.K.Keeper.may_refuse c.args.session.now c.args.self.now.position c.args.self.now.breakpoints (makes_until c.args.cycles) (λ e. ending_line (unhit e)) (Cycles c.args.cycles ∷ []) most_count (λ n. n) (W.written c.args.out.now) (W.written c.grow.new.out)
     (λ answers additions. refl) (c.in-Err.ensures.growth told)

@@ -1,0 +1,229 @@
+//! `over` and `out`: on to where a routine or an interrupt returns to.
+
+ghost use Rattle.std.specs.Prelude.{◌≡◌, ◌+◌, ◌-◌, ◌*◌, ◌≤◌, ◌++◌, true, IfSome};
+ghost use Rattle.arrayvec.specs.ArrayVec.{array_vec_len};
+ghost use Rattle.words.specs.Devices.{failures_after};
+ghost use Rattle.cpu.specs.State.{FitsRun};
+ghost use Rattle.cpu.specs.Run.{run, outs};
+ghost use Rattle.commands.specs.declared.extended.ExtendedRequest.TheVariants as asked;
+ghost use Rattle.debugger.specs.History.{history};
+ghost use Rattle.debugger.specs.Replies.{last_of, tail_length, at_line_of};
+ghost use Rattle.debugger.specs.Routines.{over_end, out_end, arrived, routines, next_end, arrival_text};
+ghost use Rattle.debugger.specs.Terms.{Terms};
+ghost use Rattle.debugger.specs.Conversation.{to_asked};
+ghost use Rattle.debugger.specs.declared.manner.Manner.TheVariants as manner;
+ghost use Rattle.debugger.specs.Executions.{desk, Replies, goes_to_end, grows_to_end, HasLooked, HasGoneOn, HasDone};
+
+use crate::breakpoints::holds;
+use crate::desk::Desk;
+use crate::ending::Ending;
+use crate::growing::grow;
+use crate::manner::Manner;
+use crate::routines::{Routines, entered};
+use crate::texts::{Text, number_line, push_at_line, text_line};
+use arrayvec::ArrayVec;
+use commands::Breakpoint;
+use cpu::{Machine, Processor};
+use replay::{Keeper, Session};
+use words::{Write, WriteFailed, write_all};
+
+impl Desk {
+    /// `over`: to after the routine that the next instruction enters, or one step on.
+    pub(crate) fn go_over<K: Keeper, W: Write>(
+        &mut self,
+        session: &mut Session<K>,
+        steps: u64,
+        out: &mut W,
+    ) -> Result<(), WriteFailed>
+        requires within { self.old.position ≤ session.old.n }
+        requires tail { self.old.tail ≡ last_of tail_length (outs session.old.scenario session.old.n) }
+        ensures executes { W.told ≡ true → (terms : Terms) → Replies K.may_refuse (to_asked terms (asked.Over steps)) (desk session.old self.old.position self.old.breakpoints) (desk session.new self.new.position self.new.breakpoints) (W.written out.old) (W.written out.new) result }
+        ensures within { self.new.position ≤ session.new.n }
+        ensures tail { self.new.tail ≡ last_of tail_length (outs session.new.scenario session.new.n) }
+        ensures session { HasGoneOn session.old session.new }
+        ensures failures { W.failures out.new ≡ failures_after (W.failures out.old) result }
+    {
+        let (end, cycles) = self.over_end(session);
+        self.go_to(session, &end, cycles, steps, out)
+    }
+
+    /// `out`: to where the routine or the interrupt returns to that is in progress.
+    pub(crate) fn go_out<K: Keeper, W: Write>(
+        &mut self,
+        session: &mut Session<K>,
+        steps: u64,
+        out: &mut W,
+    ) -> Result<(), WriteFailed>
+        requires within { self.old.position ≤ session.old.n }
+        requires tail { self.old.tail ≡ last_of tail_length (outs session.old.scenario session.old.n) }
+        ensures executes { W.told ≡ true → (terms : Terms) → Replies K.may_refuse (to_asked terms (asked.Out steps)) (desk session.old self.old.position self.old.breakpoints) (desk session.new self.new.position self.new.breakpoints) (W.written out.old) (W.written out.new) result }
+        ensures within { self.new.position ≤ session.new.n }
+        ensures tail { self.new.tail ≡ last_of tail_length (outs session.new.scenario session.new.n) }
+        ensures session { HasDone 4 session.old session.new }
+        ensures failures { W.failures out.new ≡ failures_after (W.failures out.old) result }
+    {
+        let (end, cycles) = self.out_end(session);
+        match end {
+            Some(end) => self.go_to(session, &end, cycles, steps, out),
+            None => write_all(out, b"NONE\n"),
+        }
+    }
+
+    /// Where `over` ends, and the cycles at the position.
+    fn over_end<K: Keeper>(&self, session: &mut Session<K>) -> (Breakpoint, u64)
+        requires { self.now.position ≤ session.old.n }
+        ensures end { result.0 ≡ over_end session.old.scenario (run session.old.scenario self.now.position) }
+        ensures cycles { result.1 ≡ (run session.old.scenario self.now.position).cycles }
+        ensures looked { HasLooked session.old session.new session.old.n }
+    {
+        match session.with_present(self.position) {
+            Ok((machine, _, processor)) => (over_end(processor, machine), machine.cycles()),
+            Err(_) => unreachable!(),
+        }
+    }
+
+    /// Where `out` ends, if anything is in progress, and the cycles at the position.
+    fn out_end<K: Keeper>(&self, session: &mut Session<K>) -> (Option<Breakpoint>, u64)
+        requires { self.now.position ≤ session.old.n }
+        ensures end { result.0 ≡ out_end (run session.old.scenario self.now.position) (routines session.old.scenario self.now.position) }
+        ensures cycles { result.1 ≡ (run session.old.scenario self.now.position).cycles }
+        ensures looked { HasLooked session.old session.new (2 * session.old.n) }
+    {
+        let mut routines = Routines::none();
+        session.look_over(self.position, &mut routines);
+        match session.show(self.position) {
+            Ok(machine) => (out_end(machine, routines), machine.cycles()),
+            Err(_) => unreachable!(),
+        }
+    }
+
+    /// On to the first step at which an end is come to, by at most so many.
+    fn go_to<K: Keeper, W: Write>(
+        &mut self,
+        session: &mut Session<K>,
+        end: &Breakpoint,
+        cycles: u64,
+        steps: u64,
+        out: &mut W,
+    ) -> Result<(), WriteFailed>
+        requires within { self.old.position ≤ session.old.n }
+        requires tail { self.old.tail ≡ last_of tail_length (outs session.old.scenario session.old.n) }
+        requires cycles { cycles ≡ (run session.old.scenario self.old.position).cycles }
+        ensures executes { W.told ≡ true → Replies K.may_refuse (goes_to_end end.now steps) (desk session.old self.old.position self.old.breakpoints) (desk session.new self.new.position self.new.breakpoints) (W.written out.old) (W.written out.new) result }
+        ensures within { self.new.position ≤ session.new.n }
+        ensures tail { self.new.tail ≡ last_of tail_length (outs session.new.scenario session.new.n) }
+        ensures forward { session.old.n ≤ session.new.n }
+        ensures spends { session.new.meter + 2 * session.old.n ≤ session.old.meter + 4 * session.new.n }
+        ensures failures { W.failures out.new ≡ failures_after (W.failures out.old) result }
+    {
+        match self.next_end(session, end, steps) {
+            Some(step) => {
+                self.position = step;
+                let text = self.arrival_text(session, Ending::Hit(1), cycles);
+                write_all(out, text.as_slice())
+            }
+            None => self.grow_to(session, end, cycles, steps, out),
+        }
+    }
+
+    /// The first step after the position, of so many that stand, at which an end is come to.
+    fn next_end<K: Keeper>(
+        &self,
+        session: &mut Session<K>,
+        end: &Breakpoint,
+        steps: u64,
+    ) -> Option<u64>
+        requires { self.now.position ≤ session.old.n }
+        ensures next { result ≡ next_end (history session.old.scenario) (desk session.old self.now.position self.now.breakpoints) end.now steps }
+        ensures within { IfSome result (λ t. t ≤ session.old.n) }
+        ensures looked { HasLooked session.old session.new session.old.n }
+    {
+        let count = steps.min(session.steps() - self.position);
+        session.seek_on(self.position + 1, count, |machine| holds(*end, machine))
+    }
+
+    /// How steps ended, with the cycles since so many, and the line of the position.
+    #[tactic(auto, unfolding(crate::specs::History::history))]
+    fn arrival_text<K: Keeper>(&self, session: &mut Session<K>, ending: Ending, cycles: u64) -> Text
+        requires { self.now.position ≤ session.old.n }
+        ensures text { result.items ≡ arrival_text ending ((run session.old.scenario self.now.position).cycles - cycles) ++ at_line_of manner.Extended self.now.position ((history session.old.scenario).after self.now.position) }
+        ensures looked { HasLooked session.old session.new session.old.n }
+    {
+        match session.show(self.position) {
+            Ok(machine) => {
+                let mut text = arrival_text(ending, machine.cycles().saturating_sub(cycles));
+                push_at_line(&mut text, Manner::Extended, self.position, machine);
+                text
+            }
+            Err(_) => unreachable!(),
+        }
+    }
+
+    /// On by new steps, where none that stands comes to the end.
+    fn grow_to<K: Keeper, W: Write>(
+        &mut self,
+        session: &mut Session<K>,
+        end: &Breakpoint,
+        cycles: u64,
+        steps: u64,
+        out: &mut W,
+    ) -> Result<(), WriteFailed>
+        requires within { self.old.position ≤ session.old.n }
+        requires tail { self.old.tail ≡ last_of tail_length (outs session.old.scenario session.old.n) }
+        requires cycles { cycles ≡ (run session.old.scenario self.old.position).cycles }
+        ensures executes { W.told ≡ true → Replies K.may_refuse (grows_to_end end.now steps) (desk session.old self.old.position self.old.breakpoints) (desk session.new self.new.position self.new.breakpoints) (W.written out.old) (W.written out.new) result }
+        ensures within { self.new.position ≤ session.new.n }
+        ensures tail { self.new.tail ≡ last_of tail_length (outs session.new.scenario session.new.n) }
+        ensures forward { session.old.n ≤ session.new.n }
+        ensures spends { session.new.meter + 2 * session.old.n ≤ session.old.meter + 3 * session.new.n }
+        ensures failures { W.failures out.new ≡ failures_after (W.failures out.old) result }
+    {
+        let breakpoints = [*end];
+        let more = steps.saturating_sub(session.steps() - self.position);
+        match grow(session, &mut self.tail, &breakpoints, more, out) {
+            Ok(ending) => {
+                self.position += steps.min(session.steps() - self.position);
+                let text = self.arrival_text(session, ending, cycles);
+                write_all(out, text.as_slice())
+            }
+            Err(failed) => Err(failed),
+        }
+    }
+}
+
+/// Where `over` ends.
+fn over_end(processor: &Processor, machine: &Machine) -> Breakpoint
+    requires { FitsRun processor.now.scenario machine.now }
+    ensures { result ≡ over_end processor.now.scenario machine.now }
+{
+    match entered(processor, machine) {
+        Some(place) => Breakpoint::Returned(place, machine.inside()),
+        None => Breakpoint::Cycles(0),
+    }
+}
+
+/// Where `out` ends, by the routines that were in progress before the machine came to where it stands.
+fn out_end(machine: &Machine, routines: Routines) -> Option<Breakpoint>
+    ensures { result ≡ out_end machine.now (arrived machine.now routines.returns.items) }
+{
+    if machine.inside() {
+        return Some(Breakpoint::Outside);
+    }
+    let mut routines = routines;
+    routines.leave(&machine.next_place());
+    let place = routines.innermost()?;
+    Some(Breakpoint::Returned(place, false))
+}
+
+/// How steps ended, with the cycles that they took where they came to the end.
+fn arrival_text(ending: Ending, cycles: u64) -> Text
+    ensures items { result.items ≡ arrival_text ending cycles }
+    ensures short { array_vec_len result ≤ 41 }
+{
+    match ending {
+        Ending::Reached => ArrayVec::new(),
+        Ending::Hit(_) => number_line(b"TOOK ", cycles),
+        Ending::NoMemory => text_line(b"E2 MEMORY"),
+        Ending::Limit => text_line(b"E40 LIMIT"),
+    }
+}

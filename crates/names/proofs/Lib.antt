@@ -1,0 +1,4 @@
+mod Nearest
+mod Rows
+mod Steps
+pub mod Told

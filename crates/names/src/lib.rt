@@ -1,0 +1,12 @@
+//! Names of places for images: tables of names, and the words of an image as text with names.
+#![tactic(auto)]
+
+mod entry;
+mod laws;
+mod lines;
+mod near;
+mod table;
+
+pub use laws::names_tell_places;
+pub use lines::{named_line, write_named_words};
+pub use table::{TableFault, names_in};

@@ -1,0 +1,61 @@
+//! Making steps once more, each of them written.
+
+ghost use Rattle.std.specs.Prelude.{◌≡◌, ◌+◌, ◌-◌, ◌^◌, ◌<◌, ◌≤◌, ℕ, List, true};
+ghost use Rattle.words.specs.Devices.{Writes, failures_after};
+ghost use Rattle.cpu.specs.State.{State, Scenario, FitsRun};
+ghost use Rattle.cpu.specs.Next.{next, most_cycles};
+ghost use Rattle.cpu.specs.Run.{run};
+ghost use Rattle.replay.specs.Retraced.{texts_after};
+ghost use Rattle.replay.specs.View.{counted};
+
+use cpu::{Machine, Processor};
+use words::{Write, WriteFailed};
+
+/// What makes a step, and writes a text of it.
+pub trait StepWriter {
+    /// Its text, by what runs, the number of the step and the state before it.
+    ghost text: { Self → Scenario → ℕ → State → List ℕ };
+
+    /// Makes a step as the processor does, and writes its text.
+    fn write_step<W: Write>(
+        &self,
+        processor: &mut Processor,
+        machine: &mut Machine,
+        number: u64,
+        out: &mut W,
+    ) -> Result<(), WriteFailed>
+        requires cycles { machine.old.cycles ≤ most_cycles }
+        requires fits { FitsRun processor.old.scenario machine.old }
+        ensures processor { processor.new ≡ record processor.old { meter = counted processor.old.meter } }
+        ensures state { machine.new ≡ (next processor.old.scenario machine.old).0 }
+        ensures written { W.told ≡ true →
+            Writes (W.written out.old) (W.written out.new) (text self.now processor.old.scenario number machine.old) result }
+        ensures failures { W.failures out.new ≡ failures_after (W.failures out.old) result };
+}
+
+/// Makes the steps from `low` up to `high`, and writes their texts; the machine stands at `low`.
+pub(crate) fn write_steps<T: StepWriter, W: Write>(
+    writer: &T,
+    processor: &mut Processor,
+    machine: &mut Machine,
+    low: u64,
+    high: u64,
+    out: &mut W,
+) -> Result<(), WriteFailed>
+    requires order { low ≤ high }
+    requires within { high < 2 ^ 40 }
+    requires metered { processor.old.meter < 2 ^ 128 }
+    requires stands { machine.old ≡ run processor.old.scenario low }
+    ensures written { W.told ≡ true →
+        Writes (W.written out.old) (W.written out.new) (texts_after (T.text writer.now processor.old.scenario) processor.old.scenario low (high - low)) result }
+    ensures failures { W.failures out.new ≡ failures_after (W.failures out.old) result }
+    ensures scenario { processor.new.scenario ≡ processor.old.scenario }
+    ensures metered { processor.new.meter < 2 ^ 128 }
+    ensures least { processor.old.meter ≤ processor.new.meter }
+    ensures most { processor.new.meter + low ≤ processor.old.meter + high }
+{
+    for at in low..high {
+        writer.write_step(processor, machine, at + 1, out)?;
+    }
+    Ok(())
+}
