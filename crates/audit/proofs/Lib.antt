@@ -1,7 +1,7 @@
 pub mod CheckSums
 pub mod Ends
-pub mod Fronts
-pub mod Listed
+pub mod PartTexts
+pub mod PlaceLines
 pub mod Places
 pub mod Steps
 pub mod TextRows

@@ -5,8 +5,8 @@ use Rattle.words.proofs.Texts.{append-then, beginning-after, beginning-longer}
 use Rattle.rope.specs.Places.{Words}
 use Rattle.audit.specs.declared.differences.Extent.{Extent}
 use Rattle.audit.specs.Differences.{difference_line, difference_lines, differing, differences, count_line}
-use Rattle.audit.proofs.Fronts.{front}
-use Rattle.audit.proofs.Listed.{listed_none, writes_listed, begins_listed, listed_end}
+use Rattle.audit.proofs.PartTexts.{front}
+use Rattle.audit.proofs.PlaceLines.{listed_none, writes_listed, begins_listed, listed_end}
 
 -- no place has no line
 pub lines_none : (old new : Words) (a : List ℕ) → a ≡ a ++ difference_lines old new []

@@ -6,14 +6,14 @@ use Rattle.std.proofs.lemmas.List.{length-drop, length-take}
 use Rattle.std.proofs.lemmas.List.Elements.{All-map, All-head, All-tail}
 use Rattle.agc_text.specs.Fields.{Piece, is_blank, before_comment, is_run_start, run_at, runs, texts, fields}
 use Rattle.symbols.specs.Values.{SymbolTable}
-use Rattle.commands.specs.Extended.{extended_in, extended_request_of}
-use Rattle.commands.specs.Lines.{kept, command_length}
-use Rattle.commands.specs.declared.command.Request.TheVariants.{TooLong}
-use Rattle.commands.specs.declared.extended.ExtendedRequest.TheVariants.{Plain}
+use Rattle.commands.specs.Extended.{extended_in, extended_line}
+use Rattle.commands.specs.Lines.{kept_line, command_length}
+use Rattle.commands.specs.declared.command.ParsedLine.TheVariants.{TooLong}
+use Rattle.commands.specs.declared.extended.ExtendedLine.TheVariants.{Plain}
 
 -- what a line asks for that is kept whole
-pub extended-kept : (symbols : SymbolTable) (line text : List ℕ) → Some text ≡ kept line → extended_in symbols text (fields text) ≡ extended_request_of symbols line
-unfolding extended_request_of
+pub extended-kept : (symbols : SymbolTable) (line text : List ℕ) → Some text ≡ kept_line line → extended_in symbols text (fields text) ≡ extended_line symbols line
+unfolding extended_line
 extended-kept symbols line text same =
     elim (cases_Bool (nat_lt command_length (length line))) [
       | inl long ↦ let no : Some text ≡ None = rw long at same in cc
@@ -21,8 +21,8 @@ extended-kept symbols line text same =
     ]
 
 -- what a line asks for that is too long
-pub extended-too-long : (symbols : SymbolTable) (line : List ℕ) → None ≡ kept line → Plain TooLong ≡ extended_request_of symbols line
-unfolding extended_request_of
+pub extended-too-long : (symbols : SymbolTable) (line : List ℕ) → None ≡ kept_line line → Plain TooLong ≡ extended_line symbols line
+unfolding extended_line
 extended-too-long symbols line same =
     elim (cases_Bool (nat_lt command_length (length line))) [
       | inl long ↦ rw long refl

@@ -11,46 +11,46 @@ use Rattle.space.specs.declared.place.Linear.TheVariants.{Erasable, Fixed}
 use Rattle.symbols.specs.declared.values.Value.TheVariants as value
 use Rattle.symbols.specs.Values.{SymbolTable}
 use Rattle.commands.specs.Commands.{forms}
-use Rattle.commands.specs.Extended.{extended_request_of, extended_forms}
+use Rattle.commands.specs.Extended.{extended_line, extended_forms}
 use Rattle.commands.specs.Usages.{usages}
 use Rattle.commands.specs.NamedPlaces.{registers}
 use Rattle.space.specs.Places.{window}
 use Rattle.commands.specs.declared.subject.Subject.TheVariants as subject
 use Rattle.commands.specs.declared.command.Breakpoint.TheVariants as breakpoint
 use Rattle.commands.specs.declared.command.Command.TheVariants.{Registers, Memory, Last, Break, Clear, Step, Add}
-use Rattle.commands.specs.declared.command.Request.TheVariants.{Nothing, TooLong, WrongCounter}
-use Rattle.commands.specs.declared.extended.ExtendedRequest.{ExtendedRequest}
-use Rattle.commands.specs.declared.extended.ExtendedRequest.TheVariants.{Plain, Common, Says, Help, Breaks, ClearOne, On, AllRegisters, Until, WhyStep, Why, Words, Where, Find, Trace, Inputs, Over, Out}
+use Rattle.commands.specs.declared.command.ParsedLine.TheVariants.{Nothing, TooLong, WrongCounter}
+use Rattle.commands.specs.declared.extended.ExtendedLine.{ExtendedLine}
+use Rattle.commands.specs.declared.extended.ExtendedLine.TheVariants.{Plain, Common, Says, Help, Breaks, ClearOne, On, AllRegisters, Until, WhyStep, Why, Words, Where, Find, Trace, Inputs, Over, Out}
 
 -- a place in fixed memory, and a number that is no place
 abbrev symbols : SymbolTable
 symbols = (codes "FIVE", value.Fixed 2 5) ∷ (codes "BIG", value.Num 0o10000) ∷ (codes "SUM", value.Erasable 0o101) ∷ (codes "Q", value.Erasable 0o102) ∷ (codes "CH12", value.Fixed 2 6) ∷ []
 
-abbrev asked : List (List ℕ) → List ExtendedRequest
-asked lines = map (extended_request_of symbols) lines
+abbrev asked : List (List ℕ) → List ExtendedLine
+asked lines = map (extended_line symbols) lines
 
 -- what no other session is asked for
 further : asked (codes "breaks" ∷ codes "clear 2 # the second" ∷ codes "help" ∷ codes "help mem" ∷ codes "on" ∷ codes "on 5" ∷ codes "regs all" ∷ codes "regs" ∷ codes "until 123456789012345" ∷ [])
     ≡ Breaks ∷ ClearOne 2 ∷ Help ∷ Says (codes "HELP mem takes a place, or a place and a count: the word there, or so many from there on\n") ∷ On 999999999999999 ∷ On 5 ∷ AllRegisters ∷ Common Registers ∷ Until 123456789012345 ∷ []
-unfolding extended_request_of extended_forms usages forms runs parsed counters sequences registers window
+unfolding extended_line extended_forms usages forms runs parsed counters sequences registers window
 further = refl
 
 -- what any session is asked for
 plain : asked (codes "clear" ∷ codes "mem FIVE" ∷ codes " step 1 # one" ∷ codes "add 12 TIME1 PINC" ∷ codes "add 12 TIME1 DINC" ∷ codes "# nothing" ∷ [] ∷ replicate 81 32 ∷ [])
     ≡ Common Clear ∷ Common (Memory (Fixed 2 5)) ∷ Common (Step 1) ∷ Common (Add 12 (Count Time1 Pinc)) ∷ Plain WrongCounter ∷ Plain Nothing ∷ Plain Nothing ∷ Plain TooLong ∷ []
-unfolding extended_request_of extended_forms usages forms runs parsed counters sequences registers window
+unfolding extended_line extended_forms usages forms runs parsed counters sequences registers window
 plain = refl
 
 -- what stands after `echo` and one byte, a comment sign too
 echoes : asked (codes "echo DONE 5" ∷ codes " echo  two # three" ∷ codes "echo" ∷ codes "echo " ∷ [])
     ≡ Says (codes "DONE 5\n") ∷ Says (codes " two # three\n") ∷ Says (codes "\n") ∷ Says (codes "\n") ∷ []
-unfolding extended_request_of extended_forms usages forms runs parsed counters sequences registers window
+unfolding extended_line extended_forms usages forms runs parsed counters sequences registers window
 echoes = refl
 
 -- what `why` is about: an erasable place, and where no symbol has the name a register or a channel; and how many links it tells
 whys : asked (codes "why" ∷ codes "why SUM" ∷ codes "why SUM 3" ∷ codes "why 101 999" ∷ codes "why A" ∷ codes "why BB 0" ∷ codes "why Q" ∷ codes "why CH010" ∷ codes "why CH7 2" ∷ [])
     ≡ WhyStep ∷ Why (subject.Place 0o101) 16 ∷ Why (subject.Place 0o101) 3 ∷ Why (subject.Place 0o101) 999 ∷ Why (subject.Place 0) 16 ∷ Why (subject.Place 6) 0 ∷ Why (subject.Place 0o102) 16 ∷ Why (subject.Channel 8) 16 ∷ Why (subject.Channel 7) 2 ∷ []
-unfolding extended_request_of extended_forms usages forms runs parsed counters sequences registers window
+unfolding extended_line extended_forms usages forms runs parsed counters sequences registers window
 whys = refl
 
 wrong_whys : asked (codes "why FIVE" ∷ codes "why CH12" ∷ codes "why SUMM" ∷ codes "why SUMM 3" ∷ codes "why SUM x" ∷ codes "why SUM 1000" ∷ codes "why SUM 3 4" ∷ codes "why CH1000" ∷ codes "why CH" ∷ [])
@@ -65,7 +65,7 @@ wrong_whys : asked (codes "why FIVE" ∷ codes "why CH12" ∷ codes "why SUMM" �
     ∷ codes "no symbol CH1000\n"
     ∷ codes "no symbol CH\n"
     ∷ [])
-unfolding extended_request_of extended_forms usages forms runs parsed counters sequences registers window
+unfolding extended_line extended_forms usages forms runs parsed counters sequences registers window
 wrong_whys = refl
 
 -- refusals say which field they mean
@@ -84,22 +84,22 @@ refusals : asked (codes "mem FIV" ∷ codes "break at FIV" ∷ codes "mem BIG" �
     ∷ Says (codes "E50 COMMAND clear takes a breakpoint's number, or nothing\n")
     ∷ Says (codes "E50 COMMAND add takes a line of a feed\n")
     ∷ []
-unfolding extended_request_of extended_forms usages forms runs parsed counters sequences registers window
+unfolding extended_line extended_forms usages forms runs parsed counters sequences registers window
 refusals = refl
 
 -- places as a listing has them, moved on, and by the letters of registers, where no symbol has these
-abbrev memory : ℕ → ExtendedRequest
+abbrev memory : ℕ → ExtendedLine
 memory p = Common (Memory (Erasable p))
 
 places : asked (codes "mem 02,4005" ∷ codes "mem 3,6000" ∷ codes "mem 05,3777" ∷ codes "mem E3,1400" ∷ codes "mem E0,0101" ∷ codes "mem E2,1377" ∷ codes "mem A" ∷ codes "mem Q" ∷ codes "mem SUM +3" ∷ codes "mem FIVE +10" ∷ codes "mem E3,1400 +1" ∷ [])
     ≡ Common (Memory (Fixed 2 5)) ∷ Common (Memory (Fixed 3 0)) ∷ Common (Memory (Fixed 5 0o1777)) ∷ memory 0o1400 ∷ memory 0o101 ∷ memory 0o1377 ∷ memory 0 ∷ memory 0o102 ∷ memory 0o104 ∷ Common (Memory (Fixed 2 0o15)) ∷ memory 0o1401 ∷ []
-unfolding extended_request_of extended_forms usages forms runs parsed counters sequences registers window
+unfolding extended_line extended_forms usages forms runs parsed counters sequences registers window
 places = refl
 
 -- in each command that takes one
 every_place : asked (codes "mem SUM +3 5" ∷ codes "mem 02,4005 999" ∷ codes "mem L 0" ∷ codes "last L" ∷ codes "last SUM +1" ∷ codes "why SUM +1" ∷ codes "why E3,1400 +2 4" ∷ codes "break at FIVE +1" ∷ codes "break at 02,4005" ∷ codes "break word Z 5" ∷ codes "break word SUM +3 75" ∷ [])
     ≡ Words (Erasable 0o104) 5 ∷ Words (Fixed 2 5) 999 ∷ Words (Erasable 1) 0 ∷ Common (Last 1) ∷ Common (Last 0o102) ∷ Why (subject.Place 0o102) 16 ∷ Why (subject.Place 0o1402) 4 ∷ Common (Break (breakpoint.Place (Fixed 2 6))) ∷ Common (Break (breakpoint.Place (Fixed 2 5))) ∷ Common (Break (breakpoint.Word 5 5)) ∷ Common (Break (breakpoint.Word 0o104 0o75)) ∷ []
-unfolding extended_request_of extended_forms usages forms runs parsed counters sequences registers window
+unfolding extended_line extended_forms usages forms runs parsed counters sequences registers window
 every_place = refl
 
 -- an address that is none of the bank, a place past the end of its bank, a sign without number, and too many words
@@ -117,13 +117,13 @@ wrong_places : asked (codes "mem 02,2005" ∷ codes "mem E3,1377" ∷ codes "mem
     ∷ codes "no symbol CH7\n"
     ∷ codes "break takes at PLACE, word PLACE W or chan C W [MASK]\n"
     ∷ [])
-unfolding extended_request_of extended_forms usages forms runs parsed counters sequences registers window
+unfolding extended_line extended_forms usages forms runs parsed counters sequences registers window
 wrong_places = refl
 
 -- where the next instruction stands, and symbols by their beginning
 looks : asked (codes "where" ∷ codes "find SU" ∷ codes "where 1" ∷ codes "find" ∷ codes "find S U" ∷ [])
     ≡ Where ∷ Find (codes "SU") ∷ Says (codes "E50 COMMAND where takes nothing\n") ∷ Says (codes "E50 COMMAND find takes the beginning of a name\n") ∷ Says (codes "E50 COMMAND find takes the beginning of a name\n") ∷ []
-unfolding extended_request_of extended_forms usages forms runs parsed counters sequences registers window
+unfolding extended_line extended_forms usages forms runs parsed counters sequences registers window
 looks = refl
 
 -- a channel under a mask
@@ -133,13 +133,13 @@ bits : asked (codes "break chan 10 12" ∷ codes "break chan 10 12 77" ∷ codes
     ∷ codes "break takes at PLACE, word PLACE W or chan C W [MASK]\n"
     ∷ codes "break takes at PLACE, word PLACE W or chan C W [MASK]\n"
     ∷ [])
-unfolding extended_request_of extended_forms usages forms runs parsed counters sequences registers window
+unfolding extended_line extended_forms usages forms runs parsed counters sequences registers window
 bits = refl
 
 -- the last steps
 last_steps : asked (codes "trace 5" ∷ codes "trace" ∷ codes "trace x" ∷ codes "trace 5 6" ∷ [])
     ≡ Trace 5 ∷ map (λ text. Says (codes "E50 COMMAND " ++ text)) (codes "trace takes a number of steps\n" ∷ codes "trace takes a number of steps\n" ∷ codes "trace takes a number of steps\n" ∷ [])
-unfolding extended_request_of extended_forms usages forms runs parsed counters sequences registers window
+unfolding extended_line extended_forms usages forms runs parsed counters sequences registers window
 last_steps = refl
 
 -- to the end of a routine, by so many steps at most, and the inputs that were added
@@ -150,5 +150,5 @@ travels : asked (codes "over" ∷ codes "over 20" ∷ codes "out" ∷ codes "out
     ∷ Says (codes "E50 COMMAND inputs takes nothing\n")
     ∷ Says (codes "E50 COMMAND over takes a number of steps, or nothing\n")
     ∷ []
-unfolding extended_request_of extended_forms usages forms runs parsed counters sequences registers window
+unfolding extended_line extended_forms usages forms runs parsed counters sequences registers window
 travels = refl

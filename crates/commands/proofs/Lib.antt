@@ -1,5 +1,5 @@
 mod LineSteps
-mod RequestLaws
+mod ParsedLaws
 mod Rows
 mod ExtendedLaws
 mod ExtendedRows

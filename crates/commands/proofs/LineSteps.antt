@@ -7,7 +7,7 @@ use Rattle.std.specs.List.{list_any}
 use Rattle.agc_text.specs.Bytes.{line_feed}
 use Rattle.agc_text.specs.Lines.{lines, HasNoFeed}
 use Rattle.agc_text.proofs.LineLaws.{lines-ended, lines-last, lines-none, HasNoFeed-push}
-use Rattle.commands.specs.Lines.{kept, KeepsLine, EndsNoLine, ReadsWithin}
+use Rattle.commands.specs.Lines.{kept_line, KeepsLine, EndsNoLine, ReadsWithin}
 
 -- the part of a line that was read, of the first `before` bytes of a text, and what is kept of it
 pub record Reading (text : List ℕ) (before : ℕ) (line : Option (List ℕ)) (rest : List ℕ) (now : ℕ) (begun : Bool) : Type 0 where
@@ -15,13 +15,13 @@ pub record Reading (text : List ℕ) (before : ℕ) (line : Option (List ℕ)) (
   pub no_feed : HasNoFeed part
   pub split : text ≡ part ++ rest
   pub count : before ≡ length part + now
-  pub kept_of : line ≡ kept part
+  pub kept_of : line ≡ kept_line part
   pub some : begun ≡ not (eqb (length part) 0)
 
 -- one byte more was read, which is no line feed
 pub reading-push : {text : List ℕ} {before : ℕ} {line : Option (List ℕ)} {rest : List ℕ} {now : ℕ} {begun : Bool} (byte : ℕ) (rest' : List ℕ) (line' : Option (List ℕ)) (now' : ℕ)
     → Reading text before line rest now begun → rest ≡ byte ∷ rest' → now ≡ now' + 1 → byte ≢ line_feed
-    → ((part : List ℕ) → line ≡ kept part → line' ≡ kept (part ++ byte ∷ []))
+    → ((part : List ℕ) → line ≡ kept_line part → line' ≡ kept_line (part ++ byte ∷ []))
     → Reading text before line' rest' now' true
 reading-push {text} {before} {line} {rest} {now} {begun} byte rest' line' now' r e b other pushed = record {
   part = r.part ++ byte ∷ [];

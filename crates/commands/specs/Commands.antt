@@ -18,8 +18,8 @@ use Rattle.commands.specs.declared.command.Breakpoint.{Breakpoint}
 use Rattle.commands.specs.declared.command.Breakpoint.TheVariants as breakpoint
 use Rattle.commands.specs.declared.command.Command.{Command}
 use Rattle.commands.specs.declared.command.Command.TheVariants.{Step, Run, Back, Goto, Seek, Break, Clear, Registers, Memory, Channel, Last, Symbol, Changed, Tail, Add, Quit}
-use Rattle.commands.specs.declared.command.Request.{Request}
-use Rattle.commands.specs.declared.command.Request.TheVariants.{Nothing, TooLong, Unknown, WrongCounter, Known}
+use Rattle.commands.specs.declared.command.ParsedLine.{ParsedLine}
+use Rattle.commands.specs.declared.command.ParsedLine.TheVariants.{Nothing, TooLong, Unknown, WrongCounter, Known}
 
 -- a step, or a number of steps: 1 to 15 decimal digits
 abbrev pub count_in : List ℕ → Option ℕ
@@ -135,12 +135,12 @@ forms symbols =
     ∷ []
 
 -- a command, where there is one
-abbrev pub known : Option Command → Request
+abbrev pub known : Option Command → ParsedLine
 known None = Unknown
 known (Some command) = Known command
 
 -- the input that `add` is followed by, as a line of a feed
-abbrev pub adding : Result (ℕ × Input) LineFault → Request
+abbrev pub adding : Result (ℕ × Input) LineFault → ParsedLine
 adding (Ok timed) = Known (Add timed.0 timed.1)
 adding (Err fault.BadLine) = Unknown
 adding (Err fault.WrongCounter) = WrongCounter
@@ -150,17 +150,17 @@ abbrev pub rest_after : Piece → List ℕ → List ℕ
 rest_after field line = drop (field.start + length field.text) line
 
 -- what a line asks for whose first field is `add`
-abbrev pub added_by : List ℕ → List Piece → Request
+abbrev pub added_by : List ℕ → List Piece → ParsedLine
 added_by line [] = Nothing
 added_by line (name ∷ more) = adding (parsed (rest_after name line))
 
 -- what a line with these fields asks for
-abbrev pub request_in : SymbolTable → List ℕ → List Piece → Request
-request_in symbols line [] = Nothing
-request_in symbols line (name ∷ more) =
+abbrev pub parsed_in : SymbolTable → List ℕ → List Piece → ParsedLine
+parsed_in symbols line [] = Nothing
+parsed_in symbols line (name ∷ more) =
     if same_name name.text (codes "add") then added_by line (name ∷ more)
     else known (option_and_then (λ form. form (texts more)) (value_in (forms symbols) name.text))
 
 -- what a line asks for
-unfoldable pub request_of : SymbolTable → List ℕ → Request
-request_of symbols line = if nat_lt command_length (length line) then TooLong else request_in symbols line (fields line)
+unfoldable pub parsed_line : SymbolTable → List ℕ → ParsedLine
+parsed_line symbols line = if nat_lt command_length (length line) then TooLong else parsed_in symbols line (fields line)

@@ -6,7 +6,7 @@ use Rattle.agc_text.specs.Tables.{same_name, value_in}
 use Rattle.symbols.specs.Values.{SymbolTable}
 use Rattle.feed.specs.Statements.{word_in}
 use Rattle.space.specs.declared.place.Linear.{Linear}
-use Rattle.commands.specs.Commands.{count_in, channel_in, erasable_number, request_in}
+use Rattle.commands.specs.Commands.{count_in, channel_in, erasable_number, parsed_in}
 use Rattle.commands.specs.Lines.{command_length}
 use Rattle.commands.specs.NamedPlaces.{named_place, place_first, after_place}
 use Rattle.commands.specs.Subjects.{erasable_first, place_subject, channel_subject}
@@ -15,10 +15,10 @@ use Rattle.commands.specs.declared.subject.Subject.{Subject}
 use Rattle.commands.specs.declared.command.Breakpoint.{Breakpoint}
 use Rattle.commands.specs.declared.command.Breakpoint.TheVariants as breakpoint
 use Rattle.commands.specs.declared.command.Command.TheVariants.{Memory, Last, Break}
-use Rattle.commands.specs.declared.command.Request.{Request}
-use Rattle.commands.specs.declared.command.Request.TheVariants.{Nothing, TooLong, Unknown, WrongCounter, Known}
-use Rattle.commands.specs.declared.extended.ExtendedRequest.{ExtendedRequest}
-use Rattle.commands.specs.declared.extended.ExtendedRequest.TheVariants.{Plain, Common, Says, Help, Breaks, ClearOne, On, AllRegisters, Until, WhyStep, Why, Words, Where, Find, Trace, Inputs, Over, Out}
+use Rattle.commands.specs.declared.command.ParsedLine.{ParsedLine}
+use Rattle.commands.specs.declared.command.ParsedLine.TheVariants.{Nothing, TooLong, Unknown, WrongCounter, Known}
+use Rattle.commands.specs.declared.extended.ExtendedLine.{ExtendedLine}
+use Rattle.commands.specs.declared.extended.ExtendedLine.TheVariants.{Plain, Common, Says, Help, Breaks, ClearOne, On, AllRegisters, Until, WhyStep, Why, Words, Where, Find, Trace, Inputs, Over, Out}
 
 -- the most steps that a command can name
 abbrev pub most_count : ℕ
@@ -26,7 +26,7 @@ most_count = 999999999999999
 
 -- a form of command: what it makes of the fields after its name, where they have its form
 abbrev pub ExtendedForm : Type 0
-ExtendedForm = List (List ℕ) → Option ExtendedRequest
+ExtendedForm = List (List ℕ) → Option ExtendedLine
 
 -- the field that stands alone
 abbrev pub sole : List (List ℕ) → Option (List ℕ)
@@ -35,12 +35,12 @@ sole (field ∷ []) = Some field
 sole (field ∷ next ∷ more) = None
 
 -- no field
-abbrev pub with_none : ExtendedRequest → ExtendedForm
+abbrev pub with_none : ExtendedLine → ExtendedForm
 with_none request [] = Some request
 with_none request (field ∷ more) = None
 
 -- one field, in which something stands
-abbrev pub with_field : {X : Type 0} → (List ℕ → Option X) → (X → ExtendedRequest) → ExtendedForm
+abbrev pub with_field : {X : Type 0} → (List ℕ → Option X) → (X → ExtendedLine) → ExtendedForm
 with_field read request fields = option_map request (option_and_then read (sole fields))
 
 -- one field, which is a word
@@ -48,11 +48,11 @@ abbrev pub word_alone : List ℕ → Option (List ℕ) → Bool
 word_alone word None = false
 word_alone word (Some field) = same_name field word
 
-abbrev pub with_word : List ℕ → ExtendedRequest → ExtendedForm
+abbrev pub with_word : List ℕ → ExtendedLine → ExtendedForm
 with_word word request fields = if word_alone word (sole fields) then Some request else None
 
 -- no field, or one
-abbrev pub with_field_or : {X : Type 0} → ExtendedRequest → (List ℕ → Option X) → (X → ExtendedRequest) → ExtendedForm
+abbrev pub with_field_or : {X : Type 0} → ExtendedLine → (List ℕ → Option X) → (X → ExtendedLine) → ExtendedForm
 with_field_or alone read request [] = Some alone
 with_field_or alone read request (field ∷ more) = with_field read request (field ∷ more)
 
@@ -61,7 +61,7 @@ abbrev pub steps_in : List (List ℕ) → Option ℕ
 steps_in [] = Some most_count
 steps_in (field ∷ more) = option_and_then count_in (sole (field ∷ more))
 
-abbrev pub with_steps : (ℕ → ExtendedRequest) → ExtendedForm
+abbrev pub with_steps : (ℕ → ExtendedLine) → ExtendedForm
 with_steps request fields = option_map request (steps_in fields)
 
 -- the help of one command
@@ -84,7 +84,7 @@ links_in [] = Some usual_links
 links_in (field ∷ more) = option_and_then few_in (sole (field ∷ more))
 
 -- what a word is asked of, and how many links
-abbrev pub why_of : Option Subject → List (List ℕ) → Option ExtendedRequest
+abbrev pub why_of : Option Subject → List (List ℕ) → Option ExtendedLine
 why_of subject fields = option_and_then (λ s. option_map (λ k. Why s k) (links_in fields)) subject
 
 -- no field; an erasable place or, where no symbol has the name, a channel; or this and a number of links
@@ -94,7 +94,7 @@ why_form symbols (field ∷ more) =
     option_or (why_of (place_subject symbols (field ∷ more)) (after_place (field ∷ more))) (why_of (channel_subject symbols field) more)
 
 -- the word at a place, or so many from there on
-abbrev pub memory_of : Linear → List (List ℕ) → Option ExtendedRequest
+abbrev pub memory_of : Linear → List (List ℕ) → Option ExtendedLine
 memory_of place [] = Some (Common (Memory place))
 memory_of place (field ∷ more) = option_map (λ k. Words place k) (option_and_then few_in (sole (field ∷ more)))
 
@@ -113,20 +113,20 @@ abbrev pub last_form : SymbolTable → ExtendedForm
 last_form symbols fields = option_map (λ p. Common (Last p)) (option_and_then erasable_number (place_alone symbols fields))
 
 -- one breakpoint more
-abbrev pub broken_at : Breakpoint → ExtendedRequest
+abbrev pub broken_at : Breakpoint → ExtendedLine
 broken_at breakpoint = Common (Break breakpoint)
 
 -- an erasable place, and then a word
-abbrev pub watches : SymbolTable → List (List ℕ) → Option ExtendedRequest
+abbrev pub watches : SymbolTable → List (List ℕ) → Option ExtendedLine
 watches symbols fields =
     option_and_then (λ p. option_map (λ w. broken_at (breakpoint.Word p w)) (option_and_then word_in (sole (after_place fields)))) (erasable_first symbols fields)
 
 -- a channel, a word and a mask, where each stands
-abbrev pub bits_of : Option ℕ → Option ℕ → Option ℕ → Option ExtendedRequest
+abbrev pub bits_of : Option ℕ → Option ℕ → Option ℕ → Option ExtendedLine
 bits_of channel word mask =
     option_and_then (λ c. option_and_then (λ w. option_map (λ m. broken_at (breakpoint.Bits c w m)) mask) word) channel
 
-abbrev pub watches_bits : List (List ℕ) → Option ExtendedRequest
+abbrev pub watches_bits : List (List ℕ) → Option ExtendedLine
 watches_bits [] = None
 watches_bits (channel ∷ []) = None
 watches_bits (channel ∷ word ∷ []) = None
@@ -199,7 +199,7 @@ abbrev pub refusal_line : SymbolTable → List ℕ → List (List ℕ) → List 
 refusal_line symbols name fields = codes "E50 COMMAND " ++ wrong_command symbols name fields (value_in usages name) ++ codes "\n"
 
 -- what any session is asked for, with words for what is no command
-abbrev pub in_words : SymbolTable → List ℕ → List (List ℕ) → Request → ExtendedRequest
+abbrev pub in_words : SymbolTable → List ℕ → List (List ℕ) → ParsedLine → ExtendedLine
 in_words symbols name fields Nothing = Plain Nothing
 in_words symbols name fields TooLong = Plain TooLong
 in_words symbols name fields Unknown = Says (refusal_line symbols name fields)
@@ -207,7 +207,7 @@ in_words symbols name fields WrongCounter = Plain WrongCounter
 in_words symbols name fields (Known command) = Common command
 
 -- a command that an extended session has besides, else what any session is asked for
-abbrev pub or_plain : Option ExtendedRequest → ExtendedRequest → ExtendedRequest
+abbrev pub or_plain : Option ExtendedLine → ExtendedLine → ExtendedLine
 or_plain None request = request
 or_plain (Some extended) request = extended
 
@@ -216,17 +216,17 @@ abbrev pub text_after : Piece → List ℕ → List ℕ
 text_after field line = drop (field.start + length field.text + 1) line
 
 -- what a line asks for whose first field is `echo`
-abbrev pub echoed : List ℕ → List Piece → ExtendedRequest
+abbrev pub echoed : List ℕ → List Piece → ExtendedLine
 echoed line [] = Plain Nothing
 echoed line (name ∷ more) = Says (text_after name line ++ codes "\n")
 
 -- what a line with these fields asks for
-abbrev pub extended_in : SymbolTable → List ℕ → List Piece → ExtendedRequest
+abbrev pub extended_in : SymbolTable → List ℕ → List Piece → ExtendedLine
 extended_in symbols line [] = Plain Nothing
 extended_in symbols line (name ∷ more) =
     if same_name name.text (codes "echo") then echoed line (name ∷ more)
-    else or_plain (option_and_then (λ form. form (texts more)) (value_in (extended_forms symbols) name.text)) (in_words symbols name.text (texts more) (request_in symbols line (name ∷ more)))
+    else or_plain (option_and_then (λ form. form (texts more)) (value_in (extended_forms symbols) name.text)) (in_words symbols name.text (texts more) (parsed_in symbols line (name ∷ more)))
 
 -- what a line asks for
-unfoldable pub extended_request_of : SymbolTable → List ℕ → ExtendedRequest
-extended_request_of symbols line = if nat_lt command_length (length line) then Plain TooLong else extended_in symbols line (fields line)
+unfoldable pub extended_line : SymbolTable → List ℕ → ExtendedLine
+extended_line symbols line = if nat_lt command_length (length line) then Plain TooLong else extended_in symbols line (fields line)

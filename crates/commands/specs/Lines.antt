@@ -10,8 +10,8 @@ abbrev pub command_length : ℕ
 command_length = 80
 
 -- what is kept of a line: its bytes, or none where it is too long
-abbrev pub kept : List ℕ → Option (List ℕ)
-kept line = if nat_lt command_length (length line) then None else Some line
+abbrev pub kept_line : List ℕ → Option (List ℕ)
+kept_line line = if nat_lt command_length (length line) then None else Some line
 
 -- where a reader of lines stands: the bytes that were read and are in no line yet, and how many more may be read
 pub record Ahead : Type 0 where
@@ -40,7 +40,7 @@ pub record TakesLine (text : List ℕ) (before : ℕ) (line rest : List ℕ) (af
 -- a line was taken off, and this is kept of it
 pub record KeepsLine (line : Option (List ℕ)) (text : List ℕ) (before : ℕ) (rest : List ℕ) (after : ℕ) : Type 0 where
   pub bytes : List ℕ
-  pub kept_of : line ≡ kept bytes
+  pub kept_of : line ≡ kept_line bytes
   pub taken : TakesLine text before bytes rest after
 
 -- no line feed stands in what was read before a call failed

@@ -6,7 +6,7 @@ ghost use Rattle.arrayvec.specs.ArrayVec.{array_vec_len};
 
 use crate::command::Breakpoint;
 use arrayvec::ArrayVec;
-use space::numbers::Chan;
+use space::Chan;
 use std::marker::Model;
 use words::Word;
 

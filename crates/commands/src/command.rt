@@ -1,8 +1,8 @@
 //! What a line of commands asks for.
 
-use feed::input::Input;
-use space::numbers::{Chan, Eras};
+use feed::Input;
 use space::place::Linear;
+use space::{Chan, Eras};
 use symbols::Value;
 use words::Word;
 
@@ -64,7 +64,7 @@ pub enum Command {
 
 /// What a line asks for.
 #[derive(Clone, Copy, Drop)]
-pub enum Request {
+pub enum ParsedLine {
     /// No field stands.
     Nothing,
     /// The line is too long.

@@ -4,23 +4,23 @@ ghost use Rattle.std.specs.Prelude.{◌≡◌, ◌≤◌, List, ℕ, Some, codes
 ghost use Rattle.std.specs.Option.{option_map};
 ghost use Rattle.agc_text.specs.Fields.{runs, texts, fields};
 ghost use Rattle.agc_text.specs.Tables.{value_in};
-ghost use Rattle.commands.specs.Lines.{kept};
+ghost use Rattle.commands.specs.Lines.{kept_line};
 ghost use Rattle.commands.specs.Commands.{count_in};
-ghost use Rattle.commands.specs.declared.extended.ExtendedRequest.TheVariants as asked;
-ghost use Rattle.commands.specs.Extended.{extended_forms, most_count, sole, with_none, with_word, with_field, with_field_or, help_in, few_in, links_in, why_of, why_form, memory_of, memory_form, place_alone, last_form, broken_at, watches, bits_of, watches_bits, break_form, breakpoint_place_field, place_field, is_no_symbol, missing_symbol, refusal_line, in_words, echoed, extended_in, extended_request_of, steps_in};
+ghost use Rattle.commands.specs.declared.extended.ExtendedLine.TheVariants as asked;
+ghost use Rattle.commands.specs.Extended.{extended_forms, most_count, sole, with_none, with_word, with_field, with_field_or, help_in, few_in, links_in, why_of, why_form, memory_of, memory_form, place_alone, last_form, broken_at, watches, bits_of, watches_bits, break_form, breakpoint_place_field, place_field, is_no_symbol, missing_symbol, refusal_line, in_words, echoed, extended_in, extended_line, steps_in};
 
-use crate::command::{Breakpoint, Command, Request};
+use crate::command::{Breakpoint, Command, ParsedLine};
 use crate::fields::{channel_in, count_in};
 use crate::line::CommandLine;
 use crate::named_places::{after_place, named_place, place_first};
+use crate::parsed_line::parsed_in;
 use crate::phrase::Phrase;
 use crate::places::erasable_number;
-use crate::request::request_in;
 use crate::subject::{Subject, channel_subject, erasable_first, place_subject};
 use crate::usage::{help_of, usage_of};
 use agc_text::{before_comment, next_field, split_field};
 use feed::word_in;
-use space::numbers::Chan;
+use space::Chan;
 use space::place::Linear;
 use symbols::Symbols;
 use words::Word;
@@ -36,9 +36,9 @@ const USUAL_LINKS: u64 = 16;
 
 /// What a line of an extended session asks for.
 #[derive(Drop)]
-pub enum ExtendedRequest {
+pub enum ExtendedLine {
     /// What a line of a plain session asks for.
-    Plain(Request),
+    Plain(ParsedLine),
     /// A command of any session, where the session is extended.
     Common(Command),
     /// This reply, with which nothing changes.
@@ -76,34 +76,34 @@ pub enum ExtendedRequest {
 }
 
 /// What a line of an extended session asks for, where the symbols of a program stand.
-pub fn extended_request_of(symbols: &Symbols, line: &CommandLine) -> ExtendedRequest
-    ensures { (bytes : List ℕ) → line.now ≡ kept bytes → result ≡ extended_request_of symbols.now bytes }
+pub fn extended_line(symbols: &Symbols, line: &CommandLine) -> ExtendedLine
+    ensures { (bytes : List ℕ) → line.now ≡ kept_line bytes → result ≡ extended_line symbols.now bytes }
 {
     match line.text() {
         Some(text) => extended_in(symbols, text),
-        None => ExtendedRequest::Plain(Request::TooLong),
+        None => ExtendedLine::Plain(ParsedLine::TooLong),
     }
 }
 
 // What a line asks for that is not too long.
-fn extended_in(symbols: &Symbols, line: &[u8]) -> ExtendedRequest
+fn extended_in(symbols: &Symbols, line: &[u8]) -> ExtendedLine
     requires { length line.now ≤ 80 }
     ensures { result ≡ extended_in symbols.now line.now (fields line.now) }
 {
     let Some((name, rest)) = split_field(before_comment(line)) else {
-        return ExtendedRequest::Plain(Request::Nothing);
+        return ExtendedLine::Plain(ParsedLine::Nothing);
     };
     if name == "echo".as_bytes() {
         return echoed(line);
     }
     match command_in(symbols, name, rest) {
         Some(request) => request,
-        None => in_words(symbols, name, rest, request_in(symbols, line)),
+        None => in_words(symbols, name, rest, parsed_in(symbols, line)),
     }
 }
 
 // What a line asks for whose first field is `echo`.
-fn echoed(line: &[u8]) -> ExtendedRequest
+fn echoed(line: &[u8]) -> ExtendedLine
     requires { length line.now ≤ 80 }
     ensures { result ≡ echoed line.now (fields line.now) }
 {
@@ -113,34 +113,34 @@ fn echoed(line: &[u8]) -> ExtendedRequest
             let mut phrase = Phrase::new();
             phrase.push(&line[start..]);
             phrase.push(b"\n");
-            ExtendedRequest::Says(phrase)
+            ExtendedLine::Says(phrase)
         }
-        None => ExtendedRequest::Plain(Request::Nothing),
+        None => ExtendedLine::Plain(ParsedLine::Nothing),
     }
 }
 
 // The request of a name that no plain session has, or has in fewer forms, and of the fields of what follows it.
 #[tactic(auto, unfolding(crate::specs::Extended::extended_forms))]
-fn command_in(symbols: &Symbols, name: &[u8], rest: &[u8]) -> Option<ExtendedRequest>
+fn command_in(symbols: &Symbols, name: &[u8], rest: &[u8]) -> Option<ExtendedLine>
     requires { All (λ field. length field ≤ 80) (texts (runs rest.now)) }
     ensures { result ≡ option_and_then (λ form. form (texts (runs rest.now))) (value_in (extended_forms symbols.now) name.now) }
 {
     if name == "on".as_bytes() {
-        steps_in(rest).map(ExtendedRequest::On)
+        steps_in(rest).map(ExtendedLine::On)
     } else if name == "until".as_bytes() {
-        sole(rest).and_then(count_in).map(ExtendedRequest::Until)
+        sole(rest).and_then(count_in).map(ExtendedLine::Until)
     } else if name == "over".as_bytes() {
-        steps_in(rest).map(ExtendedRequest::Over)
+        steps_in(rest).map(ExtendedLine::Over)
     } else if name == "out".as_bytes() {
-        steps_in(rest).map(ExtendedRequest::Out)
+        steps_in(rest).map(ExtendedLine::Out)
     } else if name == "why".as_bytes() {
         why_form(symbols, rest)
     } else if name == "regs".as_bytes() {
         registers_form(rest)
     } else if name == "breaks".as_bytes() {
-        with_none(ExtendedRequest::Breaks, rest)
+        with_none(ExtendedLine::Breaks, rest)
     } else if name == "clear".as_bytes() {
-        sole(rest).and_then(count_in).map(ExtendedRequest::ClearOne)
+        sole(rest).and_then(count_in).map(ExtendedLine::ClearOne)
     } else if name == "help".as_bytes() {
         help_form(rest)
     } else if name == "mem".as_bytes() {
@@ -150,13 +150,13 @@ fn command_in(symbols: &Symbols, name: &[u8], rest: &[u8]) -> Option<ExtendedReq
     } else if name == "break".as_bytes() {
         break_form(symbols, rest)
     } else if name == "inputs".as_bytes() {
-        with_none(ExtendedRequest::Inputs, rest)
+        with_none(ExtendedLine::Inputs, rest)
     } else if name == "where".as_bytes() {
-        with_none(ExtendedRequest::Where, rest)
+        with_none(ExtendedLine::Where, rest)
     } else if name == "find".as_bytes() {
         find_form(rest)
     } else if name == "trace".as_bytes() {
-        sole(rest).and_then(count_in).map(ExtendedRequest::Trace)
+        sole(rest).and_then(count_in).map(ExtendedLine::Trace)
     } else {
         None
     }
@@ -176,7 +176,7 @@ fn sole(rest: &[u8]) -> Option<&[u8]>
 }
 
 // A request, where no field stands.
-fn with_none(request: ExtendedRequest, rest: &[u8]) -> Option<ExtendedRequest>
+fn with_none(request: ExtendedLine, rest: &[u8]) -> Option<ExtendedLine>
     ensures { result ≡ with_none request (texts (runs rest.now)) }
 {
     match split_field(rest) {
@@ -197,49 +197,49 @@ fn steps_in(rest: &[u8]) -> Option<u64>
 }
 
 // What `help` takes.
-fn help_form(rest: &[u8]) -> Option<ExtendedRequest>
+fn help_form(rest: &[u8]) -> Option<ExtendedLine>
     requires { All (λ field. length field ≤ 80) (texts (runs rest.now)) }
     ensures { result ≡ with_field_or asked.Help help_in (λ text. asked.Says text) (texts (runs rest.now)) }
 {
     match split_field(rest) {
-        None => Some(ExtendedRequest::Help),
+        None => Some(ExtendedLine::Help),
         Some(_) => {
             let name = sole(rest)?;
-            help_of(name).map(ExtendedRequest::Says)
+            help_of(name).map(ExtendedLine::Says)
         }
     }
 }
 
 // What `regs` takes besides nothing.
-fn registers_form(rest: &[u8]) -> Option<ExtendedRequest>
+fn registers_form(rest: &[u8]) -> Option<ExtendedLine>
     requires { All (λ field. length field ≤ 80) (texts (runs rest.now)) }
     ensures { result ≡ with_word (codes "all") asked.AllRegisters (texts (runs rest.now)) }
 {
     match sole(rest) {
-        Some(field) if field == "all".as_bytes() => Some(ExtendedRequest::AllRegisters),
+        Some(field) if field == "all".as_bytes() => Some(ExtendedLine::AllRegisters),
         Some(_) => None,
         None => None,
     }
 }
 
 // What `find` takes.
-fn find_form(rest: &[u8]) -> Option<ExtendedRequest>
+fn find_form(rest: &[u8]) -> Option<ExtendedLine>
     requires { All (λ field. length field ≤ 80) (texts (runs rest.now)) }
     ensures { result ≡ with_field (λ field. Some field) (λ text. asked.Find text) (texts (runs rest.now)) }
 {
     let field = sole(rest)?;
     let mut beginning = Phrase::new();
     beginning.push(field);
-    Some(ExtendedRequest::Find(beginning))
+    Some(ExtendedLine::Find(beginning))
 }
 
 // What `why` takes.
-fn why_form(symbols: &Symbols, rest: &[u8]) -> Option<ExtendedRequest>
+fn why_form(symbols: &Symbols, rest: &[u8]) -> Option<ExtendedLine>
     requires { All (λ field. length field ≤ 80) (texts (runs rest.now)) }
     ensures { result ≡ why_form symbols.now (texts (runs rest.now)) }
 {
     let Some((field, more)) = split_field(rest) else {
-        return Some(ExtendedRequest::WhyStep);
+        return Some(ExtendedLine::WhyStep);
     };
     match why_of(place_subject(symbols, rest), after_place(rest)) {
         Some(request) => Some(request),
@@ -248,13 +248,13 @@ fn why_form(symbols: &Symbols, rest: &[u8]) -> Option<ExtendedRequest>
 }
 
 // `why` of a subject, followed by a number of links or by nothing.
-fn why_of(subject: Option<Subject>, rest: &[u8]) -> Option<ExtendedRequest>
+fn why_of(subject: Option<Subject>, rest: &[u8]) -> Option<ExtendedLine>
     requires { All (λ field. length field ≤ 80) (texts (runs rest.now)) }
     ensures { result ≡ why_of subject (texts (runs rest.now)) }
 {
     let subject = subject?;
     let links = links_in(rest)?;
-    Some(ExtendedRequest::Why(subject, links))
+    Some(ExtendedLine::Why(subject, links))
 }
 
 // A number of links, or none.
@@ -280,7 +280,7 @@ fn few_in(field: &[u8]) -> Option<u64>
 }
 
 // What `mem` takes.
-fn memory_form(symbols: &Symbols, rest: &[u8]) -> Option<ExtendedRequest>
+fn memory_form(symbols: &Symbols, rest: &[u8]) -> Option<ExtendedLine>
     requires { All (λ field. length field ≤ 80) (texts (runs rest.now)) }
     ensures { result ≡ memory_form symbols.now (texts (runs rest.now)) }
 {
@@ -289,15 +289,15 @@ fn memory_form(symbols: &Symbols, rest: &[u8]) -> Option<ExtendedRequest>
 }
 
 // `mem` of a place, followed by a number of words or by nothing.
-fn memory_of(place: Linear, rest: &[u8]) -> Option<ExtendedRequest>
+fn memory_of(place: Linear, rest: &[u8]) -> Option<ExtendedLine>
     requires { All (λ field. length field ≤ 80) (texts (runs rest.now)) }
     ensures { result ≡ memory_of place (texts (runs rest.now)) }
 {
     match split_field(rest) {
-        None => Some(ExtendedRequest::Common(Command::Memory(place))),
+        None => Some(ExtendedLine::Common(Command::Memory(place))),
         Some(_) => {
             let count = sole(rest).and_then(few_in)?;
-            Some(ExtendedRequest::Words(place, count))
+            Some(ExtendedLine::Words(place, count))
         }
     }
 }
@@ -314,19 +314,19 @@ fn place_alone(symbols: &Symbols, rest: &[u8]) -> Option<Linear>
 }
 
 // What `last` takes.
-fn last_form(symbols: &Symbols, rest: &[u8]) -> Option<ExtendedRequest>
+fn last_form(symbols: &Symbols, rest: &[u8]) -> Option<ExtendedLine>
     requires { All (λ field. length field ≤ 80) (texts (runs rest.now)) }
     ensures { result ≡ last_form symbols.now (texts (runs rest.now)) }
 {
     let place = place_alone(symbols, rest)?;
     match erasable_number(place) {
-        Some(place) => Some(ExtendedRequest::Common(Command::Last(place))),
+        Some(place) => Some(ExtendedLine::Common(Command::Last(place))),
         None => None,
     }
 }
 
 // What `break` takes but for a channel and a word alone.
-fn break_form(symbols: &Symbols, rest: &[u8]) -> Option<ExtendedRequest>
+fn break_form(symbols: &Symbols, rest: &[u8]) -> Option<ExtendedLine>
     requires { All (λ field. length field ≤ 80) (texts (runs rest.now)) }
     ensures { result ≡ break_form symbols.now (texts (runs rest.now)) }
 {
@@ -344,7 +344,7 @@ fn break_form(symbols: &Symbols, rest: &[u8]) -> Option<ExtendedRequest>
 }
 
 // `break` of an erasable place and a word.
-fn watches(symbols: &Symbols, rest: &[u8]) -> Option<ExtendedRequest>
+fn watches(symbols: &Symbols, rest: &[u8]) -> Option<ExtendedLine>
     requires { All (λ field. length field ≤ 80) (texts (runs rest.now)) }
     ensures { result ≡ watches symbols.now (texts (runs rest.now)) }
 {
@@ -354,7 +354,7 @@ fn watches(symbols: &Symbols, rest: &[u8]) -> Option<ExtendedRequest>
 }
 
 // `break` of a channel, a word and a mask.
-fn watches_bits(rest: &[u8]) -> Option<ExtendedRequest>
+fn watches_bits(rest: &[u8]) -> Option<ExtendedLine>
     ensures { result ≡ watches_bits (texts (runs rest.now)) }
 {
     let (channel, rest) = split_field(rest)?;
@@ -367,7 +367,7 @@ fn watches_bits(rest: &[u8]) -> Option<ExtendedRequest>
 }
 
 // A breakpoint on some bits of a channel, where all that it needs stands.
-fn bits_of(channel: Option<Chan>, word: Option<Word>, mask: Option<Word>) -> Option<ExtendedRequest>
+fn bits_of(channel: Option<Chan>, word: Option<Word>, mask: Option<Word>) -> Option<ExtendedLine>
     ensures { result ≡ bits_of channel word mask }
 {
     let channel = channel?;
@@ -377,24 +377,24 @@ fn bits_of(channel: Option<Chan>, word: Option<Word>, mask: Option<Word>) -> Opt
 }
 
 // One breakpoint more.
-fn broken_at(breakpoint: Breakpoint) -> ExtendedRequest
+fn broken_at(breakpoint: Breakpoint) -> ExtendedLine
     ensures { result ≡ broken_at breakpoint }
 {
-    ExtendedRequest::Common(Command::Break(breakpoint))
+    ExtendedLine::Common(Command::Break(breakpoint))
 }
 
 // What any session is asked for, with words for what is no command.
-fn in_words(symbols: &Symbols, name: &[u8], rest: &[u8], request: Request) -> ExtendedRequest
+fn in_words(symbols: &Symbols, name: &[u8], rest: &[u8], request: ParsedLine) -> ExtendedLine
     requires name { length name.now ≤ 80 }
     requires fields { All (λ field. length field ≤ 80) (texts (runs rest.now)) }
     ensures { result ≡ in_words symbols.now name.now (texts (runs rest.now)) request }
 {
     match request {
-        Request::Unknown => ExtendedRequest::Says(refusal_line(symbols, name, rest)),
-        Request::Nothing => ExtendedRequest::Plain(Request::Nothing),
-        Request::TooLong => ExtendedRequest::Plain(Request::TooLong),
-        Request::WrongCounter => ExtendedRequest::Plain(Request::WrongCounter),
-        Request::Known(command) => ExtendedRequest::Common(command),
+        ParsedLine::Unknown => ExtendedLine::Says(refusal_line(symbols, name, rest)),
+        ParsedLine::Nothing => ExtendedLine::Plain(ParsedLine::Nothing),
+        ParsedLine::TooLong => ExtendedLine::Plain(ParsedLine::TooLong),
+        ParsedLine::WrongCounter => ExtendedLine::Plain(ParsedLine::WrongCounter),
+        ParsedLine::Known(command) => ExtendedLine::Common(command),
     }
 }
 

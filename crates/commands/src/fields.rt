@@ -4,7 +4,7 @@ ghost use Rattle.std.specs.Prelude.{◌≡◌};
 ghost use Rattle.commands.specs.Commands.{count_in, channel_in, bank_in, offset_in};
 
 use agc_text::{decimal, octal};
-use space::numbers::{Bank, Chan, Offset};
+use space::{Bank, Chan, Offset};
 
 /// The most digits of a step, and of a number of steps.
 const COUNT_DIGITS: usize = 15;

@@ -2,7 +2,7 @@
 
 ghost use Rattle.std.specs.Prelude.{◌≡◌, List, ℕ, [], ◌∷◌, ◌++◌, ◌≤◌, Some, IfSome, length};
 ghost use Rattle.std.specs.Option.{option_map};
-ghost use Rattle.commands.specs.Lines.{kept};
+ghost use Rattle.commands.specs.Lines.{kept_line};
 
 use arrayvec::ArrayVec;
 use std::marker::Model;
@@ -28,7 +28,7 @@ impl Model for CommandLine {
 impl CommandLine {
     /// The line of these bytes.
     pub fn of(text: &[u8]) -> CommandLine
-        ensures { result ≡ kept text.now }
+        ensures { result ≡ kept_line text.now }
     {
         let mut line = CommandLine::empty();
         for byte in text {
@@ -69,7 +69,7 @@ impl CommandLine {
 
     // Adds a byte at the end.
     pub(crate) fn push(&mut self, byte: u8)
-        ensures { (line : List ℕ) → self.old ≡ kept line → self.new ≡ kept (line ++ byte ∷ []) }
+        ensures { (line : List ℕ) → self.old ≡ kept_line line → self.new ≡ kept_line (line ++ byte ∷ []) }
     {
         if self.bytes.is_full() {
             self.long = true;

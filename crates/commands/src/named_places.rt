@@ -9,9 +9,8 @@ ghost use Rattle.commands.specs.NamedPlaces.{registers, in_erasable_bank, in_fix
 use crate::fields::{OCTAL_DIGITS, bank_in};
 use crate::places::{fixed_place_in, numbered_place, place_in};
 use agc_text::{length_before_byte, octal, split_field};
-use space::numbers::{BANK_WORDS, Bank, Eras, Offset};
 use space::place::Linear;
-use space::window;
+use space::{BANK_WORDS, Bank, Eras, Offset, window};
 use symbols::Symbols;
 
 /// How many words an erasable bank has.

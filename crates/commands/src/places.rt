@@ -7,7 +7,7 @@ ghost use Rattle.commands.specs.Commands.{numbered_place, symbol_place, fixed_pl
 
 use crate::fields::{OCTAL_DIGITS, bank_in, offset_in};
 use agc_text::{length_before_byte, octal};
-use space::numbers::Eras;
+use space::Eras;
 use space::place::Linear;
 use symbols::{Symbols, Value, place_of};
 use words::Word;

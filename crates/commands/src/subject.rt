@@ -7,7 +7,7 @@ ghost use Rattle.commands.specs.Subjects.{channel_by, channel_named, erasable_fi
 use crate::fields::channel_in;
 use crate::named_places::place_first;
 use crate::places::erasable_number;
-use space::numbers::{Chan, Eras};
+use space::{Chan, Eras};
 use symbols::Symbols;
 
 /// What has a word that a step has written.

@@ -2,7 +2,7 @@
 use Rattle.std.proofs.Common.{◌≡◌, ℕ, ◌<◌, List, ◌++◌, refl}
 use Rattle.words.specs.Devices.{WritesBeginning}
 use Rattle.space.specs.Cells.{erasable_count}
-use Rattle.audit.proofs.Fronts.{begins_parts, front}
+use Rattle.audit.proofs.PartTexts.{begins_parts, front}
 use Rattle.cover.specs.CoverText.{erasable_row, erasable_rows}
 use Rattle.cover.specs.Tallies.{Profile}
 

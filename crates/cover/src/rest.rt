@@ -11,8 +11,7 @@ use crate::columns::figure_columns;
 use crate::tally::{Figures, Tally};
 use cpu::Account;
 use rope::Rope;
-use space::numbers::Eras;
-use space::{BANK_WORDS, Bank, Linear, Offset};
+use space::{BANK_WORDS, Bank, Eras, Linear, Offset};
 use trace::place_text;
 use words::{Write, WriteFailed, write_all};
 

@@ -16,41 +16,41 @@ use Rattle.cpu.proofs.Trails.{first_false, second_false, both_false}
 use Rattle.cpu.proofs.RequestLemmas.{any-filter, unset}
 
 marked : List Bool → ℕ → FinSet nat_cmp
-marked marks n = from_list {R = nat_cmp} (filter (λ c. slice_index_or marks c false) (range_with_len 0 n))
+marked members n = from_list {R = nat_cmp} (filter (λ c. slice_index_or members c false) (range_with_len 0 n))
 
-contains_by : (marks : List Bool) (c n : ℕ) → contains (marked marks n) c ≡ (ltb c n && get_or marks c false)
+contains_by : (members : List Bool) (c n : ℕ) → contains (marked members n) c ≡ (ltb c n && get_or members c false)
 unfolding marked
-contains_by marks c n =
-    contains-from_list_nat (filter (λ c. slice_index_or marks c false) (range_with_len 0 n)) c
-    ∙ any-filter (λ c. slice_index_or marks c false) c 0 n ∙ grind (arith, nat_tests)
+contains_by members c n =
+    contains-from_list_nat (filter (λ c. slice_index_or members c false) (range_with_len 0 n)) c
+    ∙ any-filter (λ c. slice_index_or members c false) c 0 n ∙ grind (arith, nat_tests)
 
 -- a cell stands where its mark is set
-contains_all : (marks : List Bool) (c : ℕ) → contains (marked_cells marks) c ≡ (ltb c cell_count && get_or marks c false)
+contains_all : (members : List Bool) (c : ℕ) → contains (marked_cells members) c ≡ (ltb c cell_count && get_or members c false)
 unfolding marked_cells marked
-contains_all marks c = contains_by marks c cell_count
+contains_all members c = contains_by members c cell_count
 
-pub contains_marked : (marks : List Bool) (c : ℕ) → c < cell_count → get_or marks c false ≡ contains (marked_cells marks) c
-contains_marked marks c low = sym (contains_all marks c ∙ grind (arith, nat_tests))
+pub contains_marked : (members : List Bool) (c : ℕ) → c < cell_count → get_or members c false ≡ contains (marked_cells members) c
+contains_marked members c low = sym (contains_all members c ∙ grind (arith, nat_tests))
 
-pub marked_insert : (marks : List Bool) (c : ℕ) → c < cell_count → length marks ≡ cell_count → marked_cells (set marks c true) ≡ insert (marked_cells marks) c
-marked_insert marks c low l =
+pub marked_insert : (members : List Bool) (c : ℕ) → c < cell_count → length members ≡ cell_count → marked_cells (set members c true) ≡ insert (marked_cells members) c
+marked_insert members c low l =
     same_set nat_cmp_total nat_cmp-IsAntisymmetric _ _ (λ q.
-    contains_all (set marks c true) q
+    contains_all (set members c true) q
     ∙ ⊎_elim
-    (λ (e : q ≡ c). let g = get_or-set_same marks c true false (omega (arith, low, l)) in let w : get_or (set marks c true) q false ≡ true = rw e g in grind (arith, nat_tests))
-    (λ (ne : q ≢ c). ap (λ b. ltb q cell_count && b) (get_or-set_other marks c q true false ne) ∙ grind (arith, nat_tests))
+    (λ (e : q ≡ c). let g = get_or-set_same members c true false (omega (arith, low, l)) in let w : get_or (set members c true) q false ≡ true = rw e g in grind (arith, nat_tests))
+    (λ (ne : q ≢ c). ap (λ b. ltb q cell_count && b) (get_or-set_other members c q true false ne) ∙ grind (arith, nat_tests))
     (cases_eq q c)
-    ∙ sym (contains-insert nat_cmp_total (marked_cells marks) c q ∙ ap (λ b. eq_by_cmp nat_cmp q c || b) (contains_all marks q)))
+    ∙ sym (contains-insert nat_cmp_total (marked_cells members) c q ∙ ap (λ b. eq_by_cmp nat_cmp q c || b) (contains_all members q)))
 
-pub marked_remove : (marks : List Bool) (c : ℕ) → c < cell_count → length marks ≡ cell_count → marked_cells (set marks c false) ≡ remove (marked_cells marks) c
-marked_remove marks c low l =
+pub marked_remove : (members : List Bool) (c : ℕ) → c < cell_count → length members ≡ cell_count → marked_cells (set members c false) ≡ remove (marked_cells members) c
+marked_remove members c low l =
     same_set nat_cmp_total nat_cmp-IsAntisymmetric _ _ (λ q.
-    contains_all (set marks c false) q
+    contains_all (set members c false) q
     ∙ ⊎_elim
-    (λ (e : q ≡ c). let g = get_or-set_same marks c false false (omega (arith, low, l)) in let w : get_or (set marks c false) q false ≡ false = rw e g in grind (arith, nat_tests))
-    (λ (ne : q ≢ c). ap (λ b. ltb q cell_count && b) (get_or-set_other marks c q false false ne) ∙ grind (arith, nat_tests))
+    (λ (e : q ≡ c). let g = get_or-set_same members c false false (omega (arith, low, l)) in let w : get_or (set members c false) q false ≡ false = rw e g in grind (arith, nat_tests))
+    (λ (ne : q ≢ c). ap (λ b. ltb q cell_count && b) (get_or-set_other members c q false false ne) ∙ grind (arith, nat_tests))
     (cases_eq q c)
-    ∙ sym (contains-remove nat_cmp_total (marked_cells marks) c q ∙ ap (λ b. not (eq_by_cmp nat_cmp q c) && b) (contains_all marks q)))
+    ∙ sym (contains-remove nat_cmp_total (marked_cells members) c q ∙ ap (λ b. not (eq_by_cmp nat_cmp q c) && b) (contains_all members q)))
 
 and_false : (b : Bool) → (b && false) ≡ false
 and_false true = refl

@@ -6,7 +6,7 @@ use Rattle.cpu.specs.declared.spot.Spot.TheVariants.{Cell, InRope}
 use Rattle.cpu.specs.State.{State, Scenario}
 use Rattle.cpu.specs.Next.{next}
 use Rattle.cpu.specs.Run.{run}
-use Rattle.cpu.specs.Links.{Flow, Link, link, flows, targets, sources, sources_by, is_in, targets_by, held}
+use Rattle.cpu.specs.Links.{Flow, Link, link, flows, targets, sources, sources_by, is_in, targets_by, spot_word}
 use Rattle.cpu.specs.Dependence.{origins, StandAlike}
 use Rattle.cpu.specs.Chains.{writes_at, writes_any, link_at, before_step, IsLastWriter, IsChain, chain_end, chain_origins, ChainExplains, ChainFixes}
 use Rattle.cpu.proofs.Trails.{first_false, second_false, not_first, not_second}
@@ -89,7 +89,7 @@ chain_explains scenario p xs ts = λ c other n links alike.
     (subst (λ ys. StandAlike scenario.rope (run scenario (chain_end p ts)) other.rope (run other n) ys) (sym (chain_of_run scenario p xs ts c)) alike))
 
 -- a step that writes at none of some spots leaves what stands there
-left_one : (scenario : Scenario) (s : State) (x : Spot) → writes_at (link scenario s) x ≡ false → held scenario.rope (next scenario s).0 x ≡ held scenario.rope s x
+left_one : (scenario : Scenario) (s : State) (x : Spot) → writes_at (link scenario s) x ≡ false → spot_word scenario.rope (next scenario s).0 x ≡ spot_word scenario.rope s x
 left_one scenario s (Cell c) h = leaves_rest scenario s c h
 left_one scenario s (InRope bank offset) h = refl
 
@@ -101,9 +101,9 @@ left_all scenario s (x ∷ xs) h =
 
 left_since : (scenario : Scenario) (m k : ℕ) (xs : List Spot) → ((u : ℕ) → m ≤ u → u < m + k → writes_any (link_at scenario u) xs ≡ false)
     → StandAlike scenario.rope (run scenario (m + k)) scenario.rope (run scenario m) xs
-left_since scenario m zero xs none = let e : m + 0 ≡ m = omega arith in ap (λ u. map (held scenario.rope (run scenario u)) xs) e
+left_since scenario m zero xs none = let e : m + 0 ≡ m = omega arith in ap (λ u. map (spot_word scenario.rope (run scenario u)) xs) e
 left_since scenario m (suc k) xs none =
-    ap (λ (s : State). map (held scenario.rope s) xs) (run_later scenario m k)
+    ap (λ (s : State). map (spot_word scenario.rope s) xs) (run_later scenario m k)
     ∙ left_all scenario (run scenario (m + k)) xs (none (m + k) (omega arith) (omega arith))
     ∙ left_since scenario m k xs (λ u low high. none u low (omega arith))
 
@@ -112,9 +112,9 @@ since_writer : (scenario : Scenario) (p : ℕ) (xs : List Spot) (t : ℕ) → Is
     → StandAlike scenario.rope (run scenario p) scenario.rope (next scenario (run scenario t)).0 xs
 since_writer scenario p xs t w =
     let e : p ≡ t + 1 + (p - t - 1) = omega (arith, w.earlier) in
-    ap (λ u. map (held scenario.rope (run scenario u)) xs) e
+    ap (λ u. map (spot_word scenario.rope (run scenario u)) xs) e
     ∙ left_since scenario (t + 1) (p - t - 1) xs (λ u low high. w.none_since u (omega arith) (omega (arith, w.earlier)))
-    ∙ ap (λ (s : State). map (held scenario.rope s) xs) (run-add-one scenario t)
+    ∙ ap (λ (s : State). map (spot_word scenario.rope s) xs) (run-add-one scenario t)
 
 pub chain_fixes : (one : Scenario) (p : ℕ) (ts : List ℕ) (other : Scenario) (n : ℕ) (us : List ℕ) (xs : List Spot) → ChainFixes one p ts other n us xs
 chain_fixes one p [] other n [] xs = λ c d same alike. alike

@@ -14,7 +14,7 @@ use Rattle.cpu.specs.State.{State}
 use Rattle.cpu.specs.Effects.{Change, change, changes, value_at, edits}
 use Rattle.cpu.specs.Effects.Change.{AtPlace, OnChannel}
 use Rattle.cpu.specs.declared.spot.Spot.{Spot}
-use Rattle.cpu.specs.Links.{held, Flow, to_place, place_cells, cell_of_channel, place_spots, channel_spots, spots, is_in, sources_by, edit_flows}
+use Rattle.cpu.specs.Links.{spot_word, Flow, to_place, place_cells, cell_of_channel, place_spots, channel_spots, spots, is_in, sources_by, edit_flows}
 use Rattle.cpu.specs.declared.spot.Spot.TheVariants.{Cell}
 use Rattle.cpu.proofs.Holding.{at-insert}
 use Rattle.cpu.proofs.ChangeLaws.{changes_append}
@@ -22,7 +22,7 @@ use Rattle.cpu.proofs.ChangeLaws.{changes_append}
 -- the same stands at each spot
 abbrev pub Agree : Words → State → Words → State → List Spot → Type 0
 Agree r s o t [] = Unit {0}
-Agree r s o t (x ∷ xs) = (held r s x ≡ held o t x) × Agree r s o t xs
+Agree r s o t (x ∷ xs) = (spot_word r s x ≡ spot_word o t x) × Agree r s o t xs
 
 pub agree_left : (r : Words) (s : State) (o : Words) (t : State) (xs ys : List Spot) → Agree r s o t (xs ++ ys) → Agree r s o t xs
 agree_left r s o t [] ys e = tt

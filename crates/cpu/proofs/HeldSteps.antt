@@ -2,7 +2,7 @@
 use Rattle.std.proofs.Common.{◌≡◌, ℕ, ◌+◌, ◌%◌, Bool, true, false, List, ◌∷◌, Option, Some, None, ap, ◌∙◌}
 use Rattle.words.specs.Numbers.{extend, correct, sum}
 use Rattle.rope.specs.Places.{Placed}
-use Rattle.feed.specs.Fits.{counts_after}
+use Rattle.feed.specs.CountsTaken.{counts_after}
 use Rattle.feed.specs.declared.input.Counter.TheVariants.{Time1}
 use Rattle.feed.specs.declared.input.Sequence.TheVariants.{Pinc}
 use Rattle.feed.specs.declared.input.Input.TheVariants.{Count, Word}

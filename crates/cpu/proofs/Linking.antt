@@ -30,7 +30,7 @@ use Rattle.cpu.specs.Inputs.{take, input_effect, counted, received, asked, asked
 use Rattle.cpu.specs.Next.{fetched_cells, fetched, following_address, word_at_z, with_sum, least_request, executed, execute, instruction_word, entry, entered, next_by, next}
 use Rattle.cpu.specs.Run.{run}
 use Rattle.cpu.specs.declared.spot.Spot.{Spot}
-use Rattle.cpu.specs.Links.{held, Flow, to_place, place_spots, spots, is_in, sources_by, overflow_of, overflow_in, carries_in, fetch_flows, flows_of, Link, link_by, link, carry_flows, input_flows, flows, sources}
+use Rattle.cpu.specs.Links.{spot_word, Flow, to_place, place_spots, spots, is_in, sources_by, overflow_of, overflow_in, carries_in, fetch_flows, flows_of, Link, link_by, link, carry_flows, input_flows, flows, sources}
 use Rattle.cpu.specs.Dependence.{carried_by_due, StandAlike, DependsOnSources, origins, SameLinks, DependsOnOrigins, ControlFixesLink}
 use Rattle.cpu.specs.declared.spot.Spot.TheVariants.{Cell, InRope}
 use Rattle.cpu.specs.Links.Link.{Takes, Enters, Executes}
@@ -257,7 +257,7 @@ next_tracks r s o t None None None None e =
 pub alike_agree : (r : Words) (s : State) (o : Words) (t : State) (xs : List Spot) → StandAlike r s o t xs → Agree r s o t xs
 alike_agree r s o t [] e = tt
 alike_agree r s o t (x ∷ xs) e =
-    let head : held r s x ≡ held o t x = cc in
+    let head : spot_word r s x ≡ spot_word o t x = cc in
     let tail : StandAlike r s o t xs = cc in
     (head, alike_agree r s o t xs tail)
 
@@ -266,7 +266,7 @@ agree_alike r s o t [] e = refl
 agree_alike r s o t (x ∷ xs) e = λ i. e.0 i ∷ agree_alike r s o t xs e.1 i
 
 agree_after : (one other : Scenario) (s t : State) (x : Spot) → link one s ≡ link other t → Agree one.rope s other.rope t (sources (link one s) x)
-    → held one.rope (next one s).0 x ≡ held other.rope (next other t).0 x
+    → spot_word one.rope (next one s).0 x ≡ spot_word other.rope (next other t).0 x
 unfolding link next sources
 agree_after one other s t (Cell c) e h =
     next_tracks one.rope s other.rope t (due one.inputs s.taken s.cycles) (due other.inputs t.taken t.cycles) (entry s) (entry t) e c h

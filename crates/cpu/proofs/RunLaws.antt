@@ -8,7 +8,7 @@ use Rattle.feed.specs.declared.input.Counter.{Counter}
 use Rattle.feed.specs.declared.input.Input.{Input}
 use Rattle.feed.specs.declared.input.Input.TheVariants.{Count, Word, Interrupt}
 use Rattle.feed.specs.Merged.{due}
-use Rattle.feed.specs.Fits as from
+use Rattle.feed.specs.CountsTaken as from
 use Rattle.cpu.specs.State.{State, Scenario, start}
 use Rattle.cpu.specs.declared.instruction.Instruction.{Instruction}
 use Rattle.cpu.specs.Codes.{row_of, code_of}

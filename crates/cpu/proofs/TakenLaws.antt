@@ -8,9 +8,9 @@ use Rattle.rope.specs.Places.{Words}
 use Rattle.feed.specs.declared.input.Counter.{Counter}
 use Rattle.feed.specs.declared.input.Input.{Input}
 use Rattle.feed.specs.declared.input.Input.TheVariants.{Count, Word, Interrupt}
-use Rattle.feed.specs.Fits as from
+use Rattle.feed.specs.CountsTaken as from
 use Rattle.feed.specs.Feed.{most_series}
-use Rattle.feed.specs.Fits.{Fits}
+use Rattle.feed.specs.CountsTaken.{CountsTaken}
 use Rattle.feed.specs.Merged.{due}
 use Rattle.feed.proofs.FitLaws.{fits-start, fits-due}
 use Rattle.cpu.specs.declared.output.Output.{Output}
@@ -78,12 +78,12 @@ account-next_by rope s (Some k) = refl
 account-next_by rope s None = account-after rope _ _ _
 
 fits-by : (scenario : Scenario) (s t : State) → account t ≡ account s → FitsRun scenario s → FitsRun scenario t
-fits-by scenario s t e f = subst (λ (a : ℕ × List ℕ). Fits scenario.inputs a.0 a.1) (sym e) f
+fits-by scenario s t e f = subst (λ (a : ℕ × List ℕ). CountsTaken scenario.inputs a.0 a.1) (sym e) f
 
-fits-next_by : (scenario : Scenario) (s : State) (d : Option (Input × Option ℕ)) (o : Option ℕ) → IfSome d (λ given. Fits scenario.inputs (s.taken + 1) (from.counts_after s.counts given.1)) → FitsRun scenario s
+fits-next_by : (scenario : Scenario) (s : State) (d : Option (Input × Option ℕ)) (o : Option ℕ) → IfSome d (λ given. CountsTaken scenario.inputs (s.taken + 1) (from.counts_after s.counts given.1)) → FitsRun scenario s
     → FitsRun scenario (next_by scenario.rope s d o).0
 fits-next_by scenario s None o given f = fits-by scenario s (next_by scenario.rope s None o).0 (account-next_by scenario.rope s o) f
-fits-next_by scenario s (Some input) o given f = subst (λ (a : ℕ × List ℕ). Fits scenario.inputs a.0 a.1) (sym (account-take s input)) given
+fits-next_by scenario s (Some input) o given f = subst (λ (a : ℕ × List ℕ). CountsTaken scenario.inputs a.0 a.1) (sym (account-take s input)) given
 
 -- a step keeps the fit
 pub fits-next : (scenario : Scenario) (s : State) → FitsRun scenario s → FitsRun scenario (next scenario s).0

@@ -2,7 +2,7 @@
 use Rattle.std.specs.Prelude.{ℕ, ◌≡◌, ◌≤◌, None}
 use Rattle.feed.specs.Added.{AddsLast}
 use Rattle.feed.specs.Feed.{most_inputs}
-use Rattle.feed.specs.Fits.{number_from}
+use Rattle.feed.specs.CountsTaken.{number_from}
 use Rattle.feed.specs.declared.input.Input.{Input}
 use Rattle.cpu.specs.State.{Scenario, Processing}
 use Rattle.cpu.specs.Run.{run, out, outs}

@@ -12,7 +12,7 @@ use Rattle.cpu.specs.Next.{next}
 use Rattle.cpu.specs.Run.{run}
 use Rattle.cpu.specs.declared.spot.Spot.{Spot}
 use Rattle.cpu.specs.declared.spot.Spot.TheVariants.{Cell}
-use Rattle.cpu.specs.Links.{held, spots, carries_in, link, sources, writes}
+use Rattle.cpu.specs.Links.{spot_word, spots, carries_in, link, sources, writes}
 
 -- A cell that a step does not write holds what it held.
 abbrev pub LeavesRest : Scenario → State → ℕ → Type 0
@@ -20,14 +20,14 @@ LeavesRest scenario s c = writes (link scenario s) c ≡ false → at (next scen
 
 -- the same stands at spots in one state over one rope and in another over another
 abbrev pub StandAlike : Words → State → Words → State → List Spot → Type 0
-StandAlike rope s other t xs = map (held rope s) xs ≡ map (held other t) xs
+StandAlike rope s other t xs = map (spot_word rope s) xs ≡ map (spot_word other t) xs
 
 -- What stands at a spot after a step depends on the link and on its sources alone: over any two ropes, with any inputs, after
 -- the same link from states in which the same stands at its sources, the same stands there.
 abbrev pub DependsOnSources : Scenario → State → Scenario → State → Spot → Type 0
 DependsOnSources one s other t x =
     link one s ≡ link other t → StandAlike one.rope s other.rope t (sources (link one s) x)
-    → held one.rope (next one s).0 x ≡ held other.rope (next other t).0 x
+    → spot_word one.rope (next one s).0 x ≡ spot_word other.rope (next other t).0 x
 
 -- whether the input that is due carries
 abbrev pub carried_by_due : State → Option (Input × Option ℕ) → Bool

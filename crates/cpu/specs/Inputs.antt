@@ -15,7 +15,7 @@ use Rattle.feed.specs.declared.input.Sequence.TheVariants.{Pinc, Minc, Dinc, Pcd
 use Rattle.feed.specs.declared.input.Input.{Input}
 use Rattle.feed.specs.declared.input.Input.TheVariants.{Count, Word, Interrupt}
 use Rattle.feed.specs.Counters.{row_of, counter_place}
-use Rattle.feed.specs.Fits as from
+use Rattle.feed.specs.CountsTaken as from
 use Rattle.cpu.specs.State.{State}
 use Rattle.cpu.specs.Effects.{change}
 use Rattle.cpu.specs.Effects.Change.{AtPlace, OnChannel}

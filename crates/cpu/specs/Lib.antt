@@ -24,7 +24,7 @@ pub mod Asking
 pub use Rattle.space.specs.Cells
 pub use Rattle.rope.specs.Places as RopePlaces
 pub use Rattle.feed.specs.Added as FeedAdded
-pub use Rattle.feed.specs.Fits as FeedFits
+pub use Rattle.feed.specs.CountsTaken as FeedCounts
 pub use Rattle.feed.specs.declared.entry.Entry as FeedEntry
 pub use Rattle.feed.specs.declared.input.Input as FeedInput
 pub use Rattle.feed.specs.declared.list.AddFault as FeedAddFault

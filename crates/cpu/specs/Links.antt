@@ -25,9 +25,9 @@ use Rattle.cpu.specs.declared.instruction.Instruction.{Instruction}
 use Rattle.cpu.specs.declared.instruction.Instruction.TheVariants.{Relint, Inhint, Extend, Resume, Tc, Ccs, Tcf, Das, Lxch, Incr, Ads, Ca, Cs, Index, Dxch, Ts, Xch, Ad, Mask, Read, Write, Rand, Wand, Ror, Wor, Rxor, Edrupt, Dv, Bzf, Msu, Qxch, Aug, Dim, Dca, Dcs, Su, Bzmf, Mp}
 
 -- the number that stands at a spot
-abbrev pub held : Words → State → Spot → ℕ
-held rope s (Cell c) = at s.cells c
-held rope s (InRope bank offset) = word_at rope bank offset
+abbrev pub spot_word : Words → State → Spot → ℕ
+spot_word rope s (Cell c) = at s.cells c
+spot_word rope s (InRope bank offset) = word_at rope bank offset
 
 -- the cells of an erasable place: BB is FB and EB, and the place that reads as 0 has none
 abbrev pub place_cells : ℕ → List ℕ

@@ -53,4 +53,4 @@ cell_count = 0o5000
 
 -- the cells that are marked
 unfoldable pub marked_cells : List Bool → set.FinSet nat_cmp
-marked_cells marks = set.from_list (filter (λ c. slice_index_or marks c false) (range_with_len 0 cell_count))
+marked_cells members = set.from_list (filter (λ c. slice_index_or members c false) (range_with_len 0 cell_count))

@@ -5,7 +5,7 @@ use Rattle.std.specs.FinSet as set
 use Rattle.rope.specs.Places.{Words}
 use Rattle.feed.specs.declared.entry.Entry.{Entry}
 use Rattle.feed.specs.Feed.{most_series}
-use Rattle.feed.specs.Fits.{Fits}
+use Rattle.feed.specs.CountsTaken.{CountsTaken}
 use Rattle.space.specs.Cells.{Cells, zero_cells, put, program_counter}
 
 -- what runs: the words of fixed memory, and the inputs in their order, each with the cycle from which on it is due and the
@@ -37,7 +37,7 @@ pub record State : Type 0 where
 -- A state fits what runs: so many inputs as it took stand, and its counts tell for each series how many of them are the
 -- series' own.
 abbrev pub FitsRun : Scenario → State → Type 0
-FitsRun scenario s = Fits scenario.inputs s.taken s.counts
+FitsRun scenario s = CountsTaken scenario.inputs s.taken s.counts
 
 -- the first address of bank 2, where a run starts
 abbrev pub first_address : ℕ

@@ -13,7 +13,7 @@ const CELLS: usize = 0o5000;
 /// A set of cells.
 #[derive(Drop)]
 pub struct CellSet {
-    marks: [bool; CELLS],
+    members: [bool; CELLS],
 }
 
 impl Model for CellSet {
@@ -26,7 +26,7 @@ impl Model for CellSet {
 
     ghost coded = { set.code coded_ℕ };
 
-    ghost view = { λ s. marked_cells s.marks };
+    ghost view = { λ s. marked_cells s.members };
 }
 
 impl CellSet {
@@ -35,7 +35,7 @@ impl CellSet {
         ensures { result ≡ empty }
     {
         CellSet {
-            marks: [false; CELLS],
+            members: [false; CELLS],
         }
     }
 
@@ -44,7 +44,7 @@ impl CellSet {
     pub fn contains(&self, cell: Cell) -> bool
         ensures { result ≡ contains self.now cell }
     {
-        self.marks[usize::from(cell.number())]
+        self.members[usize::from(cell.number())]
     }
 
     /// Whether one of some cells is in it.
@@ -64,7 +64,7 @@ impl CellSet {
     pub fn insert(&mut self, cell: Cell)
         ensures { self.new ≡ insert self.old cell }
     {
-        self.marks[usize::from(cell.number())] = true;
+        self.members[usize::from(cell.number())] = true;
     }
 
     /// Takes a cell out.
@@ -72,7 +72,7 @@ impl CellSet {
     pub fn remove(&mut self, cell: Cell)
         ensures { self.new ≡ remove self.old cell }
     {
-        self.marks[usize::from(cell.number())] = false;
+        self.members[usize::from(cell.number())] = false;
     }
 }
 

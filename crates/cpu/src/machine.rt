@@ -10,7 +10,7 @@ ghost use Rattle.cpu.specs.Effects.Change.{AtPlace, OnChannel, Inhibits, Serves,
 ghost use Rattle.cpu.specs.Next.{least_request};
 ghost use Rattle.std.specs.FinSet.{contains, insert, remove};
 ghost use Rattle.words.specs.Numbers.{correct};
-ghost use Rattle.feed.specs.Fits.{counts_after};
+ghost use Rattle.feed.specs.CountsTaken.{counts_after};
 
 use crate::address::Addr10;
 use feed::{Interrupt, MOST_SERIES};

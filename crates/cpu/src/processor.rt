@@ -2,7 +2,7 @@
 
 ghost use Rattle.std.specs.Prelude.{◌≡◌, ◌≢◌, true, false, ◌+◌, ◌-◌, ◌<◌, ◌≤◌, ◌^◌, min, ℕ, Some, None, Err, OnOk, OnErr, filter, map};
 ghost use Rattle.feed.specs.Added.{TakenBelow};
-ghost use Rattle.feed.specs.Fits.{is_from};
+ghost use Rattle.feed.specs.CountsTaken.{is_from};
 ghost use Rattle.feed.specs.Merged.{due, plain_entry};
 ghost use Rattle.cpu.specs.State.{State, FitsRun};
 ghost use Rattle.cpu.specs.Additions.{AddsInput, AreAlikeUpTo, plain_inputs, most_plain_inputs};

@@ -11,14 +11,14 @@ use Rattle.feed.specs.declared.entry.Entry.{Entry}
 use Rattle.words.specs.Numerals.{octal_text}
 use Rattle.space.specs.Places.{place}
 use Rattle.cpu.proofs.ClockRun.{loop, loop_words, clock, added, after_0, twelve_and, two, start-held, goes-twelve, goes-fourteen}
-use Rattle.commands.specs.Commands.{request_of, forms}
+use Rattle.commands.specs.Commands.{parsed_line, forms}
 use Rattle.debugger.specs.Additions.{with_added}
 use Rattle.cpu.specs.ChannelLines.{channel_lines}
 use Rattle.debugger.specs.History.{History, history}
 use Rattle.debugger.specs.Growth.{grow, lowest_hit}
 use Rattle.debugger.specs.Replies.{Desk, answer, reply, at_line}
 use Rattle.debugger.specs.Transcript.{transcript, first_desk, command_lines}
-use Rattle.debugger.proofs.Listed.{listed, history-listed}
+use Rattle.debugger.proofs.ListedHistories.{listed, history-listed}
 use Rattle.debugger.proofs.Scripts.{ended, replies-line}
 
 -- the run over the feed's inputs, and over one pulse more
@@ -40,7 +40,7 @@ desk more steps position =
 
 added_inputs : transcript [] (first_desk (loop []) [] []) (ended (codes "run 12" ∷ codes "add 11 TIME1 PINC" ∷ codes "add 12 TIME1 PINC" ∷ codes "run 2" ∷ codes "mem 25" ∷ codes "goto 12" ∷ codes "mem 25" ∷ []))
     ≡ ended (codes "AT 12 11 4000" ∷ codes "E42 TOO EARLY" ∷ codes "ADDED" ∷ codes "AT 14 13 4000" ∷ codes "MEM 00005" ∷ codes "AT 12 11 4000" ∷ codes "MEM 00004" ∷ [])
-unfolding transcript request_of forms runs command_lines lines answer reply grow lowest_hit at_line digits octal_text place parsed counters sequences channel_lines with_added inserted is_before
+unfolding transcript parsed_line forms runs command_lines lines answer reply grow lowest_hit at_line digits octal_text place parsed counters sequences channel_lines with_added inserted is_before
 added_inputs =
     replies-line [] before (desk [] 0 0) (codes "run 12") (codes "add 11 TIME1 PINC" ∷ codes "add 12 TIME1 PINC" ∷ codes "run 2" ∷ codes "mem 25" ∷ codes "goto 12" ∷ codes "mem 25" ∷ []) history-before
     ∙ ap (λ t. ended (codes "AT 12 11 4000" ∷ []) ++ t) (

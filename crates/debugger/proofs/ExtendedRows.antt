@@ -26,12 +26,12 @@ use Rattle.yayul.specs.Listing.{place_text}
 use Rattle.trace.specs.TraceLines.{symbol_at}
 use Rattle.debugger.specs.Standing.{nearest_symbol, nearest_text, found_text, words_text}
 use Rattle.commands.specs.Commands.{forms}
-use Rattle.commands.specs.Extended.{extended_request_of, extended_forms}
+use Rattle.commands.specs.Extended.{extended_line, extended_forms}
 use Rattle.commands.specs.NamedPlaces.{registers}
 use Rattle.commands.specs.Usages.{usages}
 use Rattle.commands.specs.declared.command.Breakpoint.{Breakpoint}
 use Rattle.commands.specs.declared.command.Breakpoint.TheVariants.{Place, Channel, Bits, Cycles}
-use Rattle.commands.specs.declared.extended.ExtendedRequest.TheVariants.{Common, On, Until}
+use Rattle.commands.specs.declared.extended.ExtendedLine.TheVariants.{Common, On, Until}
 use Rattle.commands.specs.declared.command.Command.{Command}
 use Rattle.commands.specs.declared.command.Command.TheVariants.{Goto, Back, Seek, Memory}
 use Rattle.words.specs.BitSums.{and_sum}
@@ -50,18 +50,18 @@ abbrev symbols : SymbolTable
 symbols = (codes "FIVE", Fixed 2 5) ∷ []
 
 abbrev session : List (List ℕ) → List ℕ
-session lines = conversation (terms_of symbols five) (extended_request_of symbols) (first_desk five [] []) lines
+session lines = conversation (terms_of symbols five) (extended_line symbols) (first_desk five [] []) lines
 
 -- breakpoints are told, and taken away one by one; those that stay are numbered anew
 breakpoints : session (codes "breaks" ∷ codes "break at FIVE" ∷ codes "break word 101 75" ∷ codes "break chan 10 12" ∷ codes "break chan 10 12 77" ∷ codes "breaks" ∷ codes "clear 2" ∷ codes "clear 4" ∷ codes "clear 0" ∷ codes "breaks" ∷ codes "clear" ∷ codes "breaks" ∷ [])
     ≡ ended (codes "COUNT 0" ∷ codes "BREAK 1" ∷ codes "BREAK 2" ∷ codes "BREAK 3" ∷ codes "BREAK 4" ∷ codes "BREAK 1 at 02,0005" ∷ codes "BREAK 2 word 0101 00075" ∷ codes "BREAK 3 chan 010 00012" ∷ codes "BREAK 4 chan 010 00012 00077" ∷ codes "COUNT 4" ∷ codes "CLEAR 2" ∷ codes "NONE" ∷ codes "NONE" ∷ codes "BREAK 1 at 02,0005" ∷ codes "BREAK 2 chan 010 00012" ∷ codes "BREAK 3 chan 010 00012 00077" ∷ codes "COUNT 3" ∷ codes "CLEAR" ∷ codes "COUNT 0" ∷ [])
-unfolding extended_request_of extended_forms extended_reply usages forms runs parsed counters sequences answer reply digits octal_text
+unfolding extended_line extended_forms extended_reply usages forms runs parsed counters sequences answer reply digits octal_text
 breakpoints = refl
 
 -- a program that asks tells where a reply ends, and `quit` ends here too
 the_end : session (codes "sym FIV" ∷ codes "echo ." ∷ codes "mem FIV" ∷ codes "echo ." ∷ codes "quit" ∷ codes "echo ." ∷ [])
     ≡ ended (codes "E17 UNDEFINED" ∷ codes "." ∷ codes "E50 COMMAND no symbol FIV" ∷ codes "." ∷ [])
-unfolding registers extended_request_of extended_forms extended_reply usages forms runs parsed counters sequences answer reply digits octal_text
+unfolding registers extended_line extended_forms extended_reply usages forms runs parsed counters sequences answer reply digits octal_text
 the_end = refl
 
 -- where so many steps were made, and one of them is looked at

@@ -11,7 +11,7 @@ use Rattle.cpu.specs.Run.{run}
 use Rattle.cpu.specs.Additions.{plain_inputs, most_plain_inputs}
 use Rattle.commands.specs.declared.command.Breakpoint.{Breakpoint}
 use Rattle.commands.specs.declared.command.Command.TheVariants.{Add}
-use Rattle.commands.specs.declared.command.Request.TheVariants.{Known}
+use Rattle.commands.specs.declared.command.ParsedLine.TheVariants.{Known}
 use Rattle.replay.specs.View.{SessionView, HasAdded, greatest_cycle}
 use Rattle.debugger.specs.Additions.{line_after, with_added}
 use Rattle.debugger.specs.History.{history}

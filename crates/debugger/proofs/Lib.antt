@@ -1,7 +1,7 @@
 pub mod Breaking
-pub mod Chained
-pub mod Counted
-pub mod Told
+pub mod ChainText
+pub mod CellNumbers
+pub mod WhyLines
 pub mod PartByPart
 pub mod Standings
 pub mod WholeReplies
@@ -12,12 +12,12 @@ pub mod Looking
 pub mod NewSteps
 pub mod Tellings
 pub mod Stepping
-mod Listed
+mod ListedHistories
 mod Scripts
 mod FiveRows
 mod ClockRows
 mod ExtendedRows
-pub mod Requested
+pub mod RequestNumbers
 pub mod FirstHit
 mod Retraced
 pub mod Travelling

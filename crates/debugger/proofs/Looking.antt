@@ -8,11 +8,11 @@ use Rattle.cpu.specs.State.{State, Scenario, FitsRun}
 use Rattle.cpu.proofs.TakenLaws.{run-fits}
 use Rattle.cpu.specs.Run.{run}
 use Rattle.commands.specs.declared.command.Breakpoint.{Breakpoint}
-use Rattle.commands.specs.declared.command.Request.{Request}
+use Rattle.commands.specs.declared.command.ParsedLine.{ParsedLine}
 use Rattle.replay.specs.View.{SessionView, HasShown}
 use Rattle.debugger.specs.History.{History, history, sight}
 use Rattle.debugger.specs.Replies.{Desk, says, places_changed, changed_text, changes_since}
-use Rattle.commands.specs.declared.extended.ExtendedRequest.{ExtendedRequest}
+use Rattle.commands.specs.declared.extended.ExtendedLine.{ExtendedLine}
 use Rattle.debugger.specs.Terms.{Terms}
 use Rattle.debugger.specs.Conversation.{to_asked}
 use Rattle.debugger.specs.Executions.{HasLooked, desk, awaiting, answered, BringsIn, BringsAsked}
@@ -46,14 +46,14 @@ pub is_later : (t n : ℕ) → (t ≤ n → ⊥) → ltb n t ≡ true
 is_later t n h = grind (arith, nat_tests)
 
 -- a reply that leaves a session with only another shown machine and another meter
-pub brings_text : (m : Manner) (s t : SessionView) (p q : ℕ) (bs cs : List Breakpoint) (request : Request) (text : List ℕ) → t ≡ record s { shown = t.shown; meter = t.meter }
+pub brings_text : (m : Manner) (s t : SessionView) (p q : ℕ) (bs cs : List Breakpoint) (request : ParsedLine) (text : List ℕ) → t ≡ record s { shown = t.shown; meter = t.meter }
     → ((answers : List Bool) (additions : List (Option ℕ)) → answered m (desk s p bs) request answers additions ≡ says text (awaiting (desk s q cs) answers additions))
     → BringsIn m (desk s p bs) request text (desk t q cs)
 brings_text m s t p q bs cs request text same brings answers additions =
     brings answers additions ∙ sym (ap (λ (v : SessionView). says text (awaiting (desk v q cs) answers additions)) same)
 
 -- the same of what an extended session is asked for
-pub asked_text : (s t : SessionView) (p q : ℕ) (bs cs : List Breakpoint) (request : ExtendedRequest) (text : List ℕ) → t ≡ record s { shown = t.shown; meter = t.meter }
+pub asked_text : (s t : SessionView) (p q : ℕ) (bs cs : List Breakpoint) (request : ExtendedLine) (text : List ℕ) → t ≡ record s { shown = t.shown; meter = t.meter }
     → ((terms : Terms) (answers : List Bool) (additions : List (Option ℕ)) → to_asked terms request (awaiting (desk s p bs) answers additions) ≡ says text (awaiting (desk s q cs) answers additions))
     → BringsAsked (desk s p bs) request text (desk t q cs)
 asked_text s t p q bs cs request text same brings terms answers additions =

@@ -3,22 +3,22 @@ use Rattle.std.proofs.Common.{◌≡◌, ℕ, ◌*◌, length, arith, List, [], 
 use Rattle.agc_text.specs.Lines.{ended_lines}
 use Rattle.symbols.specs.Values.{SymbolTable}
 use Rattle.debugger.specs.Terms.{Terms, terms_of}
-use Rattle.commands.specs.Commands.{request_of}
+use Rattle.commands.specs.Commands.{parsed_line}
 use Rattle.debugger.specs.declared.manner.Manner.TheVariants as manner
 use Rattle.debugger.specs.ExtendedReplies.{extended_reply}
 use Rattle.debugger.specs.Replies.{Desk}
-use Rattle.debugger.specs.Transcript.{ends, told, replies, first_desk, command_lines, lines_read, most_command_bytes}
+use Rattle.debugger.specs.Transcript.{ends, line_reply, replies, first_desk, command_lines, lines_read, most_command_bytes}
 use Rattle.debugger.specs.Sessions.{Setting, Commands, WritesReplies, Debugs}
 use Rattle.debugger.specs.Conversation.{reading, conversation, efforts, lines_heard, lines_within, Talk, WritesTalk, Talks}
 use Rattle.debugger.specs.declared.fault.DebugFault.{DebugFault}
 use Rattle.debugger.specs.declared.fault.DebugFault.TheVariants.{NoMemory, ReadFailed, WriteFailed}
 
 same-replies : (terms : Terms) (symbols : SymbolTable) (d : Desk) (lines : List (List ℕ)) → conversation terms (reading manner.Plain symbols) d lines ≡ replies symbols d lines
-unfolding reading extended_reply told
+unfolding reading extended_reply line_reply
 same-replies terms symbols d [] = refl
 same-replies terms symbols d (line ∷ more) =
-    let r = told symbols d line in
-    ap (λ (t : List ℕ). cond (ends (request_of symbols line)) [] (r.text ++ t)) (same-replies terms symbols r.desk more)
+    let r = line_reply symbols d line in
+    ap (λ (t : List ℕ). cond (ends (parsed_line symbols line)) [] (r.text ++ t)) (same-replies terms symbols r.desk more)
 
 thrice : (symbols : SymbolTable) (lines : List (List ℕ)) → efforts (reading manner.Plain symbols) lines ≡ 3 * length lines
 unfolding reading
@@ -28,7 +28,7 @@ thrice symbols (line ∷ more) = let rest = thrice symbols more in omega arith
 pub same-lines : (symbols : SymbolTable) (lines : List (List ℕ)) → lines_heard (reading manner.Plain symbols) lines ≡ lines_read symbols lines
 unfolding reading lines_heard lines_read
 same-lines symbols [] = refl
-same-lines symbols (line ∷ more) = ap (λ (ls : List (List ℕ)). line ∷ cond (ends (request_of symbols line)) [] ls) (same-lines symbols more)
+same-lines symbols (line ∷ more) = ap (λ (ls : List (List ℕ)). line ∷ cond (ends (parsed_line symbols line)) [] ls) (same-lines symbols more)
 
 -- each of them costs as much
 pub plain-efforts : (symbols : SymbolTable) (lines : List (List ℕ)) → efforts (reading manner.Plain symbols) (lines_heard (reading manner.Plain symbols) lines) ≡ 3 * length (lines_read symbols lines)

@@ -2,14 +2,14 @@
 use Rattle.std.proofs.Common.{◌≡◌, ℕ, Bool, true, false, cond, List, [], ◌∷◌, ◌++◌, None, Some, ap, refl, ◌∙◌, if◌then◌else◌}
 use Rattle.std.specs.Prelude.{◌+◌, nat_lt, nat_le, length, codes, decimal}
 use Rattle.symbols.specs.Values.{SymbolTable}
-use Rattle.commands.specs.Commands.{request_of}
+use Rattle.commands.specs.Commands.{parsed_line}
 use Rattle.commands.specs.declared.command.Breakpoint.{Breakpoint}
 use Rattle.commands.specs.declared.command.Command.TheVariants.{Step, Run, Back, Goto, Seek, Break, Clear, Registers, Memory, Channel, Last, Symbol, Changed, Tail, Add, Quit}
-use Rattle.commands.specs.declared.command.Request.{Request}
-use Rattle.commands.specs.declared.command.Request.TheVariants.{Nothing, TooLong, Unknown, WrongCounter, Known}
+use Rattle.commands.specs.declared.command.ParsedLine.{ParsedLine}
+use Rattle.commands.specs.declared.command.ParsedLine.TheVariants.{Nothing, TooLong, Unknown, WrongCounter, Known}
 use Rattle.debugger.specs.History.{History, history}
 use Rattle.debugger.specs.Replies.{Desk, Reply, answer, reply, says, line, refuses, not_yet, moves, sought, last_stop, most_breakpoints, changed_text, places_changed}
-use Rattle.debugger.specs.Transcript.{told, replies, ends}
+use Rattle.debugger.specs.Transcript.{line_reply, replies, ends}
 
 -- some lines, each ended
 abbrev pub ended : List (List ℕ) → List ℕ
@@ -17,21 +17,21 @@ ended [] = []
 ended (line ∷ more) = line ++ 10 ∷ ended more
 
 -- an input is added
-abbrev adds : Request → Bool
+abbrev adds : ParsedLine → Bool
 adds (Known (Add cycle input)) = true
 adds request = false
 
 -- no line adds an input
 abbrev pub adds_none : SymbolTable → List (List ℕ) → Bool
 adds_none symbols [] = true
-adds_none symbols (line ∷ more) = if adds (request_of symbols line) then false else adds_none symbols more
+adds_none symbols (line ∷ more) = if adds (parsed_line symbols line) then false else adds_none symbols more
 
 -- the replies to lines over one history, up to the end
 abbrev pub replies_over : History → SymbolTable → Desk → List (List ℕ) → List ℕ
 replies_over h symbols d [] = []
 replies_over h symbols d (line ∷ more) =
-    if ends (request_of symbols line) then []
-    else (let r = answer h d (request_of symbols line) in r.text ++ replies_over h symbols r.desk more)
+    if ends (parsed_line symbols line) then []
+    else (let r = answer h d (parsed_line symbols line) in r.text ++ replies_over h symbols r.desk more)
 
 -- where no input is added the same runs on
 abbrev Keeps : Desk → Reply → Type 0
@@ -67,7 +67,7 @@ keeps-changed h d t =
       | false ↦ refl
     ]
 
-keeps : (h : History) (d : Desk) (request : Request) → adds request ≡ false → Keeps d (answer h d request)
+keeps : (h : History) (d : Desk) (request : ParsedLine) → adds request ≡ false → Keeps d (answer h d request)
 unfolding answer reply
 keeps h d Nothing e = refl
 keeps h d TooLong e = refl
@@ -101,17 +101,17 @@ nor_later false c e = e
 -- what a line brings, where the history of what runs now is known
 pub replies-line : (symbols : SymbolTable) (h : History) (d : Desk) (line : List ℕ) (more : List (List ℕ)) → history d.scenario ≡ h
     → replies symbols d (line ∷ more)
-    ≡ (if ends (request_of symbols line) then [] else (let r = answer h d (request_of symbols line) in r.text ++ replies symbols r.desk more))
-unfolding told
+    ≡ (if ends (parsed_line symbols line) then [] else (let r = answer h d (parsed_line symbols line) in r.text ++ replies symbols r.desk more))
+unfolding line_reply
 replies-line symbols h d line more e =
-    ap (λ (g : History). cond (ends (request_of symbols line)) [] (let r = answer g d (request_of symbols line) in r.text ++ replies symbols r.desk more)) e
+    ap (λ (g : History). cond (ends (parsed_line symbols line)) [] (let r = answer g d (parsed_line symbols line) in r.text ++ replies symbols r.desk more)) e
 
 -- the replies to lines that add no input are those over the history that is known
 pub same-replies : (symbols : SymbolTable) (h : History) (d : Desk) (ls : List (List ℕ)) → history d.scenario ≡ h → adds_none symbols ls ≡ true
     → replies symbols d ls ≡ replies_over h symbols d ls
 same-replies symbols h d [] e n = refl
 same-replies symbols h d (line ∷ more) e n =
-    let request = request_of symbols line in
+    let request = parsed_line symbols line in
     let here = not_here (adds request) (adds_none symbols more) n in
     let later = nor_later (adds request) (adds_none symbols more) n in
     replies-line symbols h d line more e

@@ -2,8 +2,8 @@
 use Rattle.std.proofs.Common.{◌≡◌, Bool, List, [], ◌++◌, ℕ, Option, Result, Ok, Err, sym, ap, ◌∙◌, append-nil}
 use Rattle.words.specs.Devices.{Writes}
 use Rattle.words.specs.declared.device.WriteFailed.{WriteFailed}
-use Rattle.commands.specs.declared.command.Request.{Request}
-use Rattle.commands.specs.declared.extended.ExtendedRequest.{ExtendedRequest}
+use Rattle.commands.specs.declared.command.ParsedLine.{ParsedLine}
+use Rattle.commands.specs.declared.extended.ExtendedLine.{ExtendedLine}
 use Rattle.debugger.specs.Terms.{Terms}
 use Rattle.debugger.specs.Conversation.{to_asked}
 use Rattle.debugger.specs.Replies.{Desk, Reply, says}
@@ -18,17 +18,17 @@ replies-text may_refuse reply from to old new text bytes (Err failed) brings e w
     record { answers = []; additions = []; granted = λ _. tt; part = rw (ap (λ (r : Reply). r.text) (brings [] []), ← e) w }
 
 -- to a request
-pub executes-text : (m : Manner) (may_refuse : Bool) (from to : Desk) (asked request : Request) (old new text bytes : List ℕ) (result : Result (Unit {0}) WriteFailed)
+pub executes-text : (m : Manner) (may_refuse : Bool) (from to : Desk) (asked request : ParsedLine) (old new text bytes : List ℕ) (result : Result (Unit {0}) WriteFailed)
     → asked ≡ request → BringsIn m from request text to → bytes ≡ text → Writes old new bytes result → Executes m may_refuse from asked to old new result
 executes-text m may_refuse from to asked request old new text bytes result is brings e w = rw is (replies-text may_refuse (to_request m request) from to old new text bytes result brings e w)
 
 -- to what an extended session is asked for
-pub asked-text : (may_refuse : Bool) (terms : Terms) (from to : Desk) (asked request : ExtendedRequest) (old new text bytes : List ℕ) (result : Result (Unit {0}) WriteFailed)
+pub asked-text : (may_refuse : Bool) (terms : Terms) (from to : Desk) (asked request : ExtendedLine) (old new text bytes : List ℕ) (result : Result (Unit {0}) WriteFailed)
     → asked ≡ request → BringsAsked from request text to → bytes ≡ text → Writes old new bytes result → Replies may_refuse (to_asked terms asked) from to old new result
 asked-text may_refuse terms from to asked request old new text bytes result is brings e w = rw is (replies-text may_refuse (to_asked terms request) from to old new text bytes result (brings terms) e w)
 
 -- the reply to a request that may add an input
-pub executes-adding : (m : Manner) (may_refuse : Bool) (from to : Desk) (asked request : Request) (old new text bytes : List ℕ) (result : Result (Unit {0}) WriteFailed)
+pub executes-adding : (m : Manner) (may_refuse : Bool) (from to : Desk) (asked request : ParsedLine) (old new text bytes : List ℕ) (result : Result (Unit {0}) WriteFailed)
     → asked ≡ request → BringsAdding from request text to → bytes ≡ text → Writes old new bytes result → Executes m may_refuse from asked to old new result
 executes-adding m may_refuse from to asked request old new text bytes (Ok x) is b e w =
     rw is (record { answers = []; additions = b.additions; granted = λ _. tt; text = text; brings = λ rest later. b.brings m rest later; written = rw e at w })
@@ -38,7 +38,7 @@ executes-adding m may_refuse from to asked request old new text bytes (Err faile
     rw is (record { answers = []; additions = b.additions; granted = λ _. tt; part = rw (whole, ← e) w })
 
 -- there is nothing to reply
-pub executes-nothing : (m : Manner) (may_refuse : Bool) (from : Desk) (asked request : Request) (old : List ℕ) → asked ≡ request → BringsIn m from request [] from → Executes m may_refuse from asked from old old (Ok tt)
+pub executes-nothing : (m : Manner) (may_refuse : Bool) (from : Desk) (asked request : ParsedLine) (old : List ℕ) → asked ≡ request → BringsIn m from request [] from → Executes m may_refuse from asked from old old (Ok tt)
 executes-nothing m may_refuse from asked request old is brings =
     rw is (record { answers = []; additions = []; granted = λ _. tt; text = []; brings = brings; written = sym (append-nil old) })
 

@@ -4,11 +4,11 @@ use Rattle.agc_text.specs.Lines.{lines, ended_lines}
 use Rattle.words.specs.Devices.{WritesBeginning}
 use Rattle.cpu.specs.State.{Scenario}
 use Rattle.symbols.specs.Values.{SymbolTable}
-use Rattle.commands.specs.Commands.{request_of}
-use Rattle.commands.specs.Extended.{extended_request_of}
-use Rattle.commands.specs.declared.extended.ExtendedRequest.{ExtendedRequest}
-use Rattle.commands.specs.declared.extended.ExtendedRequest.TheVariants.{Plain, Common, Says, Help, Breaks, ClearOne, On, AllRegisters, Until, WhyStep, Why, Words, Where, Find, Trace, Inputs, Over, Out}
-use Rattle.commands.specs.declared.command.Request.TheVariants.{Known}
+use Rattle.commands.specs.Commands.{parsed_line}
+use Rattle.commands.specs.Extended.{extended_line}
+use Rattle.commands.specs.declared.extended.ExtendedLine.{ExtendedLine}
+use Rattle.commands.specs.declared.extended.ExtendedLine.TheVariants.{Plain, Common, Says, Help, Breaks, ClearOne, On, AllRegisters, Until, WhyStep, Why, Words, Where, Find, Trace, Inputs, Over, Out}
+use Rattle.commands.specs.declared.command.ParsedLine.TheVariants.{Known}
 use Rattle.debugger.specs.declared.manner.Manner.{Manner}
 use Rattle.debugger.specs.declared.manner.Manner.TheVariants as manner
 use Rattle.debugger.specs.History.{history}
@@ -22,12 +22,12 @@ use Rattle.debugger.specs.declared.fault.DebugFault.TheVariants.{NoMemory, ReadF
 
 -- what lines ask for
 abbrev pub Reading : Type 0
-Reading = List ℕ → ExtendedRequest
+Reading = List ℕ → ExtendedLine
 
 -- as any session reads them, and as an extended one does
 unfoldable pub reading : Manner → SymbolTable → Reading
-reading manner.Plain symbols = λ line. Plain (request_of symbols line)
-reading manner.Extended symbols = extended_request_of symbols
+reading manner.Plain symbols = λ line. Plain (parsed_line symbols line)
+reading manner.Extended symbols = extended_line symbols
 
 -- the most bytes of commands that are read: an extended session reads on, as far as a count of 64 bits goes
 abbrev pub most_extended_bytes : ℕ
@@ -42,7 +42,7 @@ unfoldable pub lines_within : ℕ → List ℕ → List (List ℕ)
 lines_within most commands = lines (take most commands)
 
 -- the end is asked for
-abbrev pub is_end : ExtendedRequest → Bool
+abbrev pub is_end : ExtendedLine → Bool
 is_end (Plain request) = ends request
 is_end (Common command) = ends (Known command)
 is_end (Says text) = false
@@ -63,7 +63,7 @@ is_end (Over k) = false
 is_end (Out k) = false
 
 -- what a request brings, in terms and over the reference run of what runs now
-abbrev pub to_asked : Terms → ExtendedRequest → Desk → Reply
+abbrev pub to_asked : Terms → ExtendedLine → Desk → Reply
 to_asked terms request d = extended_reply terms (history d.scenario) d request
 
 -- the replies to lines, up to the end
@@ -80,7 +80,7 @@ lines_heard read (line ∷ more) = line ∷ (if is_end (read line) then [] else 
 
 -- how many times the steps that were made a request executes, at most, besides new ones: of `why` each link four times, and
 -- its last search once; of `where` and `out` four times
-abbrev pub effort : ExtendedRequest → ℕ
+abbrev pub effort : ExtendedLine → ℕ
 effort (Why subject k) = 4 * k + 1
 effort Where = 4
 effort (Out k) = 4

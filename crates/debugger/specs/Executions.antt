@@ -4,14 +4,14 @@ use Rattle.std.specs.Prelude.{◌≡◌, ℕ, ◌+◌, ◌*◌, ◌≤◌, Bool,
 use Rattle.words.specs.Devices.{WritesBeginning}
 use Rattle.words.specs.declared.device.WriteFailed.{WriteFailed}
 use Rattle.commands.specs.declared.command.Breakpoint.{Breakpoint}
-use Rattle.commands.specs.declared.command.Request.{Request}
+use Rattle.commands.specs.declared.command.ParsedLine.{ParsedLine}
 use Rattle.replay.specs.View.{SessionView}
 use Rattle.debugger.specs.History.{History, history, in_manner}
 use Rattle.debugger.specs.declared.manner.Manner.{Manner}
 use Rattle.debugger.specs.Growth.{grow}
 use Rattle.debugger.specs.Replies.{Desk, Reply, says, answer}
 use Rattle.debugger.specs.Sessions.{AllGranted}
-use Rattle.commands.specs.declared.extended.ExtendedRequest.{ExtendedRequest}
+use Rattle.commands.specs.declared.extended.ExtendedLine.{ExtendedLine}
 use Rattle.debugger.specs.ExtendedReplies.{grows_to, grows_until, further}
 use Rattle.debugger.specs.Conversation.{to_asked}
 use Rattle.debugger.specs.Terms.{Terms}
@@ -46,27 +46,27 @@ abbrev pub awaiting : Desk → List Bool → List (Option ℕ) → Desk
 awaiting d answers additions = record d { answers = answers; additions = additions }
 
 -- what a request brings in a manner
-abbrev pub to_request : Manner → Request → Desk → Reply
+abbrev pub to_request : Manner → ParsedLine → Desk → Reply
 to_request m request d = answer (in_manner m (history d.scenario)) d request
 
 -- the same, with these answers to come
-abbrev pub answered : Manner → Desk → Request → List Bool → List (Option ℕ) → Reply
+abbrev pub answered : Manner → Desk → ParsedLine → List Bool → List (Option ℕ) → Reply
 answered m d request answers additions = to_request m request (awaiting d answers additions)
 
 -- something that is asked for has this text as its reply, and leads from one place to the other
-abbrev pub BringsAsked : Desk → ExtendedRequest → List ℕ → Desk → Type 0
+abbrev pub BringsAsked : Desk → ExtendedLine → List ℕ → Desk → Type 0
 BringsAsked from request text to = (terms : Terms) (answers : List Bool) (additions : List (Option ℕ)) → to_asked terms request (awaiting from answers additions) ≡ says text (awaiting to answers additions)
 
 -- a request has this text as its reply in a manner, and leads from one place to the other
-abbrev pub BringsIn : Manner → Desk → Request → List ℕ → Desk → Type 0
+abbrev pub BringsIn : Manner → Desk → ParsedLine → List ℕ → Desk → Type 0
 BringsIn m from request text to = (answers : List Bool) (additions : List (Option ℕ)) → answered m from request answers additions ≡ says text (awaiting to answers additions)
 
 -- the same, in any manner
-abbrev pub Brings : Desk → Request → List ℕ → Desk → Type 0
+abbrev pub Brings : Desk → ParsedLine → List ℕ → Desk → Type 0
 Brings from request text to = (m : Manner) → BringsIn m from request text to
 
 -- a request that may add an input has this text as its reply, under some answers of the calls that add
-pub record BringsAdding (from : Desk) (request : Request) (text : List ℕ) (to : Desk) : Type 0 where
+pub record BringsAdding (from : Desk) (request : ParsedLine) (text : List ℕ) (to : Desk) : Type 0 where
   pub additions : List (Option ℕ)
   pub brings : (m : Manner) (answers : List Bool) (later : List (Option ℕ)) → answered m from request answers (additions ++ later) ≡ says text (awaiting to answers later)
 
@@ -90,7 +90,7 @@ abbrev pub Replies : Bool → (Desk → Reply) → Desk → Desk → List ℕ �
 Replies may_refuse reply from to old new (Ok x) = Replied may_refuse reply from to old new
 Replies may_refuse reply from to old new (Err failed) = ReplyBroken may_refuse reply from old new
 
-abbrev pub Executes : Manner → Bool → Desk → Request → Desk → List ℕ → List ℕ → Result (Unit {0}) WriteFailed → Type 0
+abbrev pub Executes : Manner → Bool → Desk → ParsedLine → Desk → List ℕ → List ℕ → Result (Unit {0}) WriteFailed → Type 0
 Executes m may_refuse from request to old new result = Replies may_refuse (to_request m request) from to old new result
 
 -- what `on` brings where no breakpoint holds among the steps that stand

@@ -5,8 +5,8 @@ use Rattle.words.specs.Numerals.{octal_text}
 use Rattle.commands.specs.Usages.{usages, help_lines}
 use Rattle.commands.specs.declared.command.Breakpoint.{Breakpoint}
 use Rattle.commands.specs.declared.command.Breakpoint.TheVariants.{Place, Word, Channel, Bits, Cycles, Returned, Outside}
-use Rattle.commands.specs.declared.extended.ExtendedRequest.{ExtendedRequest}
-use Rattle.commands.specs.declared.extended.ExtendedRequest.TheVariants.{Plain, Common, Says, Help, Breaks, ClearOne, On, AllRegisters, Until, WhyStep, Why, Words, Where, Find, Trace, Inputs, Over, Out}
+use Rattle.commands.specs.declared.extended.ExtendedLine.{ExtendedLine}
+use Rattle.commands.specs.declared.extended.ExtendedLine.TheVariants.{Plain, Common, Says, Help, Breaks, ClearOne, On, AllRegisters, Until, WhyStep, Why, Words, Where, Find, Trace, Inputs, Over, Out}
 use Rattle.cpu.specs.Run.{run}
 use Rattle.debugger.specs.History.{History, in_manner}
 use Rattle.debugger.specs.declared.manner.Manner.TheVariants as manner
@@ -85,7 +85,7 @@ abbrev pub further : History → History
 further h = in_manner manner.Extended h
 
 -- what a line brings, in terms and over a run
-unfoldable pub extended_reply : Terms → History → Desk → ExtendedRequest → Reply
+unfoldable pub extended_reply : Terms → History → Desk → ExtendedLine → Reply
 extended_reply terms h d (Plain request) = answer h d request
 extended_reply terms h d (Common command) = reply (further h) d command
 extended_reply terms h d (Says text) = says text d

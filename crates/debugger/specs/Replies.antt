@@ -26,8 +26,8 @@ use Rattle.commands.specs.declared.command.Command.{Command}
 use Rattle.commands.specs.declared.command.Command.TheVariants.{Step, Run, Back, Goto, Seek, Break, Clear, Registers, Memory, Channel, Last, Symbol, Changed, Tail, Add, Quit}
 use Rattle.debugger.specs.declared.ending.Ending.{Ending}
 use Rattle.debugger.specs.declared.ending.Ending.TheVariants.{Reached, Hit, NoMemory, Limit}
-use Rattle.commands.specs.declared.command.Request.{Request}
-use Rattle.commands.specs.declared.command.Request.TheVariants.{Nothing, TooLong, Unknown, WrongCounter, Known}
+use Rattle.commands.specs.declared.command.ParsedLine.{ParsedLine}
+use Rattle.commands.specs.declared.command.ParsedLine.TheVariants.{Nothing, TooLong, Unknown, WrongCounter, Known}
 
 -- the answers of calls that add inputs, one after another: the line that the first comes to stand on, or none where memory
 -- ran out; where no answer is left it may be any line
@@ -253,7 +253,7 @@ reply h d (Add cycle input) = adds h d cycle input
 reply h d Quit = says [] d
 
 -- what a line brings, by what it asks for
-unfoldable pub answer : History → Desk → Request → Reply
+unfoldable pub answer : History → Desk → ParsedLine → Reply
 answer h d Nothing = says [] d
 answer h d TooLong = refuses d (codes "E51 LONG")
 answer h d Unknown = refuses d (codes "E50 COMMAND")

@@ -3,10 +3,10 @@ use Rattle.std.specs.Prelude.{ℕ, Bool, true, false, List, [], ◌∷◌, ◌++
 use Rattle.agc_text.specs.Lines.{lines}
 use Rattle.cpu.specs.State.{Scenario}
 use Rattle.symbols.specs.Values.{SymbolTable}
-use Rattle.commands.specs.Commands.{request_of}
+use Rattle.commands.specs.Commands.{parsed_line}
 use Rattle.commands.specs.declared.command.Command.TheVariants.{Quit}
-use Rattle.commands.specs.declared.command.Request.{Request}
-use Rattle.commands.specs.declared.command.Request.TheVariants.{Known}
+use Rattle.commands.specs.declared.command.ParsedLine.{ParsedLine}
+use Rattle.commands.specs.declared.command.ParsedLine.TheVariants.{Known}
 use Rattle.debugger.specs.History.{history}
 use Rattle.debugger.specs.Replies.{Desk, Reply, answer}
 
@@ -15,20 +15,20 @@ abbrev pub most_command_bytes : ℕ
 most_command_bytes = 16777216
 
 -- the end is asked for
-abbrev pub ends : Request → Bool
+abbrev pub ends : ParsedLine → Bool
 ends (Known Quit) = true
 ends request = false
 
 -- what a line brings, over the reference run of what runs now
-unfoldable pub told : SymbolTable → Desk → List ℕ → Reply
-told symbols d line = answer (history d.scenario) d (request_of symbols line)
+unfoldable pub line_reply : SymbolTable → Desk → List ℕ → Reply
+line_reply symbols d line = answer (history d.scenario) d (parsed_line symbols line)
 
 -- the replies to lines, up to the end
 abbrev pub replies : SymbolTable → Desk → List (List ℕ) → List ℕ
 replies symbols d [] = []
 replies symbols d (line ∷ more) =
-    if ends (request_of symbols line) then []
-    else (let r = told symbols d line in r.text ++ replies symbols r.desk more)
+    if ends (parsed_line symbols line) then []
+    else (let r = line_reply symbols d line in r.text ++ replies symbols r.desk more)
 
 -- where a session begins
 abbrev pub first_desk : Scenario → List Bool → List (Option ℕ) → Desk
@@ -46,4 +46,4 @@ transcript symbols d commands = replies symbols d (command_lines commands)
 -- the lines that are read: those up to the end
 unfoldable pub lines_read : SymbolTable → List (List ℕ) → List (List ℕ)
 lines_read symbols [] = []
-lines_read symbols (line ∷ more) = line ∷ (if ends (request_of symbols line) then [] else lines_read symbols more)
+lines_read symbols (line ∷ more) = line ∷ (if ends (parsed_line symbols line) then [] else lines_read symbols more)

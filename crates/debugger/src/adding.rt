@@ -3,12 +3,12 @@
 ghost use Rattle.std.specs.Prelude.{◌≡◌};
 ghost use Rattle.cpu.specs.Run.{outs};
 ghost use Rattle.commands.specs.declared.command.Command.TheVariants as command;
-ghost use Rattle.commands.specs.declared.command.Request.TheVariants.{Known};
+ghost use Rattle.commands.specs.declared.command.ParsedLine.TheVariants.{Known};
 ghost use Rattle.debugger.specs.Executions.{desk, BringsAdding};
 
 use crate::desk::Desk;
 use crate::texts::{Text, text_line};
-use feed::input::Input;
+use feed::Input;
 use replay::{Keeper, Refusal, Session};
 
 /// The last cycle at which an input may be added.

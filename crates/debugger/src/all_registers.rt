@@ -5,7 +5,7 @@ ghost use Rattle.std.specs.FinSet.{contains};
 ghost use Rattle.words.specs.Numerals.{octal_text};
 ghost use Rattle.arrayvec.specs.ArrayVec.{array_vec_len};
 ghost use Rattle.replay.specs.View.{SessionView};
-ghost use Rattle.commands.specs.declared.extended.ExtendedRequest.TheVariants as asked;
+ghost use Rattle.commands.specs.declared.extended.ExtendedLine.TheVariants as asked;
 ghost use Rattle.debugger.specs.AllRegisters.{all_registers, register_lines, flag_lines, waiting_lines, asked_line, sum_line, word_line, requested, numbers_text, or_none};
 ghost use Rattle.debugger.specs.Replies.{line as text_line, flag_text};
 ghost use Rattle.debugger.specs.Executions.{desk, BringsAsked, HasLooked};
@@ -16,7 +16,7 @@ use cpu::Machine;
 use feed::INTERRUPTS;
 use feed::interrupt::Interrupt;
 use replay::{Keeper, Session};
-use space::numbers::Eras;
+use space::Eras;
 use words::{push_all, push_decimal, push_octal};
 
 /// The most bytes of the lines of all registers.

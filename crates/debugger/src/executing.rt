@@ -3,7 +3,7 @@
 ghost use Rattle.std.specs.Prelude.{◌≡◌, ◌≤◌, true};
 ghost use Rattle.words.specs.Devices.{failures_after};
 ghost use Rattle.cpu.specs.Run.{outs};
-ghost use Rattle.commands.specs.declared.command.Request.TheVariants.{Known};
+ghost use Rattle.commands.specs.declared.command.ParsedLine.TheVariants.{Known};
 ghost use Rattle.debugger.specs.Replies.{last_of, tail_length};
 ghost use Rattle.debugger.specs.Executions.{desk, Executes, HasGoneOn};
 ghost use Rattle.debugger.specs.declared.manner.Manner.TheVariants as manner;
@@ -11,7 +11,7 @@ ghost use Rattle.debugger.specs.declared.manner.Manner.TheVariants as manner;
 use crate::desk::Desk;
 use crate::manner::Manner;
 use crate::texts::{symbol_line, text_line};
-use commands::{Command, Request};
+use commands::{Command, ParsedLine};
 use replay::{Keeper, Session};
 use words::{Write, WriteFailed, write_all};
 
@@ -20,7 +20,7 @@ impl Desk {
     pub(crate) fn answer<K: Keeper, W: Write>(
         &mut self,
         session: &mut Session<K>,
-        request: Request,
+        request: ParsedLine,
         out: &mut W,
     ) -> Result<(), WriteFailed>
         requires within { self.old.position ≤ session.old.n }
@@ -32,11 +32,11 @@ impl Desk {
         ensures failures { W.failures out.new ≡ failures_after (W.failures out.old) result }
     {
         match request {
-            Request::Nothing => Ok(()),
-            Request::TooLong => write_all(out, text_line(b"E51 LONG").as_slice()),
-            Request::Unknown => write_all(out, text_line(b"E50 COMMAND").as_slice()),
-            Request::WrongCounter => write_all(out, text_line(b"E33 COUNTER").as_slice()),
-            Request::Known(command) => self.obey(Manner::Plain, session, command, out),
+            ParsedLine::Nothing => Ok(()),
+            ParsedLine::TooLong => write_all(out, text_line(b"E51 LONG").as_slice()),
+            ParsedLine::Unknown => write_all(out, text_line(b"E50 COMMAND").as_slice()),
+            ParsedLine::WrongCounter => write_all(out, text_line(b"E33 COUNTER").as_slice()),
+            ParsedLine::Known(command) => self.obey(Manner::Plain, session, command, out),
         }
     }
 

@@ -6,7 +6,7 @@ ghost use Rattle.words.specs.Devices.{failures_after};
 ghost use Rattle.cpu.specs.Run.{outs};
 ghost use Rattle.replay.specs.View.{SessionView};
 ghost use Rattle.debugger.specs.Terms.{Terms};
-ghost use Rattle.commands.specs.declared.extended.ExtendedRequest.TheVariants as asked;
+ghost use Rattle.commands.specs.declared.extended.ExtendedLine.TheVariants as asked;
 ghost use Rattle.debugger.specs.Replies.{last_of, tail_length, line, hit_text, at_line_of};
 ghost use Rattle.debugger.specs.PlaceTexts.{place_text};
 ghost use Rattle.debugger.specs.ExtendedReplies.{breakpoint_text, breaks_from, next_stop};
@@ -24,7 +24,7 @@ use crate::manner::Manner;
 use crate::standing::find;
 use crate::texts::{Text, hit_and_at_line, number_line, text_line};
 use arrayvec::ArrayVec;
-use commands::{Breakpoint, Breakpoints, ExtendedRequest, help_text};
+use commands::{Breakpoint, Breakpoints, ExtendedLine, help_text};
 use replay::{Keeper, Session};
 use space::place::Linear;
 use symbols::Symbols;
@@ -38,7 +38,7 @@ impl Desk {
         session: &mut Session<K>,
         symbols: &Symbols,
         first_added: u128,
-        request: &ExtendedRequest,
+        request: &ExtendedLine,
         out: &mut W,
     ) -> Result<(), WriteFailed>
         requires within { self.old.position ≤ session.old.n }
@@ -50,36 +50,28 @@ impl Desk {
         ensures failures { W.failures out.new ≡ failures_after (W.failures out.old) result }
     {
         match request {
-            ExtendedRequest::Plain(request) => self.answer(session, *request, out),
-            ExtendedRequest::Common(command) => {
-                self.obey(Manner::Extended, session, *command, out)
-            }
-            ExtendedRequest::Says(text) => write_all(out, text.as_slice()),
-            ExtendedRequest::Help => write_all(out, help_text().as_slice()),
-            ExtendedRequest::Breaks => { write_all(out, breaks_text(&self.breakpoints).as_slice()) }
-            ExtendedRequest::ClearOne(number) => {
-                write_all(out, self.clear_one(*number).as_slice())
-            }
-            ExtendedRequest::On(steps) => self.go_on(session, *steps, out),
-            ExtendedRequest::Until(cycles) => self.until(session, *cycles, out),
-            ExtendedRequest::AllRegisters => {
-                write_all(out, self.all_registers(session).as_slice())
-            }
-            ExtendedRequest::WhyStep => self.why_step(session, symbols, out),
-            ExtendedRequest::Why(subject, links) => {
+            ExtendedLine::Plain(request) => self.answer(session, *request, out),
+            ExtendedLine::Common(command) => { self.obey(Manner::Extended, session, *command, out) }
+            ExtendedLine::Says(text) => write_all(out, text.as_slice()),
+            ExtendedLine::Help => write_all(out, help_text().as_slice()),
+            ExtendedLine::Breaks => { write_all(out, breaks_text(&self.breakpoints).as_slice()) }
+            ExtendedLine::ClearOne(number) => { write_all(out, self.clear_one(*number).as_slice()) }
+            ExtendedLine::On(steps) => self.go_on(session, *steps, out),
+            ExtendedLine::Until(cycles) => self.until(session, *cycles, out),
+            ExtendedLine::AllRegisters => { write_all(out, self.all_registers(session).as_slice()) }
+            ExtendedLine::WhyStep => self.why_step(session, symbols, out),
+            ExtendedLine::Why(subject, links) => {
                 self.why(session, symbols, *subject, *links, out)
             }
-            ExtendedRequest::Words(place, count) => {
+            ExtendedLine::Words(place, count) => {
                 write_all(out, self.words(session, place, *count).as_slice())
             }
-            ExtendedRequest::Where => {
-                write_all(out, self.where_text(session, symbols).as_slice())
-            }
-            ExtendedRequest::Find(beginning) => find(symbols, beginning.as_slice(), out),
-            ExtendedRequest::Trace(steps) => self.trace(session, symbols, *steps, out),
-            ExtendedRequest::Inputs => tell_inputs(session, first_added, out),
-            ExtendedRequest::Over(steps) => self.go_over(session, *steps, out),
-            ExtendedRequest::Out(steps) => self.go_out(session, *steps, out),
+            ExtendedLine::Where => { write_all(out, self.where_text(session, symbols).as_slice()) }
+            ExtendedLine::Find(beginning) => find(symbols, beginning.as_slice(), out),
+            ExtendedLine::Trace(steps) => self.trace(session, symbols, *steps, out),
+            ExtendedLine::Inputs => tell_inputs(session, first_added, out),
+            ExtendedLine::Over(steps) => self.go_over(session, *steps, out),
+            ExtendedLine::Out(steps) => self.go_out(session, *steps, out),
         }
     }
 

@@ -10,9 +10,8 @@ ghost use Rattle.debugger.specs.Routines.{is_tc, is_fixed, leads_on, is_call, re
 use arrayvec::ArrayVec;
 use cpu::{Fetched, Machine, NextStep, Processor, instruction_name};
 use replay::Onlooker;
-use space::Linear;
-use space::numbers::{Addr12, Eras};
 use space::resolve::resolve;
+use space::{Addr12, Eras, Linear};
 use std::marker::Model;
 
 /// The most routines that are known.

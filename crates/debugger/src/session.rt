@@ -4,8 +4,8 @@ ghost use Rattle.std.specs.Prelude.{List, ℕ, ◌≡◌, ◌+◌, ◌*◌, ◌�
 ghost use Rattle.words.specs.Devices.{one_more};
 ghost use Rattle.words.specs.Readings.{TakesAtMost};
 ghost use Rattle.debugger.specs.Transcript.{command_lines, lines_read, most_command_bytes};
-ghost use Rattle.commands.specs.Lines.{kept};
-ghost use Rattle.commands.specs.Extended.{extended_request_of};
+ghost use Rattle.commands.specs.Lines.{kept_line};
+ghost use Rattle.commands.specs.Extended.{extended_line};
 ghost use Rattle.debugger.specs.Conversation.{Talks, efforts, reading, is_end, lines_heard, lines_within, most_bytes, most_extended_bytes};
 ghost use Rattle.debugger.specs.Sessions.{Debugs, has_read_failed, has_write_failed};
 
@@ -14,8 +14,8 @@ use crate::fault::DebugFault;
 use crate::inputs::first_added;
 use crate::manner::Manner;
 use commands::{
-    Command, CommandLine, DeviceFault, ExtendedRequest, LineReader, Request, extended_request_of,
-    request_of,
+    Command, CommandLine, DeviceFault, ExtendedLine, LineReader, ParsedLine, extended_line,
+    parsed_line,
 };
 use replay::{Keeper, Session};
 use std::alloc::Global;
@@ -70,12 +70,12 @@ pub fn extended_session<K: Keeper, R: Read, W: Write>(
 ) -> Result<(), DebugFault>
     requires { session.old.n ≡ 0 }
     ensures answer { R.told ≡ true → W.told ≡ true →
-        Talks (record { may_refuse = K.may_refuse; symbols = symbols.now; read = extended_request_of symbols.now; most = most_extended_bytes; scenario = session.old.scenario }) (record { before = R.left commands.old; left = R.left commands.new }) (W.written out.old) (W.written out.new) result }
+        Talks (record { may_refuse = K.may_refuse; symbols = symbols.now; read = extended_line symbols.now; most = most_extended_bytes; scenario = session.old.scenario }) (record { before = R.left commands.old; left = R.left commands.new }) (W.written out.old) (W.written out.new) result }
 
     // For each line that is read at most so many times the steps that there are are executed, besides those that are made: three
     // times, for `where` four times, and for `why` four times a link.
     ensures cost { R.told ≡ true → OnOk result
-        (session.new.meter ≤ session.old.meter + (efforts (extended_request_of symbols.now) (lines_heard (extended_request_of symbols.now) (lines_within most_extended_bytes (R.left commands.old))) + 1) * session.new.n) }
+        (session.new.meter ≤ session.old.meter + (efforts (extended_line symbols.now) (lines_heard (extended_line symbols.now) (lines_within most_extended_bytes (R.left commands.old))) + 1) * session.new.n) }
 
     // E6 only where the reader has failed, E7 only where the writer has.
     ensures reader { R.failures commands.new ≡ (if has_read_failed result then one_more (R.failures commands.old) else R.failures commands.old) }
@@ -144,22 +144,21 @@ fn most_bytes(manner: Manner) -> u64
 
 /// What a line asks for.
 #[tactic(auto, unfolding(crate::specs::Conversation::reading))]
-fn asked(manner: Manner, symbols: &Symbols, line: &CommandLine) -> ExtendedRequest
-    ensures { (bytes : List ℕ) → line.now ≡ kept bytes → result ≡ reading manner symbols.now bytes }
+fn asked(manner: Manner, symbols: &Symbols, line: &CommandLine) -> ExtendedLine
+    ensures { (bytes : List ℕ) → line.now ≡ kept_line bytes → result ≡ reading manner symbols.now bytes }
 {
     match manner {
-        Manner::Plain => ExtendedRequest::Plain(request_of(symbols, line)),
-        Manner::Extended => extended_request_of(symbols, line),
+        Manner::Plain => ExtendedLine::Plain(parsed_line(symbols, line)),
+        Manner::Extended => extended_line(symbols, line),
     }
 }
 
 /// Whether the end is asked for.
-fn is_end(request: &ExtendedRequest) -> bool
+fn is_end(request: &ExtendedLine) -> bool
     ensures { result ≡ is_end request.now }
 {
     matches!(
         request,
-        ExtendedRequest::Plain(Request::Known(Command::Quit))
-            | ExtendedRequest::Common(Command::Quit)
+        ExtendedLine::Plain(ParsedLine::Known(Command::Quit)) | ExtendedLine::Common(Command::Quit)
     )
 }

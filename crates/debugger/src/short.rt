@@ -2,7 +2,7 @@
 
 ghost use Rattle.std.specs.Prelude.{◌≡◌, ◌+◌, ◌-◌, ◌*◌, ◌^◌, ◌<◌, ◌≤◌, codes, IfSome};
 ghost use Rattle.commands.specs.declared.command.Command.TheVariants as command;
-ghost use Rattle.commands.specs.declared.command.Request.TheVariants.{Known};
+ghost use Rattle.commands.specs.declared.command.ParsedLine.TheVariants.{Known};
 ghost use Rattle.space.specs.Cells.{changed_places};
 ghost use Rattle.replay.specs.View.{SessionView};
 ghost use Rattle.replay.specs.LastHit.{HasSought};
@@ -21,9 +21,9 @@ use arrayvec::ArrayVec;
 use commands::Breakpoint;
 use cpu::{Machine, Processor};
 use replay::{Keeper, Session};
-use space::numbers::{Chan, Eras};
 use space::place::Linear;
 use space::store::{Store, changed};
+use space::{Chan, Eras};
 use words::{Word, push_all};
 
 impl Desk {

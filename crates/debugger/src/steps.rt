@@ -4,7 +4,7 @@ ghost use Rattle.std.specs.Prelude.{◌≡◌, ◌+◌, ◌≤◌, ◌++◌, tru
 ghost use Rattle.words.specs.Devices.{Writes, failures_after};
 ghost use Rattle.cpu.specs.Run.{outs};
 ghost use Rattle.commands.specs.declared.command.Command.TheVariants as command;
-ghost use Rattle.commands.specs.declared.command.Request.TheVariants.{Known};
+ghost use Rattle.commands.specs.declared.command.ParsedLine.TheVariants.{Known};
 ghost use Rattle.debugger.specs.History.{history};
 ghost use Rattle.debugger.specs.Replies.{last_of, tail_length, ending_line, at_line_of};
 ghost use Rattle.debugger.specs.Executions.{desk, Executes, HasLooked, HasGoneOn};

@@ -11,7 +11,7 @@ use crate::ending::Ending;
 use crate::manner::Manner;
 use arrayvec::ArrayVec;
 use cpu::{Machine, Processor, disassemble};
-use space::numbers::Eras;
+use space::Eras;
 use symbols::{Value, value_text};
 use trace::place_text;
 use words::{Word, push_all, push_decimal, push_octal};

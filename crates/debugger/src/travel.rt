@@ -5,7 +5,7 @@ ghost use Rattle.arrayvec.specs.ArrayVec.{array_vec_len};
 ghost use Rattle.words.specs.Devices.{failures_after};
 ghost use Rattle.cpu.specs.State.{FitsRun};
 ghost use Rattle.cpu.specs.Run.{run, outs};
-ghost use Rattle.commands.specs.declared.extended.ExtendedRequest.TheVariants as asked;
+ghost use Rattle.commands.specs.declared.extended.ExtendedLine.TheVariants as asked;
 ghost use Rattle.debugger.specs.History.{history};
 ghost use Rattle.debugger.specs.Replies.{last_of, tail_length, at_line_of};
 ghost use Rattle.debugger.specs.Routines.{over_end, out_end, arrived, routines, next_end, arrival_text};

@@ -3,7 +3,7 @@
 ghost use Rattle.std.specs.Prelude.{◌≡◌, ◌+◌, ◌*◌, ◌≤◌, true, IfSome};
 ghost use Rattle.words.specs.Devices.{failures_after};
 ghost use Rattle.cpu.specs.Run.{outs};
-ghost use Rattle.commands.specs.declared.extended.ExtendedRequest.TheVariants as asked;
+ghost use Rattle.commands.specs.declared.extended.ExtendedLine.TheVariants as asked;
 ghost use Rattle.debugger.specs.Terms.{Terms};
 ghost use Rattle.debugger.specs.History.{history};
 ghost use Rattle.debugger.specs.Replies.{last_of, tail_length, at_line_of};

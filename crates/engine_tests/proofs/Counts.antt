@@ -9,7 +9,7 @@ use Rattle.cpu.specs.Run.{outs, out}
 use Rattle.cpu.specs.declared.output.Output.{Output}
 use Rattle.replay.specs.declared.calls.Call.{Call}
 use Rattle.replay.specs.declared.calls.Call.TheVariants.{Forward, Advance, Show, WithPresent, SeekBack, Add}
-use Rattle.replay.specs.Calls.{Answer, Told, Hears, Saw, TimeTravel, outputs_of, outputs_told, added_by, added_told}
+use Rattle.replay.specs.Calls.{Answer, Event, Hears, Saw, TimeTravel, outputs_of, event_outputs, added_by, event_inputs}
 use Rattle.replay.specs.Calls.Answer.{Went, Advanced, Shown, ShownBeside, Sought, Added, Refused}
 use Rattle.replay.specs.Stops.{is_by_watcher}
 use Rattle.replay.specs.Watched.{WatchedSteps}
@@ -34,7 +34,7 @@ few-outputs scenario (suc n) = simp length-append (omega (arith, few-outputs sce
 abbrev CountsStep : OutputCount → Option Output → State → Bool → OutputCount → Type 0
 CountsStep old output machine ended new = CountsOn old.count (option_to_list output) new.count
 
-abbrev CountsAnswer : OutputCount → Told → OutputCount → Type 0
+abbrev CountsAnswer : OutputCount → Event → OutputCount → Type 0
 CountsAnswer old told new = CountsOn old.count (outputs_with told.1) new.count
 
 -- what is counted from step to step is counted of all
@@ -50,7 +50,7 @@ counts-steps (s ∷ t ∷ ss) ended old new h few =
     omega (arith, first, all, counts-steps (t ∷ ss) ended h.0 new h.2 (omega (arith, first, all, few)))
 
 -- what is counted of a call
-counts-call : (e : Told) (old new : OutputCount) → Hears CountsStep CountsAnswer old e new → CountsOn old.count (outputs_of e.1) new.count
+counts-call : (e : Event) (old new : OutputCount) → Hears CountsStep CountsAnswer old e new → CountsOn old.count (outputs_of e.1) new.count
 counts-call (call, Went output) old new h = h
 counts-call (call, Advanced steps stop) old new (between, watched, told) = λ few.
     let first = counts-steps steps (is_by_watcher stop) old between watched few in
@@ -62,10 +62,10 @@ counts-call (call, Added) old new h = h
 counts-call (call, Refused refusal) old new h = h
 
 -- what is counted from call to call is counted of all
-counts-all : (es : List Told) (old new : OutputCount) → Saw (Hears CountsStep CountsAnswer) old es new → old.count + length (outputs_told es) < 2 ^ 64 → new.count ≡ old.count + length (outputs_told es)
+counts-all : (es : List Event) (old new : OutputCount) → Saw (Hears CountsStep CountsAnswer) old es new → old.count + length (event_outputs es) < 2 ^ 64 → new.count ≡ old.count + length (event_outputs es)
 counts-all [] old new same few = omega (arith, ap (λ o. o.count) same)
 counts-all (e ∷ es) old new saw few =
-    let all : length (outputs_of e.1 ++ outputs_told es) ≡ length (outputs_of e.1) + length (outputs_told es) = simp length-append refl in
+    let all : length (outputs_of e.1 ++ event_outputs es) ≡ length (outputs_of e.1) + length (event_outputs es) = simp length-append refl in
     let first = counts-call e old saw.0 saw.1 (omega (arith, all, few)) in
     omega (arith, first, all, counts-all es saw.0 new saw.2 (omega (arith, first, all, few)))
 
@@ -78,7 +78,7 @@ adds-none (WithPresent t) answer h = refl
 adds-none (SeekBack p) answer h = refl
 
 -- calls that add no input have added none
-none-added : (es : List Told) → All AddsNothing (map (λ e. e.0) es) → added_told es ≡ []
+none-added : (es : List Event) → All AddsNothing (map (λ e. e.0) es) → event_inputs es ≡ []
 none-added [] all = refl
 none-added (e ∷ es) all = rw (adds-none e.0 e.1 (all 0 e.0 (omega arith)), none-added es (λ k d l. all (suc k) d (omega arith))) refl
 
@@ -92,17 +92,17 @@ ok_and (Ok x) P Q p then = then x p
 ok_and (Err e) P Q p then = p
 
 -- what the theorem says of an observer that counts outputs
-travelled : (old session : SessionView) (returns : State → Bool → Type 0) (calls : List Call) (events : List Told) (new : OutputCount) (n : ℕ) → n < 2 ^ 64 → old.n ≡ 0 → All AddsNothing calls
+travelled : (old session : SessionView) (returns : State → Bool → Type 0) (calls : List Call) (events : List Event) (new : OutputCount) (n : ℕ) → n < 2 ^ 64 → old.n ≡ 0 → All AddsNothing calls
     → Saw (Hears CountsStep CountsAnswer) (record { count = 0 }) events new → TimeTravel false returns old calls events session → n ≡ session.n → new.count ≡ length (outs old.scenario n)
 travelled old session returns calls events new n small start none saw t at =
-    let added : added_told events ≡ [] = none-added events (rw t.told none) in
+    let added : event_inputs events ≡ [] = none-added events (rw t.told none) in
     let inputs : session.scenario.inputs ≡ old.scenario.inputs = rw added at t.inputs in
     let same : session.scenario ≡ old.scenario = same-scenario _ _ t.rope inputs in
-    let told : outs old.scenario n ≡ outputs_told events =
-    ap (outs old.scenario) at ∙ sym (ap (λ s. outs s session.n) same) ∙ t.outputs ∙ ap (λ m. outs old.scenario m ++ outputs_told events) start ∙ ap (λ o. o ++ outputs_told events) (outs-zero old.scenario) in
-    let few : length (outputs_told events) ≤ n = rw (sym told) (few-outputs old.scenario n) in
-    let counts : new.count ≡ 0 + length (outputs_told events) = counts-all events (record { count = 0 }) new saw (omega (arith, few, small)) in
-    let whole : length (outputs_told events) ≡ length (outs old.scenario n) = ap length (sym told) in
+    let told : outs old.scenario n ≡ event_outputs events =
+    ap (outs old.scenario) at ∙ sym (ap (λ s. outs s session.n) same) ∙ t.outputs ∙ ap (λ m. outs old.scenario m ++ event_outputs events) start ∙ ap (λ o. o ++ event_outputs events) (outs-zero old.scenario) in
+    let few : length (event_outputs events) ≤ n = rw (sym told) (few-outputs old.scenario n) in
+    let counts : new.count ≡ 0 + length (event_outputs events) = counts-all events (record { count = 0 }) new saw (omega (arith, few, small)) in
+    let whole : length (event_outputs events) ≡ length (outs old.scenario n) = ap length (sym told) in
     omega (arith, counts, whole)
 
 pub counted : (source feed : List ℕ) (returns : State → Bool → Type 0) (calls : List Call) (new : OutputCount) (n : ℕ) → n < 2 ^ 64 → All AddsNothing calls

@@ -2,7 +2,7 @@
 
 use crate::sources::{FIVE_PLUS_FIVE, IMAGE_BYTES, IMAGE_OF_TWO, LISTING, image_of};
 use rope::RopeFault;
-use space::numbers::Bank;
+use space::Bank;
 use std::alloc::Global;
 use std::process::Abort;
 use test_devices::{FaultyReader, FaultyWriter, Trouble};

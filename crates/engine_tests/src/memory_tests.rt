@@ -3,8 +3,7 @@
 use crate::sources::FIVE_PLUS_FIVE;
 use cpu::{Input, Machine, Output, Processor};
 use debugger::debug_session;
-use feed::input::{Counter, Sequence};
-use feed::read;
+use feed::{Counter, Sequence, read};
 use replay::{Call, Keeper, Observer, Refusal, Session, SlotKeeper, Stop, VecKeeper, Watcher};
 use std::alloc::Global;
 use std::process::Abort;

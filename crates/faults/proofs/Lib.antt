@@ -1,5 +1,5 @@
 pub mod Merging
-mod Pushed
+mod GrowingTexts
 mod WarningRows
 mod CauseRows
 mod Walked

@@ -78,7 +78,7 @@ fn near_name<'a>(symbols: &'a Symbols, text: &[u8]) -> Option<&'a [u8]>
 }
 
 // The first of some names that is close to a text.
-#[tactic(auto, using(crate::proofs::Pushed::find_here, crate::proofs::Pushed::find_on))]
+#[tactic(auto, using(crate::proofs::GrowingTexts::find_here, crate::proofs::GrowingTexts::find_on))]
 fn close_name<'a>(symbols: &'a Symbols, closeness: Closeness, text: &[u8]) -> Option<&'a [u8]>
     ensures { option_map (λ name. name.now) result ≡ find (is_close closeness text.now) (map (λ e. e.0) symbols.now) }
 {

@@ -8,7 +8,7 @@ use Rattle.feed.specs.declared.entry.Entry.{Entry}
 use Rattle.feed.specs.declared.entry.Plain.{Plain}
 use Rattle.feed.specs.declared.entry.Series.{Series}
 use Rattle.feed.specs.Merged.{is_before, inserted, in_order, merged, entries_from, plain_entry}
-use Rattle.feed.specs.Fits.{is_from, number_from}
+use Rattle.feed.specs.CountsTaken.{is_from, number_from}
 use Rattle.feed.specs.Heads.{AreSources}
 use Rattle.feed.specs.Order.{IsInOrder, IsAmong, NoneBefore}
 use Rattle.feed.specs.Kept.{AreGathered, IsFeed, IsPlaceOf}
@@ -19,7 +19,7 @@ use Rattle.feed.proofs.SourceLaws.{source-merged}
 use Rattle.feed.proofs.DueLaws.{none_due-zero, isnt_before_cycle}
 use Rattle.std.specs.List.Sorted.{IsNonDecreasingBy, IsPartitionPoint}
 use Rattle.std.proofs.lemmas.Option.{slice_get_past, get_or_from_slice_get}
-use Rattle.feed.proofs.FitLaws.{length-inserted}
+use Rattle.feed.proofs.CountLaws.{length-inserted}
 
 among-either : (x e y : Entry) (ys new : List Entry) → (IsAmong x new → (e ≡ x) ⊎ IsAmong x ys) → IsAmong x (y ∷ new) → (e ≡ x) ⊎ IsAmong x (y ∷ ys)
 among-either x e y ys new f (inl h) = inr (inl h)

@@ -9,7 +9,7 @@ use Rattle.feed.specs.declared.entry.Series.{Series}
 use Rattle.feed.specs.Merged.{is_before, inserted, in_order, merged, entries, entries_of, entries_from, plain_entry, series_entry}
 use Rattle.feed.specs.Heads.{AreSources, IsRule, source, entries_at}
 use Rattle.feed.specs.Order.{IsAmong}
-use Rattle.feed.specs.Fits.{is_source, is_from, AreInputs}
+use Rattle.feed.specs.CountsTaken.{is_source, is_from, AreInputs}
 use Rattle.feed.proofs.SourceLaws.{source-merged}
 use Rattle.std.proofs.lemmas.Option.{slice_get_past}
 use Rattle.feed.specs.Added.{LinesBelow}

@@ -7,7 +7,7 @@ use Rattle.feed.specs.declared.entry.Entry.{Entry}
 use Rattle.feed.specs.declared.entry.Plain.{Plain}
 use Rattle.feed.specs.declared.entry.Series.{Series}
 use Rattle.feed.specs.Merged.{merged}
-use Rattle.feed.specs.Fits.{Fits, AreInputs}
+use Rattle.feed.specs.CountsTaken.{CountsTaken, AreInputs}
 use Rattle.feed.specs.Kept.{IsFeed, IsEntry, NoneDue, due_from}
 use Rattle.feed.proofs.DueLaws.{none_due-from}
 
@@ -27,7 +27,7 @@ is_entry list k (Some e) h = h
 
 -- the next entry is kept, and its cycle
 pub feed-next : (plain p : List Plain) (series s written : List Series) (known at line taken due : ℕ) (counts : List ℕ) (kept o : Option Entry) → IsFeed plain series known at line kept → p ≡ plain → s ≡ series → written ≡ series
-    → Fits (merged p s) taken counts → (Fits (merged p s) taken counts → slice_get (merged p s) taken ≡ o) → due ≡ due_from o → IsFeed plain written taken due line o
+    → CountsTaken (merged p s) taken counts → (CountsTaken (merged p s) taken counts → slice_get (merged p s) taken ≡ o) → due ≡ due_from o → IsFeed plain written taken due line o
 feed-next plain p series s written known at line taken due counts kept o f pe se we fit next is =
     let all : merged p s ≡ merged plain series = ap (λ q. merged q s) pe ∙ ap (merged plain) se in
     let entry : slice_get (merged plain series) taken ≡ o = ap (λ l. slice_get l taken) (sym all) ∙ next fit in

@@ -4,9 +4,9 @@ mod Rows
 pub mod Sorting
 mod SourceLaws
 mod Merging
-pub mod FitLaws
+pub mod CountLaws
 mod HeadLaws
-mod FitTests
+mod CountTests
 pub mod DueLaws
 mod KeptLaws
 mod AddLaws

@@ -12,7 +12,7 @@ use Rattle.feed.specs.declared.entry.Entry.{Entry}
 use Rattle.feed.specs.declared.entry.Plain.{Plain}
 use Rattle.feed.specs.declared.entry.Series.{Series}
 use Rattle.feed.specs.Merged.{is_before, merged}
-use Rattle.feed.specs.Fits.{is_source, is_from, number_from, Fits}
+use Rattle.feed.specs.CountsTaken.{is_source, is_from, number_from, CountsTaken}
 use Rattle.feed.specs.Heads.{source, entries_at, AreSources, number_taken, head, IsntBefore, IsLeast}
 use Rattle.feed.specs.Order.{NoneBefore, IsInOrder, IsAmong}
 use Rattle.feed.proofs.Sorting.{either_way, is_in_order}
@@ -83,7 +83,7 @@ past-counts (c ∷ counts) (suc j) h = past-counts counts j (omega arith)
 abbrev pub TellsAll : List Entry → ℕ → List ℕ → Type 0
 TellsAll list taken counts = (j : ℕ) → get_or counts j 0 ≡ number_from (Some j) (take taken list)
 
-pub tells-all : (list : List Entry) (taken : ℕ) (counts : List ℕ) → ((j : ℕ) → length counts ≤ j → number_from (Some j) list ≡ 0) → Fits list taken counts → TellsAll list taken counts
+pub tells-all : (list : List Entry) (taken : ℕ) (counts : List ℕ) → ((j : ℕ) → length counts ≤ j → number_from (Some j) list ≡ 0) → CountsTaken list taken counts → TellsAll list taken counts
 tells-all list taken counts none f = λ j. elim (below_or_past j (length counts)) [
   | inl within ↦ f.tell j within
   | inr past ↦ let few = fewer-taken (Some j) taken list in past-counts counts j past ∙ omega (arith, none j past, few)
@@ -174,7 +174,7 @@ least-first (x ∷ rest) heads (Some e) order tell are least =
     ]
 
 -- The next entry is the least of the heads.
-pub next_entry : (plain : List Plain) (series : List Series) (taken : ℕ) (counts : List ℕ) (o : Option Entry) → AreSources plain series → length series ≤ length counts → Fits (merged plain series) taken counts
+pub next_entry : (plain : List Plain) (series : List Series) (taken : ℕ) (counts : List ℕ) (o : Option Entry) → AreSources plain series → length series ≤ length counts → CountsTaken (merged plain series) taken counts
     → IsLeast (head plain series taken counts) o → slice_get (merged plain series) taken ≡ o
 unfolding merged
 next_entry plain series taken counts o a few f least =

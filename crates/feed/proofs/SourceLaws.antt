@@ -11,7 +11,7 @@ use Rattle.feed.specs.declared.entry.Entry.{Entry}
 use Rattle.feed.specs.declared.entry.Plain.{Plain}
 use Rattle.feed.specs.declared.entry.Series.{Series}
 use Rattle.feed.specs.Merged.{is_before, in_order, plain_entry, series_entry, cycle_of, entries_of, entries_from, entries, merged}
-use Rattle.feed.specs.Fits.{is_from}
+use Rattle.feed.specs.CountsTaken.{is_from}
 use Rattle.feed.specs.Heads.{entries_at, source, AreSources, IsRule}
 use Rattle.feed.specs.Order.{NoneBefore, IsInOrder}
 use Rattle.feed.proofs.Sorting.{filter-in_order, in_order-same}

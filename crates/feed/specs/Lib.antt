@@ -4,7 +4,7 @@ pub mod Names
 pub mod Statements
 pub mod Merged
 pub mod Order
-pub mod Fits
+pub mod CountsTaken
 pub mod Added
 pub mod Feed
 pub mod Reading

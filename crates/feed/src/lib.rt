@@ -11,7 +11,7 @@ mod list;
 mod merge;
 mod names;
 mod reading;
-mod source;
+mod series_cursor;
 mod statement;
 
 pub use counter::Asks;

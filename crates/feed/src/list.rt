@@ -3,7 +3,7 @@
 ghost use Rattle.std.specs.Prelude.{◌≡◌, ◌≢◌, ◌≤◌, ◌<◌, ◌+◌, ◌^◌, ℕ, List, [], true, Some, None, Err, OnOk, OnErr, IfSome, filter, map, slice_get, slice_index};
 ghost use Rattle.feed.specs.Added.{AddsLast, TakenBelow};
 ghost use Rattle.feed.specs.Feed.{most_inputs};
-ghost use Rattle.feed.specs.Fits.{Fits, is_from, number_from, AreInputs};
+ghost use Rattle.feed.specs.CountsTaken.{CountsTaken, is_from, number_from, AreInputs};
 ghost use Rattle.feed.specs.Kept.{AreGathered, IsPlaceOf, due_from};
 ghost use Rattle.feed.specs.Merged.{merged, plain_entry, due, when_come};
 ghost use Rattle.feed.specs.Order.{IsInOrder};
@@ -11,7 +11,7 @@ ghost use Rattle.feed.specs.Order.{IsInOrder};
 use crate::entry::{Entry, Plain};
 use crate::input::Input;
 use crate::merge::{MOST_SERIES, next_at, next_of};
-use crate::source::Source;
+use crate::series_cursor::SeriesCursor;
 use arrayvec::ArrayVec;
 use std::alloc::Global;
 use std::marker::Model;
@@ -24,7 +24,7 @@ pub(crate) const MOST_INPUTS: usize = 65_536;
 #[derive(Drop)]
 pub struct Feed {
     plain: Vec<Plain>,
-    sources: ArrayVec<Source, MOST_SERIES>,
+    sources: ArrayVec<SeriesCursor, MOST_SERIES>,
     // Entry `known`, counted from 0, is due at no cycle below `due_at`, and it is `kept` where that is one.
     known: usize,
     due_at: u64,
@@ -64,7 +64,11 @@ impl Feed {
     }
 
     // The feed of these sources, and a line after all of theirs.
-    pub(crate) fn new(plain: Vec<Plain>, sources: ArrayVec<Source, MOST_SERIES>, line: u32) -> Feed
+    pub(crate) fn new(
+        plain: Vec<Plain>,
+        sources: ArrayVec<SeriesCursor, MOST_SERIES>,
+        line: u32,
+    ) -> Feed
         requires { AreGathered plain.items sources.items line }
         ensures { result ≡ merged plain.items sources.items }
     {
@@ -94,9 +98,9 @@ impl Feed {
         cycles: u64,
     ) -> Option<(Input, Option<usize>)>
         ensures same { self.new ≡ self.old }
-        ensures value { Fits self.old taken counts.now → result ≡ due self.old taken cycles }
-        ensures room { Fits self.old taken counts.now → IfSome result (λ given. taken < 2 ^ 63) }
-        ensures small { Fits self.old taken counts.now → (j : ℕ) → slice_index counts.now j < 10 ^ 9 }
+        ensures value { CountsTaken self.old taken counts.now → result ≡ due self.old taken cycles }
+        ensures room { CountsTaken self.old taken counts.now → IfSome result (λ given. taken < 2 ^ 63) }
+        ensures small { CountsTaken self.old taken counts.now → (j : ℕ) → slice_index counts.now j < 10 ^ 9 }
         ensures series { IfSome result (λ given. IfSome given.1 (λ j. j < 16)) }
         ensures inputs { AreInputs self.old }
     {
@@ -110,7 +114,7 @@ impl Feed {
         counts: &[u32; MOST_SERIES],
         cycles: u64,
     ) -> Option<(Input, Option<usize>)>
-        ensures { Fits self.now taken counts.now → result ≡ due self.now taken cycles }
+        ensures { CountsTaken self.now taken counts.now → result ≡ due self.now taken cycles }
     {
         if self.is_none_due(taken, cycles) {
             return None;
@@ -121,7 +125,7 @@ impl Feed {
     /// Adds a plain input at a cycle, on a line after all others; `TooMany` where the most plain inputs stand.
     pub fn add(&mut self, cycle: u64, input: Input) -> Result<(), AddFault>
         ensures added { OnOk result (AddsLast self.old cycle input self.new) }
-        ensures fits { OnOk result ((taken : ℕ) → (counts : List ℕ) → TakenBelow self.old taken cycle → Fits self.old taken counts → Fits self.new taken counts) }
+        ensures fits { OnOk result ((taken : ℕ) → (counts : List ℕ) → TakenBelow self.old taken cycle → CountsTaken self.old taken counts → CountsTaken self.new taken counts) }
         ensures later { OnOk result ((k : ℕ) → (cycles : ℕ) → cycles < cycle → due self.new k cycles ≡ due self.old k cycles) }
         ensures unchanged { OnErr result (self.new ≡ self.old) }
         ensures room { result ≢ Err AddFault.TooMany → number_from None self.old < most_inputs }
@@ -154,7 +158,7 @@ impl Feed {
     // The next entry for a machine: the one that is kept, or else each source is looked at.
     fn next(&mut self, taken: usize, counts: &[u32; MOST_SERIES]) -> Option<Entry>
         ensures same { self.new ≡ self.old }
-        ensures entry { Fits self.old taken counts.now → slice_get self.old taken ≡ result }
+        ensures entry { CountsTaken self.old taken counts.now → slice_get self.old taken ≡ result }
         ensures series { IfSome result (λ e. IfSome e.series (λ j. j < 16)) }
         ensures inputs { AreInputs self.old }
     {
@@ -167,7 +171,7 @@ impl Feed {
 
     // The same, while nothing is kept.
     fn entry(&self, taken: usize, counts: &[u32; MOST_SERIES]) -> Option<Entry>
-        ensures { Fits self.now taken counts.now → slice_get self.now taken ≡ result }
+        ensures { CountsTaken self.now taken counts.now → slice_get self.now taken ≡ result }
     {
         match self.kept {
             Some(entry) if taken == self.known => Some(entry),
@@ -179,7 +183,7 @@ impl Feed {
     // The next entry for a machine, by a look at each source. It is kept where the counts are seen to fit.
     fn look(&mut self, taken: usize, counts: &[u32; MOST_SERIES]) -> Option<Entry>
         ensures same { self.new ≡ self.old }
-        ensures entry { Fits self.old taken counts.now → slice_get self.old taken ≡ result }
+        ensures entry { CountsTaken self.old taken counts.now → slice_get self.old taken ≡ result }
         ensures series { IfSome result (λ e. IfSome e.series (λ j. j < 16)) }
         ensures inputs { AreInputs self.old }
     {

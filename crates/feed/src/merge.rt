@@ -1,13 +1,13 @@
 //! The next entry of several sources.
 
 ghost use Rattle.std.specs.Prelude.{◌≡◌, ◌≤◌, ◌<◌, ◌&&◌, ℕ, true, IfSome, length, sum, slice_get, slice_index, map};
-ghost use Rattle.feed.specs.Fits.{Fits};
+ghost use Rattle.feed.specs.CountsTaken.{CountsTaken};
 ghost use Rattle.feed.specs.Heads.{AreSources, AreEnded, IsLeast, head, entry_before, earlier, later, stands};
 ghost use Rattle.feed.specs.Merged.{plain_entry, merged};
 
 use crate::cut::{earlier, later, passes};
 use crate::entry::{Entry, Plain};
-use crate::source::Source;
+use crate::series_cursor::SeriesCursor;
 
 /// The most series.
 pub const MOST_SERIES: usize = 16;
@@ -89,7 +89,7 @@ impl Looked {
 // Looks at each source once.
 fn look(
     plain: &[Plain],
-    sources: &mut [Source],
+    sources: &mut [SeriesCursor],
     taken: usize,
     counts: &[u32; MOST_SERIES],
 ) -> Looked
@@ -121,16 +121,16 @@ fn look(
 // The next entry for a machine whose counts fit; and whether they are known to: all that it took is before that entry.
 pub(crate) fn next_of(
     plain: &[Plain],
-    sources: &mut [Source],
+    sources: &mut [SeriesCursor],
     taken: usize,
     counts: &[u32; MOST_SERIES],
 ) -> (Option<Entry>, bool)
     requires few { length sources.old ≤ 16 }
     requires sources { AreSources plain.now sources.old }
     ensures same { sources.new ≡ sources.old }
-    ensures entry { Fits (merged plain.now sources.old) taken counts.now → slice_get (merged plain.now sources.old) taken ≡ result.0 }
+    ensures entry { CountsTaken (merged plain.now sources.old) taken counts.now → slice_get (merged plain.now sources.old) taken ≡ result.0 }
     ensures series { IfSome result.0 (λ e. IfSome e.series (λ j. j < 16)) }
-    ensures fits { result.1 ≡ true → Fits (merged plain.now sources.old) taken counts.now }
+    ensures fits { result.1 ≡ true → CountsTaken (merged plain.now sources.old) taken counts.now }
 {
     let looked = look(plain, sources, taken, counts);
     let known = looked.stand && passes(&looked.last, &looked.next);
@@ -140,13 +140,13 @@ pub(crate) fn next_of(
 // The next entry for a machine whose counts fit, by a look at each source that keeps nothing.
 pub(crate) fn next_at(
     plain: &[Plain],
-    sources: &[Source],
+    sources: &[SeriesCursor],
     taken: usize,
     counts: &[u32; MOST_SERIES],
 ) -> Option<Entry>
     requires few { length sources.now ≤ 16 }
     requires sources { AreSources plain.now sources.now }
-    ensures { Fits (merged plain.now sources.now) taken counts.now → slice_get (merged plain.now sources.now) taken ≡ result }
+    ensures { CountsTaken (merged plain.now sources.now) taken counts.now → slice_get (merged plain.now sources.now) taken ≡ result }
 {
     let number = taken.saturating_sub(total(counts));
     let mut next = plain_head(plain, number);

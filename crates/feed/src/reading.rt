@@ -14,7 +14,7 @@ use crate::fault::{FeedFault, LineFault};
 use crate::input::Input;
 use crate::list::{Feed, MOST_INPUTS};
 use crate::merge::MOST_SERIES;
-use crate::source::Source;
+use crate::series_cursor::SeriesCursor;
 use crate::statement::{Statement, statement_of};
 use agc_text::next_line;
 use arrayvec::ArrayVec;
@@ -69,7 +69,7 @@ fn inputs_in(alloc: Global, text: &[u8]) -> Result<Gathered, FeedFault>
 #[derive(Drop)]
 struct Gathered {
     plain: Vec<Plain>,
-    sources: ArrayVec<Source, MOST_SERIES>,
+    sources: ArrayVec<SeriesCursor, MOST_SERIES>,
     line: u32,
 }
 
@@ -135,7 +135,7 @@ impl Gathered {
             return Err(FeedFault::TooManySeries(self.line));
         }
         let line = u64::from(self.line);
-        self.sources.push(Source::new(rule.on_line(line)));
+        self.sources.push(SeriesCursor::new(rule.on_line(line)));
         Ok(())
     }
 }

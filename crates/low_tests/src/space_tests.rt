@@ -1,9 +1,9 @@
 //! Places, cells and channels.
 
-use space::numbers::{Addr12, Bank, Chan, Eras, Offset};
 use space::place::Linear;
 use space::resolve::{banks_of, resolve, window};
 use space::store::{Store, changed};
+use space::{Addr12, Bank, Chan, Eras, Offset};
 use std::process::Abort;
 use words::Wide;
 

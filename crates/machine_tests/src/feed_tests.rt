@@ -1,7 +1,6 @@
 //! Feeds: inputs that no run reaches, and readers in trouble.
 
-use feed::input::{Counter, Input, Sequence};
-use feed::{FeedFault, MOST_SERIES, read};
+use feed::{Counter, FeedFault, Input, MOST_SERIES, Sequence, read};
 use test_devices::FaultyReader;
 
 const PINC: Input = Input::Count(Counter::Time1, Sequence::Pinc);

@@ -5,7 +5,7 @@
 use cpu::{Cell, Machine, Processor, Spot};
 use feed::{Feed, read};
 use rope::{Rope, RopeFault};
-use space::numbers::{Bank, Chan, Eras, Offset};
+use space::{Bank, Chan, Eras, Offset};
 use std::alloc::Global;
 use words::{Overflow, Word};
 

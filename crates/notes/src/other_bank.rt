@@ -5,9 +5,8 @@ ghost use Rattle.cpu.specs.Effects.{place_in};
 ghost use Rattle.notes.specs.Notes.{is_elsewhere, leads_elsewhere, place_named, reaches_other};
 
 use cpu::{Fetched, Machine, named_address};
-use space::numbers::Eras;
 use space::resolve::resolve;
-use space::{Addr12, Linear};
+use space::{Addr12, Eras, Linear};
 use yayul::NamedPlaces;
 
 /// How many words an erasable bank holds.

@@ -17,7 +17,7 @@ use Rattle.replay.specs.declared.calls.Call.{Call}
 use Rattle.replay.specs.declared.calls.Call.TheVariants.{Forward, Advance, Show, WithPresent, SeekBack, Add}
 use Rattle.replay.specs.declared.stop.Stop.{Stop}
 use Rattle.replay.specs.View.{SessionView, Stands, HasAdvanced, HasAdded}
-use Rattle.replay.specs.Calls.{Answer, Told, Answers, Saw, Leads, TimeTravel, HasGone, HasGoneOn, AddsAll, steps_of, outputs_of, added_by, steps_told, outputs_told, added_told}
+use Rattle.replay.specs.Calls.{Answer, Event, Answers, Saw, Leads, TimeTravel, HasGone, HasGoneOn, AddsAll, steps_of, outputs_of, added_by, event_steps, event_outputs, event_inputs}
 use Rattle.replay.specs.Calls.Answer.{Went, Advanced, Shown, ShownBeside, Sought, Added, Refused}
 
 -- the same run
@@ -156,10 +156,10 @@ keeps_then old mid new i j xs ys is js a b = record {
   outputs_are = b.outputs_are ∙ ap (λ (zs : List Output). zs ++ ys) a.outputs_are ∙ append_assoc (outs old.scenario old.n) xs ys;
 }
 
-keeps_told : (m : Bool) (r : State → Bool → Type 0) (old : SessionView) (es : List Told) (new : SessionView) → Leads m r old es new → Keeps old (steps_told es) (outputs_told es) (added_told es) new
+keeps_told : (m : Bool) (r : State → Bool → Type 0) (old : SessionView) (es : List Event) (new : SessionView) → Leads m r old es new → Keeps old (event_steps es) (event_outputs es) (event_inputs es) new
 keeps_told m r old [] new h = keeps_refused old new h
 keeps_told m r old (e ∷ es) new h =
-    keeps_then old h.0 new (steps_of e.1) (steps_told es) (outputs_of e.1) (outputs_told es) (added_by e.0 e.1) (added_told es) (keeps_answer m r old e.0 e.1 h.0 h.1) (keeps_told m r h.0 es new h.2)
+    keeps_then old h.0 new (steps_of e.1) (event_steps es) (outputs_of e.1) (event_outputs es) (added_by e.0 e.1) (event_inputs es) (keeps_answer m r old e.0 e.1 h.0 h.1) (keeps_told m r h.0 es new h.2)
 
 -- many steps that were watched
 pub gone_on : {O : Type 0} (watches : O → Option Output → State → Bool → O → Type 0) (m : Bool) (old : SessionView) (k : ℕ) (stop : Stop) (new : SessionView) (before after : O)
@@ -173,16 +173,16 @@ gone_on watches m old k stop new before after (i, reached, watched) stopped adva
     )
 
 -- one call more
-pub Leads-push : (m : Bool) (r : State → Bool → Type 0) (old : SessionView) (es : List Told) (mid : SessionView) (e : Told) (new : SessionView) → Leads m r old es mid → Answers m r mid e.0 e.1 new → Leads m r old (es ++ e ∷ []) new
+pub Leads-push : (m : Bool) (r : State → Bool → Type 0) (old : SessionView) (es : List Event) (mid : SessionView) (e : Event) (new : SessionView) → Leads m r old es mid → Answers m r mid e.0 e.1 new → Leads m r old (es ++ e ∷ []) new
 Leads-push m r old [] mid e new h answers = (new, rw h at answers, refl)
 Leads-push m r old (x ∷ xs) mid e new h answers = (h.0, h.1, Leads-push m r h.0 xs mid e new h.2 answers)
 
-pub Saw-push : {O : Type 0} (sees : O → Told → O → Type 0) (old : O) (es : List Told) (mid : O) (e : Told) (new : O) → Saw sees old es mid → sees mid e new → Saw sees old (es ++ e ∷ []) new
+pub Saw-push : {O : Type 0} (sees : O → Event → O → Type 0) (old : O) (es : List Event) (mid : O) (e : Event) (new : O) → Saw sees old es mid → sees mid e new → Saw sees old (es ++ e ∷ []) new
 Saw-push sees old [] mid e new h saw = (new, rw h at saw, refl)
 Saw-push sees old (x ∷ xs) mid e new h saw = (h.0, h.1, Saw-push sees h.0 xs mid e new h.2 saw)
 
 -- the theorem, of calls that lead to a session that stands
-pub travels : (m : Bool) (r : State → Bool → Type 0) (old : SessionView) (calls : List Call) (es : List Told) (new : SessionView) → map (λ e. e.0) es ≡ calls → Leads m r old es new → Stands new → TimeTravel m r old calls es new
+pub travels : (m : Bool) (r : State → Bool → Type 0) (old : SessionView) (calls : List Call) (es : List Event) (new : SessionView) → map (λ e. e.0) es ≡ calls → Leads m r old es new → Stands new → TimeTravel m r old calls es new
 travels m r old calls es new told leads stands =
     let kept = keeps_told m r old es new leads in
     record {

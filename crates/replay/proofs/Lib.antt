@@ -10,7 +10,7 @@ pub mod CallLemmas
 pub mod StepLemmas
 pub mod FloorlogLemmas
 pub mod StayingLemmas
-pub mod MarkLemmas
+pub mod EntryLemmas
 pub mod WatchedLemmas
 pub mod SettlingLemmas
 pub mod AdvanceLemmas

@@ -32,16 +32,16 @@ pub data Answer : Type 0 where
   Refused : Refusal → Answer
 
 -- a call, and what it answered
-abbrev pub Told : Type 0
-Told = Call × Answer
+abbrev pub Event : Type 0
+Event = Call × Answer
 
 -- an observer that was told these, one after the other
-abbrev pub Saw : {O : Type 0} → (O → Told → O → Type 0) → O → List Told → O → Type 0
+abbrev pub Saw : {O : Type 0} → (O → Event → O → Type 0) → O → List Event → O → Type 0
 Saw sees old [] new = new ≡ old
 Saw {O} sees old (e ∷ es) new = (between : O) × sees old e between × Saw sees between es new
 
 -- an observer that was told a call and its answer, and before it, of a call of many steps, each of these
-abbrev pub Hears : {O : Type 0} → (O → Option Output → State → Bool → O → Type 0) → (O → Told → O → Type 0) → O → Told → O → Type 0
+abbrev pub Hears : {O : Type 0} → (O → Option Output → State → Bool → O → Type 0) → (O → Event → O → Type 0) → O → Event → O → Type 0
 Hears {O} watches sees old (call, Advanced steps stop) new = (between : O) × WatchedSteps watches old steps (is_by_watcher stop) between × sees between (call, Advanced steps stop) new
 Hears watches sees old told new = sees old told new
 
@@ -96,7 +96,7 @@ Answers may_refuse returns old call (Refused refusal) new = MayRefuse may_refuse
 Answers may_refuse returns old call answer new = ⊥
 
 -- calls, each with its answer, that lead from one session to another
-abbrev pub Leads : Bool → (State → Bool → Type 0) → SessionView → List Told → SessionView → Type 0
+abbrev pub Leads : Bool → (State → Bool → Type 0) → SessionView → List Event → SessionView → Type 0
 Leads may_refuse returns old [] new = new ≡ old
 Leads may_refuse returns old (e ∷ es) new = (between : SessionView) × Answers may_refuse returns old e.0 e.1 between × Leads may_refuse returns between es new
 
@@ -111,22 +111,22 @@ outputs_of (Went output) = option_to_list output
 outputs_of (Advanced steps stop) = flat_map (λ s. option_to_list s.0) steps
 outputs_of answer = []
 
-abbrev pub steps_told : List Told → ℕ
-steps_told [] = 0
-steps_told (e ∷ es) = steps_of e.1 + steps_told es
+abbrev pub event_steps : List Event → ℕ
+event_steps [] = 0
+event_steps (e ∷ es) = steps_of e.1 + event_steps es
 
-abbrev pub outputs_told : List Told → List Output
-outputs_told [] = []
-outputs_told (e ∷ es) = outputs_of e.1 ++ outputs_told es
+abbrev pub event_outputs : List Event → List Output
+event_outputs [] = []
+event_outputs (e ∷ es) = outputs_of e.1 ++ event_outputs es
 
 -- the inputs that were added
 abbrev pub added_by : Call → Answer → List (ℕ × Input)
 added_by (Add cycle input) Added = (cycle, input) ∷ []
 added_by call answer = []
 
-abbrev pub added_told : List Told → List (ℕ × Input)
-added_told [] = []
-added_told (e ∷ es) = added_by e.0 e.1 ++ added_told es
+abbrev pub event_inputs : List Event → List (ℕ × Input)
+event_inputs [] = []
+event_inputs (e ∷ es) = added_by e.0 e.1 ++ event_inputs es
 
 -- inputs with more of them, each added on a line after all before
 abbrev pub AddsAll : List (ℕ × Input) → List Entry → List Entry → Type 0
@@ -137,13 +137,13 @@ AddsAll (i ∷ is) old new = (between : List Entry) × AddsLast old i.0 i.1 betw
 -- told once, in order; what runs has the inputs that were added, and is as before up to the step where the session stood; the
 -- present machine and the outputs are the reference run's after n steps; few machines are held; and each answer is the one
 -- that is stated of its call, in the session as the calls before it left it
-pub record TimeTravel (may_refuse : Bool) (returns : State → Bool → Type 0) (old : SessionView) (calls : List Call) (events : List Told) (new : SessionView) : Type 0 where
+pub record TimeTravel (may_refuse : Bool) (returns : State → Bool → Type 0) (old : SessionView) (calls : List Call) (events : List Event) (new : SessionView) : Type 0 where
   pub told : map (λ e. e.0) events ≡ calls
   pub rope : new.scenario.rope ≡ old.scenario.rope
-  pub inputs : AddsAll (added_told events) old.scenario.inputs new.scenario.inputs
+  pub inputs : AddsAll (event_inputs events) old.scenario.inputs new.scenario.inputs
   pub alike : AreAlikeUpTo old.scenario new.scenario old.n
-  pub steps : new.n ≡ old.n + steps_told events
+  pub steps : new.n ≡ old.n + event_steps events
   pub present : new.present ≡ run new.scenario new.n
-  pub outputs : outs new.scenario new.n ≡ outs old.scenario old.n ++ outputs_told events
+  pub outputs : outs new.scenario new.n ≡ outs old.scenario old.n ++ event_outputs events
   pub few : Fits (held new) new.n
   pub each : Leads may_refuse returns old events new

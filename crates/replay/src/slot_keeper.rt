@@ -18,9 +18,9 @@ pub const SLOTS: usize = 79;
 #[derive(Drop)]
 pub struct SlotKeeper {
     slots: Vec<Machine>,
-    marks: ArrayVec<(u64, usize), SLOTS>,
+    entries: ArrayVec<(u64, usize), SLOTS>,
     free: ArrayVec<usize, SLOTS>,
-    ghost slotted: { IsSlotted slots.items marks.items free.items },
+    ghost slotted: { IsSlotted slots.items entries.items free.items },
 }
 
 /// All slots, each with a machine at its start.
@@ -55,18 +55,18 @@ fn all_free() -> ArrayVec<usize, SLOTS>
 }
 
 /// Takes the mark of a step out, and answers its slot. It is sought from the newest back, and those passed move up.
-fn take_mark(marks: &mut ArrayVec<(u64, usize), SLOTS>, step: u64) -> usize
-    requires { Contains (map (λ m. m.0) marks.old.items) step }
-    ensures { (k : ℕ) × (k < length marks.old.items) × ((step, result) ≡ slice_index_or marks.old.items k (step, result)) × (marks.new.items ≡ remove marks.old.items k) }
+fn take_entry(entries: &mut ArrayVec<(u64, usize), SLOTS>, step: u64) -> usize
+    requires { Contains (map (λ m. m.0) entries.old.items) step }
+    ensures { (k : ℕ) × (k < length entries.old.items) × ((step, result) ≡ slice_index_or entries.old.items k (step, result)) × (entries.new.items ≡ remove entries.old.items k) }
 {
-    let Some((mut at, mut slot)) = marks.pop() else {
+    let Some((mut at, mut slot)) = entries.pop() else {
         unreachable!()
     };
-    let mut place = marks.len();
+    let mut place = entries.len();
     while at != step {
         place -= 1;
-        let earlier = marks.as_slice()[place];
-        marks.as_mut_slice()[place] = (at, slot);
+        let earlier = entries.as_slice()[place];
+        entries.as_mut_slice()[place] = (at, slot);
         at = earlier.0;
         slot = earlier.1;
     }
@@ -77,7 +77,7 @@ impl Keeper for SlotKeeper {
     ghost use Rattle.std.specs.Prelude.{false};
     ghost use Rattle.replay.specs.Slots.{images_in};
 
-    ghost images = { λ k. images_in k.slots.items k.marks.items };
+    ghost images = { λ k. images_in k.slots.items k.entries.items };
 
     ghost may_refuse = { false };
 
@@ -85,7 +85,7 @@ impl Keeper for SlotKeeper {
         let slots = make_slots(alloc)?;
         Ok(SlotKeeper {
             slots,
-            marks: ArrayVec::new(),
+            entries: ArrayVec::new(),
             free: all_free(),
         })
     }
@@ -95,8 +95,8 @@ impl Keeper for SlotKeeper {
     }
 
     fn before(&self, t: u64) -> Option<(u64, &Machine)> {
-        for place in (0..self.marks.len()).rev() {
-            let (step, slot) = self.marks.as_slice()[place];
+        for place in (0..self.entries.len()).rev() {
+            let (step, slot) = self.entries.as_slice()[place];
             if step <= t {
                 return Some((step, &self.slots[slot]));
             }
@@ -109,17 +109,17 @@ impl Keeper for SlotKeeper {
             unreachable!()
         };
         machine.copy_to(&mut self.slots[slot]);
-        self.marks.push((step, slot));
+        self.entries.push((step, slot));
         Ok(())
     }
 
     fn remove(&mut self, step: u64) {
-        let slot = take_mark(&mut self.marks, step);
+        let slot = take_entry(&mut self.entries, step);
         self.free.push(slot);
     }
 
     fn count(&self) -> usize {
-        self.marks.len()
+        self.entries.len()
     }
 
     ghost rising = { λ k. k.slotted.rising };
@@ -133,12 +133,16 @@ mod tests {
     #[test]
     fn images_outside_content(rt: HostRuntime) -> Result<(), Fail> {
         let keeper = SlotKeeper::new(rt.alloc())?;
-        let SlotKeeper { slots, marks, free } = &keeper;
+        let SlotKeeper {
+            slots,
+            entries,
+            free,
+        } = &keeper;
         let slots: &Vec<Machine> = slots;
-        let marks: &ArrayVec<(u64, usize), 79> = marks;
+        let entries: &ArrayVec<(u64, usize), 79> = entries;
         let free: &ArrayVec<usize, 79> = free;
         assert_eq!(rt; slots.len(), 79);
-        assert_eq!(rt; marks.len(), 0);
+        assert_eq!(rt; entries.len(), 0);
         assert_eq!(rt; free.len(), 79);
         Ok(())
     }

@@ -10,7 +10,7 @@ use crate::fault::RopeFault;
 use crate::image::bank_at;
 use crate::memory::{BANK_WORDS, PLACES};
 use crate::spelling::Version;
-use space::numbers::{Bank, Offset};
+use space::{Bank, Offset};
 use std::alloc::Global;
 use std::marker::Model;
 use words::{Read, ReadFault, Word, read_text};

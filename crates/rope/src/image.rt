@@ -8,7 +8,7 @@ ghost use Rattle.rope.specs.Image.{bank_of_entry, image_part, image};
 use crate::memory::{BANK_WORDS, ENTRIES, Rope};
 use crate::spelling::Version;
 use arrayvec::ArrayVec;
-use space::numbers::{Bank, Offset};
+use space::{Bank, Offset};
 use words::{Write, WriteFailed, push_all, write_all};
 
 /// How many bytes the words of a bank are written as.

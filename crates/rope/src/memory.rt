@@ -5,7 +5,7 @@ ghost use Rattle.rope.specs.Places.{place_number, fixed_places, banks, no_words,
 ghost use Rattle.rope.specs.declared.fault.RopeFault.TheVariants.{NoMemory};
 
 use crate::fault::RopeFault;
-use space::numbers::{Bank, Offset};
+use space::{Bank, Offset};
 use std::alloc::{AllocError, Global};
 use std::marker::Model;
 use words::Word;

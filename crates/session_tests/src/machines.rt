@@ -1,11 +1,10 @@
 //! Processors to be run, and what tells machines apart.
 
 use cpu::{Input, Machine, Processor};
-use feed::input::{Counter, Sequence};
-use feed::{Feed, read};
+use feed::{Counter, Feed, Sequence, read};
 use rope::Rope;
-use space::numbers::{Bank, Chan, Offset};
 use space::store::changed;
+use space::{Bank, Chan, Offset};
 use std::alloc::Global;
 use std::test::Fail;
 use words::Word;

@@ -2,7 +2,7 @@
 
 use crate::machines::{everything, expect, five_plus_five};
 use replay::{Keeper, Refusal, Session, SlotKeeper, VecKeeper};
-use space::numbers::Chan;
+use space::Chan;
 use std::alloc::Global;
 use std::test::Fail;
 

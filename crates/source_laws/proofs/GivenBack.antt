@@ -15,8 +15,8 @@ use Rattle.agc_text.proofs.LineLaws.{lines-ended, lines-none}
 use Rattle.rope.specs.Places.{banks, bank_words, Words, word_at}
 use Rattle.audit.specs.WordLines.{place_text, instruction_at, extracode_at}
 use Rattle.audit.specs.SourceLines.{bank_line, octal_line, octal_lines, bank_source, source_text}
-use Rattle.yayul.proofs.Said.{word_text, bank_text}
-use Rattle.yayul.proofs.Given.{word_texts, bank_texts, banks_texts, MayBeWritten, GivesBanks, gives_banks}
+use Rattle.yayul.proofs.WrittenStatements.{word_text, bank_text}
+use Rattle.yayul.proofs.WrittenWords.{word_texts, bank_texts, banks_texts, MayBeWritten, GivesBanks, gives_banks}
 use Rattle.source_laws.specs.GivenBack.{AreWords, IsBank, is_written, GivesBack}
 use Rattle.source_laws.proofs.Bytes.{text_append, octal_is_text, instruction_is_text, instruction_is_short}
 

@@ -7,7 +7,7 @@ use Rattle.rope.specs.Laws.{HaveSameWords}
 use Rattle.rope.specs.Places.{banks, bank_words, fixed_places, Words}
 use Rattle.rope.proofs.ImageLaws.{image_front-none, image_front-more}
 use Rattle.rope.proofs.ReadSteps.{bank_of_entry-below}
-use Rattle.yayul.proofs.Given.{GivesBanks}
+use Rattle.yayul.proofs.WrittenWords.{GivesBanks}
 use Rattle.source_laws.specs.GivenBack.{AreWords, GivesImage}
 use Rattle.audit.specs.SourceLines.{source_text}
 use Rattle.source_laws.proofs.GivenBack.{all_given}

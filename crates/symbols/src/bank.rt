@@ -3,7 +3,7 @@
 ghost use Rattle.std.specs.Prelude.{◌≡◌, ◌<◌};
 ghost use Rattle.std.specs.Option.{SomeIff};
 
-use space::numbers::Bank;
+use space::Bank;
 use std::marker::Model;
 
 /// A bank that fixed memory has: 0 to 043.

@@ -5,8 +5,8 @@ ghost use Rattle.space.specs.declared.place.Linear.TheVariants as Place;
 ghost use Rattle.symbols.specs.Values.{place_of, place_of_number, HasWords};
 
 use crate::bank::FixedBank;
-use space::numbers::{Eras, Offset};
 use space::place::Linear;
+use space::{Eras, Offset};
 use words::Word;
 
 /// What a symbol or an operand stands for.

@@ -7,8 +7,8 @@ ghost use Rattle.trace.specs.TraceLines.{asked_text, input_text, interrupt_name,
 
 use crate::fields::Text;
 use arrayvec::ArrayVec;
-use feed::input::{Counter, Input, Sequence};
 use feed::interrupt::Interrupt;
+use feed::{Counter, Input, Sequence};
 use words::{push_all, push_decimal, push_octal};
 
 /// An input, as a line of a feed has it after its cycle.

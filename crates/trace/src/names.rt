@@ -6,8 +6,7 @@ ghost use Rattle.symbols.specs.Values.{SymbolTable};
 ghost use Rattle.trace.specs.PlaceNumbers.{AreFirst, IsPlace, place_count, place_number, place_shown};
 ghost use Rattle.trace.specs.TraceLines.{place_name, register_name, stands_for, symbol_at};
 
-use space::Linear;
-use space::numbers::Eras;
+use space::{Eras, Linear};
 use std::alloc::{AllocError, Global};
 use std::marker::Model;
 use symbols::{Symbols, Value};

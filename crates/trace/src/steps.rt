@@ -14,7 +14,7 @@ use crate::inputs::{input_text, interrupt_name, push_asked};
 use crate::names::{Names, place_name};
 use arrayvec::ArrayVec;
 use cpu::{Fetched, Machine, NextStep, Processor, disassemble, instruction_name, named_address};
-use feed::input::Input;
+use feed::Input;
 use feed::interrupt::Interrupt;
 use space::resolve::resolve;
 use space::{Addr12, Bank, Linear, Offset};

@@ -11,8 +11,7 @@ use crate::fields::Text;
 use crate::names::{Names, place_name};
 use arrayvec::ArrayVec;
 use cpu::{Cell, Machine};
-use space::Linear;
-use space::numbers::{Chan, Eras};
+use space::{Chan, Eras, Linear};
 use words::{push_all, push_octal};
 
 /// The most bytes of a line: three numbers of at most 20 digits, the fields that tell what the step is, ten cells, and what stands between.

@@ -10,7 +10,7 @@ use cpu::{Machine, Processor};
 use debugger::debug_session;
 use feed::read;
 use replay::{Session, VecKeeper};
-use space::numbers::Chan;
+use space::Chan;
 use space::store::changed;
 use std::alloc::Global;
 use std::io;

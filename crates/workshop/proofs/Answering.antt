@@ -3,7 +3,7 @@ use Rattle.std.proofs.Common.{◌≡◌, ◌+◌, ◌*◌, ◌≤◌, true, leng
 use Rattle.std.specs.Prelude.{OnOk, if◌then◌else◌}
 use Rattle.words.specs.Devices.{one_more}
 use Rattle.words.specs.Readings.{TakesAtMost}
-use Rattle.commands.specs.Extended.{extended_request_of}
+use Rattle.commands.specs.Extended.{extended_line}
 use Rattle.debugger.specs.Conversation.{Talks, efforts, lines_heard, lines_within, most_extended_bytes}
 use Rattle.debugger.specs.Sessions.{Debugs, has_read_failed as reader_failed, has_write_failed as writer_failed}
 use Rattle.debugger.specs.Transcript.{command_lines, lines_read, most_command_bytes}
@@ -54,7 +54,7 @@ pub answers_extended : (o : Opened) (before after : Debugging) (session : Sessio
     → (before.commands.told ≡ true → before.out.told ≡ true →
     Talks (talk_of o) (record { before = before.commands.left; left = after.commands.left }) before.out.written after.out.written ended)
     → (before.commands.told ≡ true → OnOk ended
-    (session.meter ≤ o.session.meter + (efforts (extended_request_of o.symbols) (lines_heard (extended_request_of o.symbols) (lines_within most_extended_bytes before.commands.left)) + 1) * session.n))
+    (session.meter ≤ o.session.meter + (efforts (extended_line o.symbols) (lines_heard (extended_line o.symbols) (lines_within most_extended_bytes before.commands.left)) + 1) * session.n))
     → after.commands.failures ≡ (if reader_failed ended then one_more before.commands.failures else before.commands.failures)
     → after.out.failures ≡ (if writer_failed ended then one_more before.out.failures else before.out.failures)
     → (before.commands.told ≡ true → TakesAtMost most_extended_bytes before.commands.left after.commands.left)

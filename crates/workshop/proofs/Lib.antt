@@ -6,10 +6,10 @@ mod OperatorTexts
 mod RunSteps
 mod SourceRows
 mod TracedSteps
-mod Written
+mod WordsAsShown
 mod Profiles
 pub mod Telling
-mod Checked
-mod Covered
+mod CheckWordsMade
+mod ProfileWritten
 mod NotedSteps
-mod Noted
+mod NotesWritten

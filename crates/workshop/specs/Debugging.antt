@@ -3,11 +3,11 @@ use Rattle.std.specs.Prelude.{◌≡◌, ℕ, ◌+◌, ◌*◌, ◌≤◌, Bool,
 use Rattle.words.specs.Readings.{TakesAtMost}
 use Rattle.cpu.specs.State.{State, start}
 use Rattle.debugger.specs.Transcript.{command_lines, lines_read, most_command_bytes}
-use Rattle.commands.specs.Extended.{extended_request_of}
+use Rattle.commands.specs.Extended.{extended_line}
 use Rattle.debugger.specs.Conversation.{Talk, Talks, efforts, lines_heard, lines_within, most_extended_bytes}
 use Rattle.debugger.specs.Sessions.{Setting, Debugs}
 use Rattle.debugger.specs.declared.fault.DebugFault.{DebugFault}
-use Rattle.replay.specs.Calls.{Told, Saw, TimeTravel}
+use Rattle.replay.specs.Calls.{Event, Saw, TimeTravel}
 use Rattle.replay.specs.View.{SessionView}
 use Rattle.replay.specs.declared.calls.Call.{Call}
 use Rattle.workshop.specs.declared.debugging.Opened.{Opened}
@@ -81,7 +81,7 @@ pub record DebugsProgram (from : Origin) (before after : Debugging) (result : Re
 
 -- what an extended session that was opened is over
 abbrev pub talk_of : Opened → Talk
-talk_of o = record { may_refuse = false; symbols = o.symbols; read = extended_request_of o.symbols; most = most_extended_bytes; scenario = o.session.scenario }
+talk_of o = record { may_refuse = false; symbols = o.symbols; read = extended_line o.symbols; most = most_extended_bytes; scenario = o.session.scenario }
 
 -- the lines of an extended session are answered over a session that was opened, as commands are
 pub record AnswersExtended (o : Opened) (before after : Debugging) (result : Result (Unit {0}) WorkshopFault) : Type 0 where
@@ -91,7 +91,7 @@ pub record AnswersExtended (o : Opened) (before after : Debugging) (result : Res
   pub replies : before.commands.told ≡ true → before.out.told ≡ true →
       Talks (talk_of o) (record { before = before.commands.left; left = after.commands.left }) before.out.written after.out.written ended
   pub cost : before.commands.told ≡ true → OnOk result
-      (session.meter ≤ o.session.meter + (efforts (extended_request_of o.symbols) (lines_heard (extended_request_of o.symbols) (lines_within most_extended_bytes before.commands.left)) + 1) * session.n)
+      (session.meter ≤ o.session.meter + (efforts (extended_line o.symbols) (lines_heard (extended_line o.symbols) (lines_within most_extended_bytes before.commands.left)) + 1) * session.n)
   pub reader : after.commands.failures ≡ failures_if (has_read_failed result) before.commands.failures
   pub writer : after.out.failures ≡ failures_if (has_write_failed result) before.out.failures
   pub read : before.commands.told ≡ true → TakesAtMost most_extended_bytes before.commands.left after.commands.left
@@ -109,8 +109,8 @@ pub record DebugsExtended (from : Origin) (before after : Debugging) (result : R
 
 -- the time-travel theorem, of the program of a source over the inputs of a feed: of a list of calls of a session over them
 -- that begins at the start, an observer saw some events, each call with its answer, and the session came to step n
-pub record Travels {O : Type 0} (l : Loaded) (sees : O → Told → O → Type 0) (returns : State → Bool → Type 0) (calls : List Call) (old new : O) (n : ℕ) : Type 0 where
-  pub events : List Told
+pub record Travels {O : Type 0} (l : Loaded) (sees : O → Event → O → Type 0) (returns : State → Bool → Type 0) (calls : List Call) (old new : O) (n : ℕ) : Type 0 where
+  pub events : List Event
   pub session : SessionView
   pub saw : Saw sees old events new
   pub travel : TimeTravel false returns (opened l) calls events session

@@ -17,7 +17,7 @@ use crate::origin::Origin;
 use crate::progress::{Unheard, tell};
 use cpu::{Machine, Output, Processor, write_channel_line};
 use rope::Version;
-use space::numbers::{Chan, Eras};
+use space::{Chan, Eras};
 use std::alloc::Global;
 use words::{Read, Word, Write, WriteFailed};
 use yayul::Language;

@@ -19,7 +19,7 @@ pub fn extracode_is_agreed()
 
 /// What is shown is assembled to what it was. For each word but EDRUPT's, under extracode or not, a row of the assembler's operators has the name by which the machine
 /// shows the word, and gives this very word, under the same extracode, alone or of the number that is shown.
-#[tactic(auto, using(crate::proofs::Written::are_written))]
+#[tactic(auto, using(crate::proofs::WordsAsShown::are_written))]
 pub fn shown_is_assembled()
     ensures { AreWritten }
 {}

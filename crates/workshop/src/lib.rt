@@ -44,6 +44,6 @@ pub use ropes::{
     compare_engine, compare_only_engine, form_sums_engine, named_words_engine, parity_engine,
     source_engine, sums_engine, upgrade_engine, words_engine,
 };
-pub use space::numbers::Bank;
+pub use space::Bank;
 pub use tracing::{trace_and_tell, trace_program};
 pub use yayul::{Language, Symbols};

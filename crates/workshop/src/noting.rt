@@ -19,7 +19,7 @@ use crate::progress::tell;
 use cpu::{Machine, Processor};
 use notes::{Notebook, write_notes};
 use rope::{Rope, Version};
-use space::numbers::Eras;
+use space::Eras;
 use std::alloc::Global;
 use trace::PlaceNames;
 use words::{Read, Write};

@@ -18,7 +18,7 @@ use audit::{
 };
 use names::write_named_words;
 use rope::{Dump, Rope, Version};
-use space::numbers::Bank;
+use space::Bank;
 use std::alloc::Global;
 use trace::PlaceNames;
 use words::{Read, Write};

@@ -9,8 +9,8 @@ use Rattle.yayul.specs.Layout.{Request, start, width, stands_at, layout_after}
 use Rattle.yayul.specs.Inside.Sound.{AreApart, meets}
 use Rattle.yayul.specs.Language.{Language, Addressed, BankWord, Complemented, Constant, Constants, Content, FarAddress, FarComplement, Plain}
 use Rattle.yayul.specs.Laws.{ShareNoPlace, WordsShareNoPlace}
-use Rattle.yayul.proofs.Asked.{ordered}
-use Rattle.yayul.proofs.Taken.{meets_not}
+use Rattle.yayul.proofs.LineRequests.{ordered}
+use Rattle.yayul.proofs.TakenPlaces.{meets_not}
 
 -- what passes a test among the first items passes it among these
 passes_before : (test : Request → Bool) (xs : List Request) (i j : ℕ) (q : Request) → i < j → slice_get xs i ≡ Some q → test q ≡ true → list_any test (take j xs) ≡ true

@@ -9,8 +9,8 @@ use Rattle.yayul.specs.Inside.Representation.{promise_of, request_of}
 use Rattle.yayul.specs.Inside.Waiting.{Holds}
 use Rattle.yayul.specs.declared.layout.Layout.{Layout as Held}
 use Rattle.yayul.specs.declared.layout.Placing.{Placing}
-use Rattle.yayul.proofs.Agreed.{named_keeps}
-use Rattle.yayul.proofs.Completed.{answers_same, finished_err, finished_ok}
+use Rattle.yayul.proofs.LineAgrees.{named_keeps}
+use Rattle.yayul.proofs.WholeSource.{answers_same, finished_err, finished_ok}
 use Rattle.yayul.proofs.Equalled.{settled_follows}
 
 module _ (line : ℕ) (s : Layout) (l : Held) (p : Placing) (agrees : Agrees line s l p) where

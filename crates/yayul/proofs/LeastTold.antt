@@ -22,9 +22,9 @@ use Rattle.yayul.specs.Language.{Language, Addressed, BadBank, BadLabel, BadOper
 use Rattle.yayul.specs.declared.doubt.Doubt.{Doubt}
 use Rattle.yayul.specs.declared.doubt.Known.{Known}
 use Rattle.yayul.specs.declared.finding.Finding.{Finding}
-use Rattle.yayul.proofs.Asked.{defined_keeps, none_stands, no_others, head_faults}
+use Rattle.yayul.proofs.LineRequests.{defined_keeps, none_stands, no_others, head_faults}
 use Rattle.yayul.proofs.Equalled.{by_later, promise_requests}
-use Rattle.yayul.proofs.Late.{AreLate, is_of_fields, statement_late}
+use Rattle.yayul.proofs.LateFaults.{AreLate, is_of_fields, statement_late}
 use Rattle.yayul.proofs.Least.{none_least}
 use Rattle.yayul.proofs.LeastOfSet.{StandsIn, fold_is_least}
 use Rattle.yayul.proofs.Least as least_fault

@@ -7,36 +7,36 @@ mod ListingRows
 mod Least
 mod LeastOfSet
 mod Labels
-mod Late
+mod LateFaults
 mod Lines
 mod Tables
-mod Taken
-mod Asked
-mod Completed
-mod Ends
+mod TakenPlaces
+mod LineRequests
+mod WholeSource
+mod BankEnds
 mod Decimals
-mod Fronts
+mod RowTexts
 mod Names
 mod NamedRows
 mod Nearest
 mod Apart
 mod Equalled
-mod Once
-mod Standing
-mod Grown
-mod Held
-mod Alike
-mod Kept
-mod Displaced
-mod Surveyed
+mod NameOnce
+mod WordsWhileWaiting
+mod NameAdded
+mod RequestFault
+mod AlikeWaiting
+mod HoldsByLine
+mod FaultOrder
+mod SurveyByLine
 mod LeastTold
 mod ToldOnce
 mod SurveyRows
-mod Patched
-mod Ended
-mod Lifted
-mod Agreed
+mod PatchedRequest
+mod NoneWaits
+mod PlainLines
+mod LineAgrees
 mod Finished
 pub mod Octals
-pub mod Said
-pub mod Given
+pub mod WrittenStatements
+pub mod WrittenWords

@@ -21,7 +21,7 @@ use Rattle.yayul.specs.declared.layout.Placing.{Placing}
 use Rattle.yayul.specs.declared.mark.Mark.{Mark}
 use Rattle.yayul.proofs.Equalled.{by_later, promise_language}
 use Rattle.yayul.proofs.Least.{told, StandFrom, StandFrom-append, StandFrom-later, StandFrom-on_line, least_here, none_least}
-use Rattle.yayul.proofs.Late.{least-before_late, statement_late, text_early}
+use Rattle.yayul.proofs.LateFaults.{least-before_late, statement_late, text_early}
 
 pub layout_faults-from : (line : ℕ) (s : Layout) (texts : List (List ℕ)) → StandFrom line (layout_faults line s texts)
 layout_faults-from line s [] = tt

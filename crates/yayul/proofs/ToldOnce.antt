@@ -8,7 +8,7 @@ use Rattle.yayul.specs.Laws.{same_fault, StandEachOnce, FindingsStandOnce}
 use Rattle.yayul.specs.Survey.{Survey, unmarked, doubt, follows, kinds_in_order, is_one_of, finding, line_kinds, passed_line, passed_lines, settled_survey, told_line, told_lines, looked_at, told}
 use Rattle.yayul.specs.Language.{Language, FaultKind}
 use Rattle.yayul.specs.declared.finding.Finding.{Finding}
-use Rattle.yayul.proofs.Taken.{or-parts}
+use Rattle.yayul.proofs.TakenPlaces.{or-parts}
 
 -- no kind is the kind of a later one
 abbrev Differ : List FaultKind → Type 0

@@ -5,7 +5,7 @@ ghost use Rattle.yayul.specs.Layout.{fault_number, fault_if, standing};
 ghost use Rattle.yayul.specs.Program.{is_before};
 ghost use Rattle.yayul.specs.Inside.Answers.{least_kind, lesser_if, lesser_kind};
 ghost use Rattle.yayul.specs.Told.{fault_text};
-ghost use Rattle.yayul.specs.Inside.Waiting.{held};
+ghost use Rattle.yayul.specs.Inside.Waiting.{lesser_on};
 
 use std::fmt;
 
@@ -164,7 +164,7 @@ impl Fault {
 
 /// The lesser of a fault, where one is held, and one more on a line.
 pub(crate) fn lesser_on(first: Option<Fault>, line: u32, kind: Option<FaultKind>) -> Option<Fault>
-    ensures { result ≡ held first line kind }
+    ensures { result ≡ lesser_on first line kind }
 {
     let Some(kind) = kind else {
         return first;

@@ -23,7 +23,7 @@ use crate::operator::flight_operator_of;
 use crate::scaled::decimal_content;
 use crate::statement::{bank_in, constant_of, label_in, operand_in, operation_of};
 use agc_text::{Field, Line, decimal, length_before_byte};
-use space::numbers::Offset;
+use space::Offset;
 use symbols::{FixedBank, NAME_LENGTH, Name};
 use words::Word;
 

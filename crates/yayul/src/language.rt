@@ -1,7 +1,7 @@
 //! What a source is made of: its operators, its operands and what its lines say.
 
 use crate::instruction::{AddressedInstruction, PlainInstruction};
-use space::numbers::Offset;
+use space::Offset;
 use symbols::{FixedBank, Name};
 use words::Word;
 

@@ -23,7 +23,7 @@ pub fn words_share_no_place(language: Language, source: &[u8])
 }
 
 /// Names are defined once: in a source that assembles no two symbols have one name.
-#[tactic(auto, using(crate::proofs::Once::names_stand_once))]
+#[tactic(auto, using(crate::proofs::NameOnce::names_stand_once))]
 pub fn names_stand_once(language: Language, source: &[u8])
     ensures { NamesStandOnce language source.now }
 {

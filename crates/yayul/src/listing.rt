@@ -14,9 +14,9 @@ use crate::mark::Mark;
 use agc_text::next_line;
 use arrayvec::ArrayVec;
 use rope::Rope;
-use space::numbers::{Bank, Offset};
 use space::place::Linear;
 use space::resolve::window;
+use space::{Bank, Offset};
 use symbols::{NAME_LENGTH, Symbols, Value, value_text};
 use words::{Write, WriteFailed, push_all, push_decimal, push_octal, write_all};
 

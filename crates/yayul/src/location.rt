@@ -6,7 +6,7 @@ ghost use Rattle.yayul.specs.Inside.Sound.{IsLocation};
 
 use crate::faults::FaultKind;
 use crate::language::{Location, Numeral};
-use space::numbers::{Eras, Offset};
+use space::{Eras, Offset};
 use symbols::{FixedBank, Value};
 
 impl Location {

@@ -3,7 +3,7 @@
 ghost use Rattle.std.specs.Prelude.{◌≡◌, ℕ, List, Option, true};
 ghost use Rattle.words.specs.Devices.{Writes, failures_after};
 
-use space::numbers::{Bank, Offset};
+use space::{Bank, Offset};
 use words::{Write, WriteFailed};
 
 /// What stands before the rows of a listing.

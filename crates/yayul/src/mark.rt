@@ -5,7 +5,7 @@ ghost use Rattle.yayul.specs.Listing.{place_here, words_from, shown};
 ghost use Rattle.yayul.specs.Inside.Representation.{shown_by_mark};
 
 use crate::language::{Content, Location, Operation, Statement};
-use space::numbers::{Bank, Eras, Offset};
+use space::{Bank, Eras, Offset};
 use std::alloc::{AllocError, Global};
 use std::marker::Model;
 

@@ -15,7 +15,7 @@ use crate::mark::Mark;
 use crate::statement::statement_of;
 use crate::values::value_of;
 use agc_text::next_line;
-use space::numbers::{Bank, Eras, Offset};
+use space::{Bank, Eras, Offset};
 use std::alloc::{AllocError, Global};
 use std::marker::Model;
 use symbols::{FixedBank, Symbols, Value};

@@ -3,7 +3,7 @@
 use crate::bank::ErasableBank;
 use crate::language::{Content, Operand};
 use arrayvec::ArrayVec;
-use space::numbers::Offset;
+use space::Offset;
 use symbols::{FixedBank, NAME_LENGTH};
 
 /// A name that waits for the value of an operand, whose symbol a later line may define.

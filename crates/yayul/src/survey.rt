@@ -310,7 +310,7 @@ impl Telling<'_> {
 
 impl LineFaults {
     // Whether a kind of fault stands on the line.
-    #[tactic(auto, using(crate::proofs::Displaced::one_of_conditions))]
+    #[tactic(auto, using(crate::proofs::FaultOrder::one_of_conditions))]
     fn has(&self, kind: FaultKind) -> bool
         ensures { result ≡ is_one_of (kinds_of self.now) kind }
     {

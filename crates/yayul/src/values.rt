@@ -9,8 +9,8 @@ ghost use Rattle.yayul.specs.Inside.Representation.{value_at};
 
 use crate::faults::FaultKind;
 use crate::language::{Location, Operand, Shift, Term};
-use space::numbers::{Eras, Offset};
 use space::place::Linear;
+use space::{Eras, Offset};
 use symbols::{FixedBank, Symbols, Value, place_of};
 use words::Word;
 

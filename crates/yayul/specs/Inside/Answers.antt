@@ -13,7 +13,7 @@ use Rattle.yayul.specs.declared.layout.Placing.{Placing}
 use Rattle.yayul.specs.declared.mark.Mark.{Mark}
 use Rattle.yayul.specs.Inside.Representation.{promise_of, request_of, is_undefined, holds_word, shown_by_mark}
 use Rattle.yayul.specs.Inside.Sound.{AreEnds}
-use Rattle.yayul.specs.Inside.Waiting.{Holds, AreKnown, held}
+use Rattle.yayul.specs.Inside.Waiting.{Holds, AreKnown, lesser_on}
 
 -- of two kinds of fault, the one with the lesser number
 abbrev pub lesser_kind : FaultKind → FaultKind → FaultKind
@@ -85,7 +85,7 @@ passed s content = record s { location = after_words (width content) s.location;
 -- a request is put aside where a symbol of it is not defined; else its fault is held
 pub record Settles (r : Request) (words : Result (List ℕ) FaultKind) (p q : Placing) : Type 0 where
   pub waits : map request_of q.waiting.items ≡ (if is_undefined words then map request_of p.waiting.items ++ r ∷ [] else map request_of p.waiting.items)
-  pub holds : q.fault ≡ (if is_undefined words then p.fault else held p.fault r.line (least_kind (standing (result_err words ∷ extracode_fault (extracode_of r.content) r.extracode ∷ []))))
+  pub holds : q.fault ≡ (if is_undefined words then p.fault else lesser_on p.fault r.line (least_kind (standing (result_err words ∷ extracode_fault (extracode_of r.content) r.extracode ∷ []))))
 
 -- the words of a request are placed, or zeros where it waits or has none
 pub record TakesWords (table : List (List ℕ × Value)) (r : Request) (p q : Placing) : Type 0 where

@@ -27,10 +27,10 @@ unfoldable pub standing_faults : List (List ℕ × Value) → List Request → L
 standing_faults table waiting rs = flat_map (λ r. if is_waiting waiting r then [] else on_line r.line (request_faults table r)) rs
 
 -- the lesser of a fault that is held and one more on a line
-abbrev pub held : Option Fault → ℕ → Option FaultKind → Option Fault
-held first line None = first
-held None line (Some kind) = Some (record { line = line; number = fault_number kind })
-held (Some first) line (Some kind) =
+abbrev pub lesser_on : Option Fault → ℕ → Option FaultKind → Option Fault
+lesser_on first line None = first
+lesser_on None line (Some kind) = Some (record { line = line; number = fault_number kind })
+lesser_on (Some first) line (Some kind) =
     Some (if is_before (record { line = line; number = fault_number kind }) first then record { line = line; number = fault_number kind } else first)
 
 -- the words of the requests of lines below a number stand in a rope, and their least fault is held, but for those of the requests that wait

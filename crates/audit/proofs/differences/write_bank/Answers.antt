@@ -3,7 +3,7 @@ use Rattle.std.proofs.lemmas.Result.{err_from_is_err_and}
 use Rattle.rope.specs.Places.{bank_words}
 use Rattle.audit.specs.Differences.{differing_at, differing_in}
 use Rattle.audit.proofs.Places.{lines_none, writes_places, begins_places, places_end}
-use Rattle.audit.proofs.Listed.{count_more, count_ends}
+use Rattle.audit.proofs.PlaceLines.{count_more, count_ends}
 use Rattle.audit.proofs.Steps.{extracode_first, extracode_next}
 use Rattle.audit.proofs.differences.write_bank.Goals as goal
 

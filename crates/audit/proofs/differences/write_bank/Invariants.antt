@@ -1,7 +1,7 @@
 use Rattle.std.proofs.Common.{◌≡◌, ◌≤◌, ◌++◌, true, length}
 use Rattle.audit.specs.WordLines.{extracode_at}
 use Rattle.audit.specs.Differences.{differing_at, difference_lines}
-use Rattle.audit.proofs.Fronts.{front}
+use Rattle.audit.proofs.PartTexts.{front}
 use Rattle.audit.proofs.differences.write_bank.Given as goal
 
 abbrev pub invariant-loop-number : goal.invariant-loop-number

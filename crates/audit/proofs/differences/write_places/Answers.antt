@@ -3,7 +3,7 @@ use Rattle.std.proofs.lemmas.Result.{err_from_is_err_and}
 use Rattle.rope.specs.Places.{banks}
 use Rattle.audit.specs.Differences.{differing_in, differing}
 use Rattle.audit.proofs.Places.{lines_none, writes_places, begins_places, places_end}
-use Rattle.audit.proofs.Listed.{count_more, count_ends}
+use Rattle.audit.proofs.PlaceLines.{count_more, count_ends}
 use Rattle.audit.proofs.differences.write_places.Goals as goal
 
 pub loop-bank-init : goal.loop-bank-init

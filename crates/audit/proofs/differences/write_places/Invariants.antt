@@ -1,6 +1,6 @@
 use Rattle.std.proofs.Common.{◌≡◌, ◌*◌, ◌≤◌, ◌++◌, true, length}
 use Rattle.audit.specs.Differences.{differing_in, difference_lines}
-use Rattle.audit.proofs.Fronts.{front}
+use Rattle.audit.proofs.PartTexts.{front}
 use Rattle.audit.proofs.differences.write_places.Given as goal
 
 abbrev pub invariant-loop-bank : goal.invariant-loop-bank

@@ -2,7 +2,7 @@ use Rattle.std.proofs.Common.{◌∙◌}
 use Rattle.std.proofs.lemmas.Result.{err_from_is_err_and}
 use Rattle.rope.specs.Places.{banks}
 use Rattle.audit.specs.FormSums.{form_line}
-use Rattle.audit.proofs.Fronts.{begins_parts, writes_more}
+use Rattle.audit.proofs.PartTexts.{begins_parts, writes_more}
 use Rattle.audit.proofs.form_sums.write_form_sums.Goals as goal
 
 pub returns-in_err-write_all-clause-written : goal.returns-in_err-write_all-clause-written

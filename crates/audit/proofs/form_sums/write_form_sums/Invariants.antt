@@ -1,6 +1,6 @@
 use Rattle.std.proofs.Common.{◌≡◌, ◌++◌, true}
 use Rattle.audit.specs.FormSums.{form_line}
-use Rattle.audit.proofs.Fronts.{front}
+use Rattle.audit.proofs.PartTexts.{front}
 use Rattle.audit.proofs.form_sums.write_form_sums.Given as goal
 
 abbrev pub invariant-loop-number : goal.invariant-loop-number

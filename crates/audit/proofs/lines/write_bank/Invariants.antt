@@ -1,6 +1,6 @@
 use Rattle.std.proofs.Common.{◌≡◌, ◌++◌, true}
 use Rattle.audit.specs.WordLines.{extracode_at, word_line}
-use Rattle.audit.proofs.Fronts.{front}
+use Rattle.audit.proofs.PartTexts.{front}
 use Rattle.audit.proofs.lines.write_bank.Given as goal
 
 abbrev pub invariant-loop-number : goal.invariant-loop-number

@@ -2,7 +2,7 @@ use Rattle.std.proofs.Common.{◌∙◌, refl, arith}
 use Rattle.std.proofs.lemmas.Result.{err_from_is_err_and}
 use Rattle.rope.specs.Places.{bank_words}
 use Rattle.audit.specs.Parities.{wrong_at, wrong_in, parity_line}
-use Rattle.audit.proofs.Listed.{listed_none, writes_listed, begins_listed, count_more, listed_end, count_ends}
+use Rattle.audit.proofs.PlaceLines.{listed_none, writes_listed, begins_listed, count_more, listed_end, count_ends}
 use Rattle.audit.proofs.parities.write_bank.Goals as goal
 
 pub loop-number-init : goal.loop-number-init

@@ -1,7 +1,7 @@
 use Rattle.std.proofs.Common.{◌≡◌, ◌≤◌, ◌++◌, true, length}
 use Rattle.std.specs.List.{flat_map}
 use Rattle.audit.specs.Parities.{wrong_at, parity_line}
-use Rattle.audit.proofs.Fronts.{front}
+use Rattle.audit.proofs.PartTexts.{front}
 use Rattle.audit.proofs.parities.write_bank.Given as goal
 
 abbrev pub invariant-loop-number : goal.invariant-loop-number

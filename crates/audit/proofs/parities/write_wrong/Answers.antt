@@ -2,7 +2,7 @@ use Rattle.std.proofs.Common.{◌∙◌, refl, arith}
 use Rattle.std.proofs.lemmas.Result.{err_from_is_err_and}
 use Rattle.rope.specs.Places.{banks}
 use Rattle.audit.specs.Parities.{wrong_in, wrong, parity_line}
-use Rattle.audit.proofs.Listed.{listed_none, writes_listed, begins_listed, count_more, listed_end, count_ends}
+use Rattle.audit.proofs.PlaceLines.{listed_none, writes_listed, begins_listed, count_more, listed_end, count_ends}
 use Rattle.audit.proofs.parities.write_wrong.Goals as goal
 
 pub loop-bank-init : goal.loop-bank-init

@@ -1,6 +1,6 @@
 use Rattle.std.proofs.Common.{◌≡◌, ◌++◌, true}
 use Rattle.audit.specs.SourceLines.{bank_source}
-use Rattle.audit.proofs.Fronts.{front}
+use Rattle.audit.proofs.PartTexts.{front}
 use Rattle.audit.proofs.source.write_banks.Given as goal
 
 abbrev pub invariant-loop-bank : goal.invariant-loop-bank

@@ -3,7 +3,7 @@ use Rattle.std.proofs.lemmas.Result.{err_from_is_err_and}
 use Rattle.rope.specs.Places.{bank_words}
 use Rattle.words.proofs.Texts.{append-nothing}
 use Rattle.audit.specs.SourceLines.{octal_lines, octal_line}
-use Rattle.audit.proofs.Fronts.{begins_parts, writes_more, front_ends}
+use Rattle.audit.proofs.PartTexts.{begins_parts, writes_more, front_ends}
 use Rattle.audit.proofs.Steps.{extracode_first, extracode_next}
 use Rattle.audit.proofs.source.write_octals.Goals as goal
 

@@ -1,7 +1,7 @@
 use Rattle.std.proofs.Common.{◌≡◌, ◌++◌, true}
 use Rattle.audit.specs.WordLines.{extracode_at}
 use Rattle.audit.specs.SourceLines.{octal_line}
-use Rattle.audit.proofs.Fronts.{front}
+use Rattle.audit.proofs.PartTexts.{front}
 use Rattle.audit.proofs.source.write_octals.Given as goal
 
 abbrev pub invariant-loop-number : goal.invariant-loop-number

@@ -1,6 +1,6 @@
 use Rattle.std.proofs.Common.{◌≡◌, ◌++◌, true}
 use Rattle.audit.specs.Sums.{sum_line}
-use Rattle.audit.proofs.Fronts.{front}
+use Rattle.audit.proofs.PartTexts.{front}
 use Rattle.audit.proofs.sums.write_sums.Given as goal
 
 abbrev pub invariant-loop-bank : goal.invariant-loop-bank

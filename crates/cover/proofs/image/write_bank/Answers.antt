@@ -2,7 +2,7 @@ use Rattle.std.proofs.Common.{◌∙◌, refl, sym, arith}
 use Rattle.std.proofs.lemmas.Result.{err_from_is_err_and}
 use Rattle.rope.specs.Places.{bank_words}
 use Rattle.words.proofs.Texts.{append-nothing}
-use Rattle.audit.proofs.Fronts.{begins_parts, front_ends, writes_more}
+use Rattle.audit.proofs.PartTexts.{begins_parts, front_ends, writes_more}
 use Rattle.audit.proofs.Steps.{extracode_first, extracode_next}
 use Rattle.cover.specs.CoverText.{image_row, image_rows_of}
 use Rattle.cover.specs.Tallies.{figures_at}

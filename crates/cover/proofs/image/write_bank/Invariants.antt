@@ -1,5 +1,5 @@
 use Rattle.std.proofs.Common.{◌≡◌, ◌++◌, true}
-use Rattle.audit.proofs.Fronts.{front}
+use Rattle.audit.proofs.PartTexts.{front}
 use Rattle.audit.specs.WordLines.{extracode_at}
 use Rattle.cover.specs.CoverText.{image_row}
 use Rattle.cover.specs.Tallies.{figures_at}

@@ -1,7 +1,7 @@
 use Rattle.std.proofs.Common.{◌∙◌}
 use Rattle.std.proofs.lemmas.Result.{err_from_is_err_and}
 use Rattle.rope.specs.Places.{banks}
-use Rattle.audit.proofs.Fronts.{begins_parts, writes_more}
+use Rattle.audit.proofs.PartTexts.{begins_parts, writes_more}
 use Rattle.cover.specs.CoverText.{image_rows_of}
 use Rattle.cover.specs.Tallies.{figures_at}
 use Rattle.cover.proofs.image.write_words.Goals as goal

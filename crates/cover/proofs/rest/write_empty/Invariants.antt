@@ -1,5 +1,5 @@
 use Rattle.std.proofs.Common.{◌≡◌, ◌++◌, true}
-use Rattle.audit.proofs.Fronts.{front}
+use Rattle.audit.proofs.PartTexts.{front}
 use Rattle.cover.specs.CoverText.{empty_rows_of}
 use Rattle.cover.specs.Tallies.{figures_at}
 use Rattle.cover.proofs.rest.write_empty.Given as goal

@@ -1,7 +1,7 @@
 use Rattle.std.proofs.Common.{◌∙◌, arith}
 use Rattle.std.proofs.lemmas.Result.{err_from_is_err_and}
 use Rattle.rope.specs.Places.{bank_words}
-use Rattle.audit.proofs.Fronts.{begins_parts, front_ends, writes_more}
+use Rattle.audit.proofs.PartTexts.{begins_parts, front_ends, writes_more}
 use Rattle.cover.specs.CoverText.{empty_row, empty_rows_of}
 use Rattle.cover.specs.Tallies.{figures_at}
 use Rattle.cover.proofs.rest.write_empty_of.Goals as goal

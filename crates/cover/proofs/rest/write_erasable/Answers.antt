@@ -2,7 +2,7 @@ use Rattle.std.proofs.Common.{◌∙◌, arith}
 use Rattle.std.proofs.lemmas.Result.{err_from_is_err_and}
 use Rattle.space.specs.Cells.{erasable_count}
 use Rattle.cover.proofs.Rows.{begins_erasable}
-use Rattle.audit.proofs.Fronts.{front_ends, writes_more}
+use Rattle.audit.proofs.PartTexts.{front_ends, writes_more}
 use Rattle.cover.specs.CoverText.{erasable_row, erasable_rows}
 use Rattle.cover.specs.Tallies.{figures_at}
 use Rattle.cover.proofs.rest.write_erasable.Goals as goal

@@ -1,6 +1,6 @@
 use Rattle.std.proofs.Common.{refl, arith}
 use Rattle.std.specs.FinSet.{contains}
-use Rattle.debugger.proofs.Requested.{one_more}
+use Rattle.debugger.proofs.RequestNumbers.{one_more}
 use Rattle.debugger.proofs.all_registers.push_each_requested.Goals as goal
 
 pub loop-number-preserved : goal.loop-number-preserved

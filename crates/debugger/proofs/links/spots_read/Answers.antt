@@ -3,7 +3,7 @@ use Rattle.cpu.specs.Links.{link}
 use Rattle.cpu.specs.declared.spot.Spot.{Spot}
 use Rattle.debugger.specs.Whys.{with_spots}
 use Rattle.std.proofs.Common.{List}
-use Rattle.debugger.proofs.Chained.{read_more}
+use Rattle.debugger.proofs.ChainText.{read_more}
 use Rattle.debugger.proofs.links.spots_read.Goals as goal
 
 pub loop-cell-preserved : goal.loop-cell-preserved

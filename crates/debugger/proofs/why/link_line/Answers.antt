@@ -1,7 +1,7 @@
 use Rattle.std.proofs.Common.{◌∙◌, refl, ap}
 use Rattle.cpu.specs.Chains.{link_at}
 use Rattle.debugger.specs.Whys.{CellSet, cells_before, step_line}
-use Rattle.debugger.proofs.Chained.{follows_on}
+use Rattle.debugger.proofs.ChainText.{follows_on}
 use Rattle.debugger.proofs.why.link_line.Goals as goal
 
 pub returns-clause-line : goal.returns-clause-line

@@ -1,6 +1,6 @@
 use Rattle.std.proofs.Common.{◌∙◌, ◌∷◌, [], ◌++◌, ap, get_or, arith}
 use Rattle.faults.specs.Report.{margin_byte}
-use Rattle.faults.proofs.Pushed.{grown}
+use Rattle.faults.proofs.GrowingTexts.{grown}
 use Rattle.faults.proofs.findings.push_margin.Goals as goal
 
 pub loop-byte-preserved : goal.loop-byte-preserved

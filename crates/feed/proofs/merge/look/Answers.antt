@@ -4,7 +4,7 @@ use Rattle.feed.specs.Heads.{IsLeastUpTo, head, stands}
 use Rattle.std.specs.Prelude.{sum}
 use Rattle.feed.specs.declared.entry.Entry.{Entry}
 use Rattle.feed.proofs.HeadLaws.{least-first, least-more, least-all}
-use Rattle.feed.proofs.FitTests.{same-set, series-at, AreEndedUpTo, and-left, and-right, ended-first, ended-next, ended-all}
+use Rattle.feed.proofs.CountTests.{same-set, series-at, AreEndedUpTo, and-left, and-right, ended-first, ended-next, ended-all}
 use Rattle.feed.proofs.merge.look.Goals as goal
 use Rattle.feed.proofs.merge.look.Goals.{then-total-taken, else-total-taken}
 

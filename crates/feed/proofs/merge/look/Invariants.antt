@@ -1,6 +1,6 @@
 use Rattle.std.proofs.Common.{◌≡◌, true}
 use Rattle.feed.specs.Heads.{head, IsLeastUpTo}
-use Rattle.feed.proofs.FitTests.{AreEndedUpTo}
+use Rattle.feed.proofs.CountTests.{AreEndedUpTo}
 use Rattle.feed.proofs.merge.look.Given as goal
 
 abbrev pub invariant-loop-index : goal.invariant-loop-index

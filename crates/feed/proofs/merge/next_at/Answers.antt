@@ -2,7 +2,7 @@ use Rattle.std.proofs.Common.{rules, ap, ◌∙◌, ◌<◌, ◌+◌, Option, su
 use Rattle.feed.specs.Heads.{IsLeastUpTo, head}
 use Rattle.feed.specs.declared.entry.Entry.{Entry}
 use Rattle.feed.proofs.HeadLaws.{least-first, least-more, least-all}
-use Rattle.feed.proofs.FitTests.{series-at}
+use Rattle.feed.proofs.CountTests.{series-at}
 use Rattle.feed.proofs.Merging.{next_entry}
 use Rattle.feed.proofs.merge.next_at.Goals as goal
 

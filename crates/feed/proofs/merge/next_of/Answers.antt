@@ -1,5 +1,5 @@
 use Rattle.std.proofs.Common.{sym, ◌∙◌, arith}
-use Rattle.feed.proofs.FitTests.{fits-ended}
+use Rattle.feed.proofs.CountTests.{fits-ended}
 use Rattle.feed.proofs.HeadLaws.{least-series}
 use Rattle.feed.proofs.Merging.{next_entry}
 use Rattle.feed.proofs.merge.next_of.Goals as goal

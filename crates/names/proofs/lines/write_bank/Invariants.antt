@@ -1,7 +1,7 @@
 use Rattle.std.proofs.Common.{◌≡◌, ◌++◌, true}
 use Rattle.audit.specs.WordLines.{extracode_at}
 use Rattle.names.specs.NamedLines.{named_line}
-use Rattle.audit.proofs.Fronts.{front}
+use Rattle.audit.proofs.PartTexts.{front}
 use Rattle.names.proofs.lines.write_bank.Given as goal
 
 abbrev pub invariant-loop-number : goal.invariant-loop-number

@@ -2,7 +2,7 @@ use Rattle.std.proofs.Common.{◌∙◌}
 use Rattle.std.proofs.lemmas.Result.{err_from_is_err_and}
 use Rattle.rope.specs.Places.{banks}
 use Rattle.names.specs.NamedLines.{named_bank_lines}
-use Rattle.audit.proofs.Fronts.{begins_parts, writes_more}
+use Rattle.audit.proofs.PartTexts.{begins_parts, writes_more}
 use Rattle.names.proofs.lines.write_banks.Goals as goal
 
 pub returns-in_err-write_bank-clause-written : goal.returns-in_err-write_bank-clause-written

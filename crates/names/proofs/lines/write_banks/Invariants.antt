@@ -1,6 +1,6 @@
 use Rattle.std.proofs.Common.{◌≡◌, ◌++◌, true}
 use Rattle.names.specs.NamedLines.{named_bank_lines}
-use Rattle.audit.proofs.Fronts.{front}
+use Rattle.audit.proofs.PartTexts.{front}
 use Rattle.names.proofs.lines.write_banks.Given as goal
 
 abbrev pub invariant-loop-bank : goal.invariant-loop-bank

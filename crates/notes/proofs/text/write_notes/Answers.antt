@@ -1,7 +1,7 @@
 use Rattle.std.proofs.Common.{◌≡◌, ◌∙◌, refl, sym, ap, arith}
 use Rattle.std.proofs.lemmas.Result.{err_from_is_err_and}
 use Rattle.words.proofs.Texts.{append-nothing, beginning-longer, Writes-after}
-use Rattle.audit.proofs.Fronts.{begins_parts, front_ends, writes_more}
+use Rattle.audit.proofs.PartTexts.{begins_parts, front_ends, writes_more}
 use Rattle.cpu.specs.Run.{run}
 use Rattle.cpu.proofs.RunLaws.{run-zero}
 use Rattle.cover.proofs.Counting.{few_cycles, fits_after, state_more}

@@ -1,5 +1,5 @@
 use Rattle.std.proofs.Common.{◌≡◌, ◌≤◌, ◌-◌, ◌++◌, true}
-use Rattle.audit.proofs.Fronts.{front}
+use Rattle.audit.proofs.PartTexts.{front}
 use Rattle.cpu.specs.Run.{run}
 use Rattle.notes.specs.Counted.{Left}
 use Rattle.notes.specs.RunNotes.{step_text}

@@ -1,5 +1,5 @@
 use Rattle.std.proofs.Common.{Ok}
-use Rattle.workshop.proofs.Checked.{of_words}
+use Rattle.workshop.proofs.CheckWordsMade.{of_words}
 use Rattle.workshop.proofs.assembly.asm_engine.Goals as goal
 
 pub returns : goal.returns

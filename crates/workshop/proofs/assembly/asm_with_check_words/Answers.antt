@@ -1,6 +1,6 @@
 use Rattle.std.proofs.Common.{Ok, ◌∙◌, inr}
 use Rattle.std.proofs.lemmas.Result.{err_from_is_err_and}
-use Rattle.workshop.proofs.Checked.{of_copy}
+use Rattle.workshop.proofs.CheckWordsMade.{of_copy}
 use Rattle.workshop.proofs.assembly.asm_with_check_words.Goals as goal
 
 pub returns-in_err-write_program : goal.returns-in_err-write_program

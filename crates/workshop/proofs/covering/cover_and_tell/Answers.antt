@@ -1,5 +1,5 @@
 use Rattle.std.proofs.lemmas.Result.{err_from_is_err_and}
-use Rattle.workshop.proofs.Covered.{covers_by}
+use Rattle.workshop.proofs.ProfileWritten.{covers_by}
 use Rattle.workshop.proofs.Telling.{tells_none}
 use Rattle.workshop.proofs.covering.cover_and_tell.Goals as goal
 

@@ -1,5 +1,5 @@
 use Rattle.std.proofs.Common.{Some}
-use Rattle.workshop.proofs.Covered.{no_memory_before}
+use Rattle.workshop.proofs.ProfileWritten.{no_memory_before}
 use Rattle.workshop.proofs.covering.read_named_image.Goals as goal
 
 pub returns-in_default : goal.returns-in_default

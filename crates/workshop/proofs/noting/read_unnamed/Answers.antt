@@ -1,4 +1,4 @@
-use Rattle.workshop.proofs.Noted.{no_memory_before}
+use Rattle.workshop.proofs.NotesWritten.{no_memory_before}
 use Rattle.workshop.proofs.noting.read_unnamed.Goals as goal
 
 pub returns-in_default : goal.returns-in_default

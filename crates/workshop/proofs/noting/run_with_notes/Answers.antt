@@ -1,7 +1,7 @@
 use Rattle.std.proofs.lemmas.Result.{err_from_is_err_and}
 use Rattle.std.proofs.Common.{inl, inr, refl, subst, sym}
 use Rattle.notes.specs.Counted.{Counted}
-use Rattle.workshop.proofs.Noted.{noted_by}
+use Rattle.workshop.proofs.NotesWritten.{noted_by}
 use Rattle.workshop.proofs.Telling.{tells_none}
 use Rattle.workshop.proofs.noting.run_with_notes.Goals as goal
 

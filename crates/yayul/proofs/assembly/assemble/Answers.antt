@@ -2,7 +2,7 @@ use Rattle.std.proofs.lemmas.Result.{err_from_is_err_and}
 use Rattle.agc_text.specs.Lines.{lines}
 use Rattle.yayul.specs.Layout.{start, layout_after}
 use Rattle.yayul.specs.Program.{program, finished}
-use Rattle.yayul.proofs.Completed.{program_ok, program_err, answers_same}
+use Rattle.yayul.proofs.WholeSource.{program_ok, program_err, answers_same}
 use Rattle.yayul.proofs.assembly.assemble.Goals as goal
 
 pub returns : goal.returns

@@ -1,7 +1,7 @@
 use Rattle.std.proofs.Common.{arith}
 use Rattle.std.proofs.lemmas.List.{drop_all}
 use Rattle.std.proofs.lemmas.Result.{err_from_is_err_and}
-use Rattle.yayul.proofs.Fronts.{front-fails, front-ends, rows-more, rows-no_marks, from_one}
+use Rattle.yayul.proofs.RowTexts.{front-fails, front-ends, rows-more, rows-no_marks, from_one}
 use Rattle.yayul.proofs.listing.write_rows.Goals as goal
 
 pub returns-in_err-write_line-clause-written : goal.returns-in_err-write_line-clause-written

@@ -1,7 +1,7 @@
 use Rattle.std.proofs.Common.{◌≡◌, ◌+◌, true, drop, map}
 use Rattle.agc_text.specs.Lines.{lines}
 use Rattle.yayul.specs.Inside.Representation.{shown_by_mark, rows_of}
-use Rattle.yayul.proofs.Fronts.{IsFront}
+use Rattle.yayul.proofs.RowTexts.{IsFront}
 use Rattle.yayul.proofs.listing.write_rows.Given as goal
 
 abbrev pub invariant-loop-mark : goal.invariant-loop-mark

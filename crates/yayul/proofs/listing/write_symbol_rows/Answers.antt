@@ -1,7 +1,7 @@
 use Rattle.std.proofs.Common.{◌∙◌, sym}
 use Rattle.std.proofs.lemmas.Result.{err_from_is_err_and}
 use Rattle.yayul.specs.Listing.{symbol_row}
-use Rattle.yayul.proofs.Fronts.{front-more, front-fails, texts_from}
+use Rattle.yayul.proofs.RowTexts.{front-more, front-fails, texts_from}
 use Rattle.yayul.proofs.listing.write_symbol_rows.Goals as goal
 
 pub returns-in_err-write_all-clause-written : goal.returns-in_err-write_all-clause-written

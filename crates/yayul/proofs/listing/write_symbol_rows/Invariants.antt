@@ -1,7 +1,7 @@
 use Rattle.std.proofs.Common.{◌≡◌, true, drop}
 use Rattle.std.specs.List.{flat_map}
 use Rattle.yayul.specs.Listing.{symbol_row}
-use Rattle.yayul.proofs.Fronts.{IsFront}
+use Rattle.yayul.proofs.RowTexts.{IsFront}
 use Rattle.yayul.proofs.listing.write_symbol_rows.Given as goal
 
 abbrev pub invariant-loop-index : goal.invariant-loop-index

@@ -3,7 +3,7 @@ use Rattle.agc_text.specs.Lines.{lines}
 use Rattle.yayul.specs.Flight.{most_lines}
 use Rattle.yayul.specs.Survey.{passed_line, passed_lines}
 use Rattle.yayul.specs.Inside.Surveys.{Surveys}
-use Rattle.yayul.proofs.Surveyed.{none_left, take_none, lines_passed}
+use Rattle.yayul.proofs.SurveyByLine.{none_left, take_none, lines_passed}
 use Rattle.yayul.proofs.survey.passed_lines.Goals as goal
 
 pub returns-then-line-most_lines-clause-passed : goal.returns-then-line-most_lines-clause-passed

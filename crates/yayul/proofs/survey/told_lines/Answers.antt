@@ -2,7 +2,7 @@ use Rattle.std.proofs.Common.{◌∙◌, ◌++◌, ◌+◌, ◌-◌, ap, sym, ar
 use Rattle.agc_text.specs.Lines.{lines}
 use Rattle.yayul.specs.Flight.{most_lines}
 use Rattle.yayul.specs.Survey.{unmarked, passed_line, passed_lines, settled_survey, told_lines, looked_at}
-use Rattle.yayul.proofs.Surveyed.{none_left, take_none, lines_told}
+use Rattle.yayul.proofs.SurveyByLine.{none_left, take_none, lines_told}
 use Rattle.yayul.proofs.survey.told_lines.Goals as goal
 
 pub returns-then-line-most_lines-clause-told : goal.returns-then-line-most_lines-clause-told

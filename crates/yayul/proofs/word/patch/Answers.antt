@@ -4,7 +4,7 @@ use Rattle.yayul.specs.Layout.{width, standing}
 use Rattle.yayul.specs.Words.{extracode_of, extracode_fault, request_faults}
 use Rattle.yayul.specs.Inside.Answers.{least_kind}
 use Rattle.yayul.specs.Inside.Representation.{request_of, words_in}
-use Rattle.yayul.proofs.Standing.{width-words}
+use Rattle.yayul.proofs.WordsWhileWaiting.{width-words}
 use Rattle.yayul.proofs.word.patch.Goals as goal
 
 -- as many words as the request asks for

@@ -1,5 +1,5 @@
 use Rattle.std.proofs.Common.{refl}
-use Rattle.commands.specs.declared.extended.ExtendedRequest.TheVariants.{AllRegisters}
+use Rattle.commands.specs.declared.extended.ExtendedLine.TheVariants.{AllRegisters}
 use Rattle.debugger.specs.ExtendedReplies.{extended_reply}
 use Rattle.debugger.proofs.Looking.{asked_text}
 use Rattle.debugger.proofs.desk.Desk.all_registers.Goals as goal

@@ -3,13 +3,13 @@ use Rattle.symbols.specs.Values.{SymbolTable}
 use Rattle.debugger.specs.Terms.{Terms}
 use Rattle.debugger.specs.Inputs.{inputs_text}
 use Rattle.debugger.specs.ExtendedReplies.{extended_reply}
-use Rattle.commands.specs.declared.extended.ExtendedRequest.TheVariants.{Plain, Common, WhyStep, Why, Words, Where, Find, Trace, Inputs}
+use Rattle.commands.specs.declared.extended.ExtendedLine.TheVariants.{Plain, Common, WhyStep, Why, Words, Where, Find, Trace, Inputs}
 use Rattle.debugger.specs.Conversation.{to_asked}
 use Rattle.debugger.specs.History.{history}
 use Rattle.debugger.specs.Standing.{words_text, where_text, found_text}
 use Rattle.debugger.specs.Retracing.{traced_text}
 use Rattle.debugger.specs.Whys.{why_text, last_text, subject_spots}
-use Rattle.commands.specs.declared.command.Request.TheVariants.{Known}
+use Rattle.commands.specs.declared.command.ParsedLine.TheVariants.{Known}
 use Rattle.debugger.specs.declared.manner.Manner.TheVariants as manner
 use Rattle.debugger.specs.Executions.{to_request}
 use Rattle.debugger.specs.Replies.{answer}

@@ -1,6 +1,6 @@
 use Rattle.std.proofs.Common.{◌≡◌, true, ltb, refl}
 use Rattle.commands.specs.declared.command.Command.TheVariants.{Changed}
-use Rattle.commands.specs.declared.command.Request.TheVariants.{Known}
+use Rattle.commands.specs.declared.command.ParsedLine.TheVariants.{Known}
 use Rattle.debugger.specs.Replies.{answer, reply}
 use Rattle.debugger.proofs.Looking.{brings_text, changed_since, looked_at, is_later}
 use Rattle.debugger.proofs.desk.Desk.changed.Goals as goal

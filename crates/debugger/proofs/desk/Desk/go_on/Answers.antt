@@ -1,5 +1,5 @@
 use Rattle.std.proofs.Common.{◌≡◌, ◌∙◌, None, Some, refl, sym}
-use Rattle.commands.specs.declared.extended.ExtendedRequest.TheVariants.{On}
+use Rattle.commands.specs.declared.extended.ExtendedLine.TheVariants.{On}
 use Rattle.debugger.specs.History.{history}
 use Rattle.debugger.specs.ExtendedReplies.{extended_reply, next_stop}
 use Rattle.debugger.specs.Conversation.{to_asked}

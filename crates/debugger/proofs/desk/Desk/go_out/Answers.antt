@@ -1,6 +1,6 @@
 use Rattle.std.proofs.Common.{◌≡◌, ◌∙◌, None, Some, refl, sym}
 use Rattle.cpu.specs.Run.{run}
-use Rattle.commands.specs.declared.extended.ExtendedRequest.TheVariants.{Out}
+use Rattle.commands.specs.declared.extended.ExtendedLine.TheVariants.{Out}
 use Rattle.debugger.specs.ExtendedReplies.{extended_reply}
 use Rattle.debugger.specs.Routines.{out_end, routines}
 use Rattle.debugger.specs.Conversation.{to_asked}

@@ -1,6 +1,6 @@
 use Rattle.std.proofs.Common.{◌∙◌, refl, sym}
 use Rattle.cpu.specs.Run.{run}
-use Rattle.commands.specs.declared.extended.ExtendedRequest.TheVariants.{Over}
+use Rattle.commands.specs.declared.extended.ExtendedLine.TheVariants.{Over}
 use Rattle.debugger.specs.ExtendedReplies.{extended_reply}
 use Rattle.debugger.specs.Routines.{over_end}
 use Rattle.debugger.specs.Conversation.{to_asked}

@@ -1,6 +1,6 @@
 use Rattle.std.proofs.Common.{◌≡◌, ◌≤◌, true, false, ltb, refl}
 use Rattle.commands.specs.declared.command.Command.TheVariants.{Goto}
-use Rattle.commands.specs.declared.command.Request.TheVariants.{Known}
+use Rattle.commands.specs.declared.command.ParsedLine.TheVariants.{Known}
 use Rattle.debugger.specs.History.{history}
 use Rattle.debugger.specs.Replies.{answer, reply}
 use Rattle.debugger.proofs.Looking.{brings_text, not_later, is_later}

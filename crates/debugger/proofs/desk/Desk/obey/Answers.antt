@@ -1,5 +1,5 @@
 use Rattle.std.proofs.Common.{ap, refl}
-use Rattle.commands.specs.declared.command.Request.TheVariants.{Known}
+use Rattle.commands.specs.declared.command.ParsedLine.TheVariants.{Known}
 use Rattle.debugger.specs.History.{history}
 use Rattle.debugger.specs.Replies.{answer, reply}
 use Rattle.debugger.proofs.WholeReplies.{executes-text, executes-adding, executes-nothing}

@@ -1,6 +1,6 @@
 use Rattle.std.proofs.Common.{◌≡◌, ◌∙◌, List, Some, None, refl, sym, ap}
 use Rattle.commands.specs.declared.command.Command.TheVariants.{Seek}
-use Rattle.commands.specs.declared.command.Request.TheVariants.{Known}
+use Rattle.commands.specs.declared.command.ParsedLine.TheVariants.{Known}
 use Rattle.debugger.specs.History.{history, sight}
 use Rattle.cpu.specs.Run.{run}
 use Rattle.cpu.specs.State.{State}

@@ -1,7 +1,7 @@
 use Rattle.std.proofs.Common.{◌≡◌, ◌∙◌, ◌+◌, ◌-◌, [], min, refl, arith}
 use Rattle.std.proofs.lemmas.Result.{err_from_is_err_and}
 use Rattle.commands.specs.declared.command.Command.TheVariants.{Step}
-use Rattle.commands.specs.declared.command.Request.TheVariants.{Known}
+use Rattle.commands.specs.declared.command.ParsedLine.TheVariants.{Known}
 use Rattle.debugger.specs.Replies.{answer, reply, ending_line}
 use Rattle.debugger.specs.Executions.{to_request}
 use Rattle.debugger.proofs.Stepping.{steps-broken, steps-told}

@@ -1,5 +1,5 @@
 use Rattle.std.proofs.Common.{◌≡◌, ◌∙◌, None, Some, refl, sym}
-use Rattle.commands.specs.declared.extended.ExtendedRequest.TheVariants.{Until}
+use Rattle.commands.specs.declared.extended.ExtendedLine.TheVariants.{Until}
 use Rattle.debugger.specs.History.{history}
 use Rattle.debugger.specs.ExtendedReplies.{extended_reply, first_at}
 use Rattle.debugger.specs.Conversation.{to_asked}

@@ -5,7 +5,7 @@ use Rattle.cpu.specs.Chains.{cells_among, before_step}
 use Rattle.replay.specs.View.{SessionView}
 use Rattle.replay.specs.Whys.{last_writer}
 use Rattle.debugger.specs.Whys.{CellSet, cells_of, end_text, link_line}
-use Rattle.debugger.proofs.Told.{told_all, told_short, told_more, told_part, cost_more}
+use Rattle.debugger.proofs.WhyLines.{told_all, told_short, told_more, told_part, cost_more}
 use Rattle.debugger.proofs.desk.Desk.why.Goals as goal
 
 pub returns-in_default-clause-writes : goal.returns-in_default-clause-writes

@@ -2,7 +2,7 @@ use Rattle.std.proofs.Common.{ℕ, ◌-◌, ◌++◌, ◌∙◌, true, List, ap,
 use Rattle.cpu.specs.State.{Scenario}
 use Rattle.cpu.specs.Chains.{cells_among, before_step}
 use Rattle.debugger.specs.Whys.{CellSet, cells_of, end_from, end_text, link_line, target_spots}
-use Rattle.debugger.proofs.Told.{two_parts, last_lines}
+use Rattle.debugger.proofs.WhyLines.{two_parts, last_lines}
 use Rattle.debugger.proofs.desk.Desk.why_step.Goals as goal
 
 pub returns-clause-writes : goal.returns-clause-writes

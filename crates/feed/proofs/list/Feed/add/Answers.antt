@@ -1,12 +1,12 @@
 use Rattle.std.proofs.Common.{◌≡◌, None, length, map, ap, subst, sym, arith, List}
 use Rattle.feed.specs.Added.{AddsLast}
-use Rattle.feed.specs.Fits.{number_from}
+use Rattle.feed.specs.CountsTaken.{number_from}
 use Rattle.feed.specs.Kept.{IsPlaceOf}
 use Rattle.feed.specs.Order.{IsInOrder}
 use Rattle.feed.specs.Merged.{merged, plain_entry}
 use Rattle.feed.specs.declared.entry.Entry.{Entry}
 use Rattle.feed.specs.declared.entry.Plain.{Plain}
-use Rattle.feed.proofs.FitLaws.{fits-adds}
+use Rattle.feed.proofs.CountLaws.{fits-adds}
 use Rattle.feed.proofs.DueLaws.{due-adds}
 use Rattle.feed.proofs.AddLaws.{gathered-adds, feed-added, number-plain}
 use Rattle.feed.proofs.GrowLaws.{inputs-of}

@@ -1,7 +1,7 @@
 use Rattle.std.proofs.Common.{sym, ◌∙◌}
 use Rattle.std.proofs.Common.{◌<◌, arith, subst, Option, IfSome, ℕ}
 use Rattle.feed.specs.declared.input.Input.{Input}
-use Rattle.feed.proofs.FitLaws.{counts-small, given-room, given-series}
+use Rattle.feed.proofs.CountLaws.{counts-small, given-room, given-series}
 use Rattle.feed.proofs.DueLaws.{due-at}
 use Rattle.feed.proofs.list.Feed.due.Goals as goal
 

@@ -1,5 +1,5 @@
 use Rattle.std.proofs.Common.{◌≡◌, ◌∙◌, sym, ap, None, filter, map, List}
-use Rattle.feed.specs.Fits.{is_from}
+use Rattle.feed.specs.CountsTaken.{is_from}
 use Rattle.feed.specs.Merged.{plain_entry}
 use Rattle.feed.specs.declared.entry.Plain.{Plain}
 use Rattle.feed.proofs.SourceLaws.{source-merged}

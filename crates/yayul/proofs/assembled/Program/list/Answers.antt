@@ -6,7 +6,7 @@ use Rattle.words.proofs.Texts.{Writes-after, beginning-longer}
 use Rattle.yayul.specs.Layout.{start}
 use Rattle.yayul.specs.Listing.{listing, no_margin, rows, symbol_row, symbols_head}
 use Rattle.yayul.specs.Inside.Representation.{shown_by_mark, rows_of}
-use Rattle.yayul.proofs.Fronts.{rows-shown}
+use Rattle.yayul.proofs.RowTexts.{rows-shown}
 use Rattle.yayul.proofs.assembled.Program.list.Goals as goal
 
 pub returns-clause-written : goal.returns-clause-written

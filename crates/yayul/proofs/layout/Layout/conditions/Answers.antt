@@ -1,6 +1,6 @@
 use Rattle.std.proofs.Common.{◌∙◌, ap}
 use Rattle.yayul.specs.Layout.{Layout, equals}
-use Rattle.yayul.proofs.Lifted.{equals_lifts}
+use Rattle.yayul.proofs.PlainLines.{equals_lifts}
 use Rattle.yayul.proofs.layout.Layout.conditions.Goals as goal
 
 pub returns-in-Equals : goal.returns-in-Equals

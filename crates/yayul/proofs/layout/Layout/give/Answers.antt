@@ -1,7 +1,7 @@
 use Rattle.std.proofs.Common.{◌≡◌, ◌∙◌, ap, refl, sym}
 use Rattle.yayul.specs.Layout.{label_faults, standing, width}
 use Rattle.yayul.specs.Inside.Answers.{layout_of, least_kind, tested_faults, words_faults}
-use Rattle.yayul.proofs.Agreed.{agreed_gives_fault, agreed_asks}
+use Rattle.yayul.proofs.LineAgrees.{agreed_gives_fault, agreed_asks}
 use Rattle.yayul.proofs.Labels.{least_beside, none_beside}
 use Rattle.yayul.proofs.layout.Layout.give.Goals as goal
 

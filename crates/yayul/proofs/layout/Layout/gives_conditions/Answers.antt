@@ -1,5 +1,5 @@
 use Rattle.std.proofs.Common.{◌∙◌}
-use Rattle.yayul.proofs.Agreed.{tested}
+use Rattle.yayul.proofs.LineAgrees.{tested}
 use Rattle.yayul.proofs.layout.Layout.gives_conditions.Goals as goal
 
 pub returns-in-Some : goal.returns-in-Some

@@ -1,4 +1,4 @@
-use Rattle.yayul.proofs.Agreed.{agreed_alone, agreed_setloc, agreed_bank, agreed_erase, agreed_equals, agreed_ebank}
+use Rattle.yayul.proofs.LineAgrees.{agreed_alone, agreed_setloc, agreed_bank, agreed_erase, agreed_equals, agreed_ebank}
 use Rattle.yayul.proofs.layout.Layout.operation.Goals as goal
 
 pub returns-in-Nothing : goal.returns-in-Nothing

@@ -4,9 +4,9 @@ use Rattle.yayul.specs.Layout.{Request}
 use Rattle.yayul.specs.Words.{word_faults}
 use Rattle.yayul.specs.Inside.Representation.{request_of}
 use Rattle.yayul.specs.Inside.Waiting.{Holds}
-use Rattle.yayul.proofs.Ended.{holds-end, none-least}
-use Rattle.yayul.proofs.Fronts.{from_one}
-use Rattle.yayul.proofs.Patched.{holds-patched, stands-waiting, within-waiting}
+use Rattle.yayul.proofs.NoneWaits.{holds-end, none-least}
+use Rattle.yayul.proofs.RowTexts.{from_one}
+use Rattle.yayul.proofs.PatchedRequest.{holds-patched, stands-waiting, within-waiting}
 use Rattle.yayul.proofs.layout.Placing.complete.Goals as goal
 use Rattle.yayul.proofs.layout.Placing.complete.Given.{Over}
 

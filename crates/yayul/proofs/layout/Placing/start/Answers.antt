@@ -1,8 +1,8 @@
 use Rattle.std.proofs.Common.{◌≤◌, [], map, replicate, refl, sym, ap, subst, arith}
 use Rattle.rope.specs.Places.{bank_words}
 use Rattle.yayul.specs.Inside.Representation.{request_of}
-use Rattle.yayul.proofs.Ends.{ends-none, zeros}
-use Rattle.yayul.proofs.Kept.{holds-start, known-start}
+use Rattle.yayul.proofs.BankEnds.{ends-none, zeros}
+use Rattle.yayul.proofs.HoldsByLine.{holds-start, known-start}
 use Rattle.yayul.proofs.layout.Placing.start.Goals as goal
 
 pub invariant_of-result : goal.invariant_of-result

@@ -3,7 +3,7 @@ use Rattle.std.specs.Result.{result_unwrap_or}
 use Rattle.rope.specs.Places.{stands}
 use Rattle.yayul.specs.Layout.{width}
 use Rattle.yayul.specs.Inside.Representation.{request_of, words_in}
-use Rattle.yayul.proofs.Standing.{made-width}
+use Rattle.yayul.proofs.WordsWhileWaiting.{made-width}
 use Rattle.yayul.proofs.layout.Placing.take.Goals as goal
 
 -- as many words as the request asks for

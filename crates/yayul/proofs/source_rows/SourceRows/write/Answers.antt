@@ -3,7 +3,7 @@ use Rattle.agc_text.specs.Lines.{lines}
 use Rattle.yayul.specs.Layout.{start}
 use Rattle.yayul.specs.Listing.{rows}
 use Rattle.yayul.specs.Inside.Representation.{shown_by_mark, rows_of}
-use Rattle.yayul.proofs.Fronts.{rows-shown}
+use Rattle.yayul.proofs.RowTexts.{rows-shown}
 use Rattle.yayul.proofs.source_rows.SourceRows.write.Goals as goal
 
 pub returns-clause-written : goal.returns-clause-written

@@ -1,9 +1,9 @@
 use Rattle.std.proofs.Common.{◌||◌, refl, ap, sym, ◌∙◌}
 use Rattle.yayul.specs.Layout.{standing}
 use Rattle.yayul.specs.Survey.{some_stands, known_after}
-use Rattle.yayul.proofs.Displaced.{displaced_among}
+use Rattle.yayul.proofs.FaultOrder.{displaced_among}
 use Rattle.yayul.proofs.Lines.{said_on}
-use Rattle.yayul.proofs.Surveyed.{passed_refused, passed_laid, on_ok}
+use Rattle.yayul.proofs.SurveyByLine.{passed_refused, passed_laid, on_ok}
 use Rattle.yayul.proofs.survey.Survey.pass.Goals as goal
 
 pub returns-then-refused-clause-leads : goal.returns-then-refused-clause-leads

@@ -3,7 +3,7 @@ use Rattle.yayul.specs.Layout.{Promise}
 use Rattle.yayul.specs.Later.{Table, settled}
 use Rattle.yayul.specs.Inside.Answers.{layout_of}
 use Rattle.yayul.specs.Inside.Representation.{promise_of}
-use Rattle.yayul.proofs.Surveyed.{settled_stands}
+use Rattle.yayul.proofs.SurveyByLine.{settled_stands}
 use Rattle.yayul.proofs.survey.Survey.settle.Goals as goal
 
 pub returns-in-Ok-clause-settled : goal.returns-in-Ok-clause-settled

@@ -1,5 +1,5 @@
 use Rattle.yayul.proofs.Lines.{said_on}
-use Rattle.yayul.proofs.Surveyed.{line_told, told_on}
+use Rattle.yayul.proofs.SurveyByLine.{line_told, told_on}
 use Rattle.yayul.proofs.survey.Survey.tell.Goals as goal
 
 pub returns : goal.returns
