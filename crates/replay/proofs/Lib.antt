@@ -12,6 +12,8 @@ pub mod FloorlogLemmas
 pub mod StayingLemmas
 pub mod EntryLemmas
 pub mod WatchedLemmas
+pub mod WalkedLemmas
+pub mod FoundLemmas
 pub mod SettlingLemmas
 pub mod AdvanceLemmas
 pub mod StridingLemmas

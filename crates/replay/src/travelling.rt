@@ -6,22 +6,22 @@ ghost use Rattle.cpu.specs.Run.{run};
 ghost use Rattle.replay.specs.Images.{steps};
 ghost use Rattle.replay.specs.Spacing.{AreStaying};
 ghost use Rattle.replay.specs.View.{AreOfRun, counted_by};
-ghost use Rattle.replay.specs.Watched.{Watched};
+ghost use Rattle.replay.specs.Walked.{Walked};
 
 use crate::keeper::Keeper;
 use crate::settling::{keep_sure, settle, thin_up_to};
-use crate::watching::{Watcher, walk};
+use crate::watching::{Stepper, walk};
 use cpu::{Machine, Processor};
 
 /// Some steps: the image of the first is kept, and once the last is reached the steps are gone once more for the images that
 /// stay there.
-fn leap<K: Keeper, W: Watcher>(
+fn leap<K: Keeper, S: Stepper>(
     processor: &mut Processor,
     keeper: &mut K,
     machine: &mut Machine,
     low: u64,
     high: u64,
-    watcher: &mut W,
+    stepper: &mut S,
 ) -> (u64, bool)
     requires sure { K.may_refuse ≡ false }
     requires order { low < high }
@@ -34,7 +34,7 @@ fn leap<K: Keeper, W: Watcher>(
     ensures within { result.0 ≤ high }
     ensures all { result.1 ≡ false → result.0 ≡ high }
     ensures machine { machine.new ≡ run processor.old.scenario result.0 }
-    ensures watched { Watched W.sees processor.old.scenario low result.0 result.1 watcher.old watcher.new }
+    ensures walked { Walked S.sees processor.old.scenario low result.0 result.1 stepper.old stepper.new }
     ensures staying { AreStaying result.0 result.0 (steps (K.images keeper.new)) }
     ensures of_run { AreOfRun processor.old.scenario (K.images keeper.new) }
     ensures scenario { processor.new.scenario ≡ processor.old.scenario }
@@ -43,7 +43,7 @@ fn leap<K: Keeper, W: Watcher>(
     ensures most { processor.new.meter + 2 * low ≤ processor.old.meter + 2 * result.0 }
 {
     keep_sure(keeper, low, machine);
-    let (end, ended) = walk(processor, machine, low, high, watcher);
+    let (end, ended) = walk(processor, machine, low, high, stepper);
     settle(processor, keeper, low, end, machine);
     (end, ended)
 }
@@ -53,13 +53,13 @@ const STRIDE: u64 = 1 << 14;
 
 /// Many steps from a multiple of the stride on: images are kept at its multiples alone, and once the last step is reached two
 /// to three strides are gone once more for the images that stay there.
-fn stride_on<K: Keeper, W: Watcher>(
+fn stride_on<K: Keeper, S: Stepper>(
     processor: &mut Processor,
     keeper: &mut K,
     machine: &mut Machine,
     low: u64,
     high: u64,
-    watcher: &mut W,
+    stepper: &mut S,
 ) -> (u64, bool)
     requires grid { 2 ^ 14 ∣ low }
     requires sure { K.may_refuse ≡ false }
@@ -73,7 +73,7 @@ fn stride_on<K: Keeper, W: Watcher>(
     ensures within { result.0 ≤ high }
     ensures all { result.1 ≡ false → result.0 ≡ high }
     ensures machine { machine.new ≡ run processor.old.scenario result.0 }
-    ensures watched { Watched W.sees processor.old.scenario low result.0 result.1 watcher.old watcher.new }
+    ensures walked { Walked S.sees processor.old.scenario low result.0 result.1 stepper.old stepper.new }
     ensures staying { AreStaying result.0 result.0 (steps (K.images keeper.new)) }
     ensures of_run { AreOfRun processor.old.scenario (K.images keeper.new) }
     ensures scenario { processor.new.scenario ≡ processor.old.scenario }
@@ -86,7 +86,7 @@ fn stride_on<K: Keeper, W: Watcher>(
     let mut ended = false;
     while at < high && !ended {
         keep_sure(keeper, at, machine);
-        let (end, is_ended) = walk(processor, machine, at, high.min(at + STRIDE), watcher);
+        let (end, is_ended) = walk(processor, machine, at, high.min(at + STRIDE), stepper);
         thin_up_to(keeper, at, end);
         at = end;
         ended = is_ended;
@@ -97,13 +97,13 @@ fn stride_on<K: Keeper, W: Watcher>(
 }
 
 /// Many steps: up to a multiple of the stride, and then stride after stride.
-pub(crate) fn travel<K: Keeper, W: Watcher>(
+pub(crate) fn travel<K: Keeper, S: Stepper>(
     processor: &mut Processor,
     keeper: &mut K,
     machine: &mut Machine,
     low: u64,
     high: u64,
-    watcher: &mut W,
+    stepper: &mut S,
 ) -> (u64, bool)
     requires sure { K.may_refuse ≡ false }
     requires order { low < high }
@@ -116,7 +116,7 @@ pub(crate) fn travel<K: Keeper, W: Watcher>(
     ensures within { result.0 ≤ high }
     ensures all { result.1 ≡ false → result.0 ≡ high }
     ensures machine { machine.new ≡ run processor.old.scenario result.0 }
-    ensures watched { Watched W.sees processor.old.scenario low result.0 result.1 watcher.old watcher.new }
+    ensures walked { Walked S.sees processor.old.scenario low result.0 result.1 stepper.old stepper.new }
     ensures staying { AreStaying result.0 result.0 (steps (K.images keeper.new)) }
     ensures of_run { AreOfRun processor.old.scenario (K.images keeper.new) }
     ensures scenario { processor.new.scenario ≡ processor.old.scenario }
@@ -127,12 +127,12 @@ pub(crate) fn travel<K: Keeper, W: Watcher>(
 {
     let past = low % STRIDE;
     if past == 0 {
-        return stride_on(processor, keeper, machine, low, high, watcher);
+        return stride_on(processor, keeper, machine, low, high, stepper);
     }
     let first = high.min(low + (STRIDE - past));
-    let (end, ended) = leap(processor, keeper, machine, low, first, watcher);
+    let (end, ended) = leap(processor, keeper, machine, low, first, stepper);
     if ended || end == high {
         return (end, ended);
     }
-    stride_on(processor, keeper, machine, end, high, watcher)
+    stride_on(processor, keeper, machine, end, high, stepper)
 }

@@ -4,11 +4,11 @@ use Rattle.replay.specs.Images.{steps}
 use Rattle.replay.proofs.ImageLemmas.{All-from_steps}
 use Rattle.replay.proofs.SettlingLemmas.{of_run_kept, of_run_part}
 use Rattle.replay.proofs.StridingLemmas.{IsBase, is_base, grid_starts, room_on_grid, steps_with, first_on_grid, first_with, grid_on, next_on_grid, base_kept, base_full}
-use Rattle.replay.proofs.WatchedLemmas.{watched_none, watched_joined}
+use Rattle.replay.proofs.WalkedLemmas.{walked_none, walked_joined}
 use Rattle.replay.proofs.travelling.stride_on.Goals as goal
 use Rattle.replay.proofs.travelling.stride_on.Goals.{then-loop-at-test+else-not-ended, else-loop-at-test}
 use Rattle.std.specs.Prelude.{max}
-use Rattle.replay.specs.Watched.{Watched}
+use Rattle.replay.specs.Walked.{Walked}
 
 pub loop-at-init : goal.loop-at-init
 loop-at-init g c = record {
@@ -19,7 +19,7 @@ loop-at-init g c = record {
   machine = c.requires.stands;
   kept = grid_starts c.args.low (steps (g.K.Keeper.images c.args.keeper.now)) c.requires.staying;
   of_run = c.requires.of_run;
-  watched = watched_none g.W.Watcher.sees c.args.processor.now.scenario c.args.low c.args.watcher.now;
+  walked = walked_none g.S.Stepper.sees c.args.processor.now.scenario c.args.low c.args.stepper.now;
   scenario = refl;
   metered = c.requires.metered;
   least = omega arith;
@@ -62,8 +62,8 @@ loop-at-preserved g c =
     let not_ended : c.loop-at.ended ≡ false = c.if-not-ended.true in
     let on_grid : 2 ^ 14 ∣ at = kept.grid c.loop-at-test.true not_ended in
     let near : end ≤ at + 2 ^ 14 = omega (arith, told.within, c.min.ensures) in
-    let watched_before : Watched g.W.Watcher.sees p low at false c.args.watcher.now c.loop-at.watcher = rw not_ended at kept.watched in
-    let watched_after : Watched g.W.Watcher.sees p at end c.walk-end.result.1 c.loop-at.watcher c.walk-end.new.watcher = rw kept.scenario at told.watched in
+    let walked_before : Walked g.S.Stepper.sees p low at false c.args.stepper.now c.loop-at.stepper = rw not_ended at kept.walked in
+    let walked_after : Walked g.S.Stepper.sees p at end c.walk-end.result.1 c.loop-at.stepper c.walk-end.new.stepper = rw kept.scenario at told.walked in
     let of_run = of_run_kept p at (images c.loop-at.keeper) (images c.keep_sure.new.keeper) c.loop-at.machine kept.of_run kept.machine c.keep_sure.ensures in
     record {
       from = omega (arith, kept.from, told.past);
@@ -74,7 +74,7 @@ loop-at-preserved g c =
       kept = grid_on low at end (steps (images c.loop-at.keeper)) (steps (images c.keep_sure.new.keeper)) (steps (images c.thin_up_to.new.keeper)) kept.from told.past near on_grid kept.kept
           (steps_with (images c.loop-at.keeper) (images c.keep_sure.new.keeper) at c.loop-at.machine c.keep_sure.ensures) c.thin_up_to.ensures.stay;
       of_run = of_run_part p (images c.keep_sure.new.keeper) (images c.thin_up_to.new.keeper) of_run c.thin_up_to.ensures.part;
-      watched = watched_joined g.W.Watcher.sees p low at end c.walk-end.result.1 c.args.watcher.now c.loop-at.watcher c.walk-end.new.watcher watched_before watched_after;
+      walked = walked_joined g.S.Stepper.sees p low at end c.walk-end.result.1 c.args.stepper.now c.loop-at.stepper c.walk-end.new.stepper walked_before walked_after;
       scenario = told.scenario ∙ kept.scenario;
       metered = told.metered;
       least = omega (arith, kept.least, told.least, kept.from, told.past);

@@ -3,7 +3,7 @@ use Rattle.std.proofs.Common.{◌≡◌, ◌+◌, ◌-◌, ◌^◌, ◌<◌, ◌
 use Rattle.cpu.specs.Run.{run}
 use Rattle.replay.specs.Images.{steps}
 use Rattle.replay.specs.View.{AreOfRun, counted_by}
-use Rattle.replay.specs.Watched.{Watched}
+use Rattle.replay.specs.Walked.{Walked}
 use Rattle.replay.proofs.StridingLemmas.{AreOnGrid}
 use Rattle.replay.proofs.travelling.stride_on.Given as goal
 
@@ -18,7 +18,7 @@ invariant-loop-at g l =
       machine : l.machine ≡ run p l.at;
       kept : AreOnGrid l.low l.at (steps (g.K.Keeper.images l.keeper));
       of_run : AreOfRun p (g.K.Keeper.images l.keeper);
-      watched : Watched g.W.Watcher.sees p l.low l.at l.ended l.fn.watcher l.watcher;
+      walked : Walked g.S.Stepper.sees p l.low l.at l.ended l.fn.stepper l.stepper;
       scenario : l.processor.scenario ≡ p;
       metered : l.processor.meter < 2 ^ 128;
       least : counted_by (l.at - l.low) l.fn.processor.meter ≤ l.processor.meter;

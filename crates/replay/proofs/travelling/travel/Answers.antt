@@ -2,8 +2,8 @@ use Rattle.std.proofs.Common.{◌≡◌, ◌<◌, ◌+◌, ◌*◌, ◌/◌, ◌
 use Rattle.std.proofs.Math.Nat.{div-add-mod, dvd-mul_left}
 use Rattle.std.proofs.lemmas.Nat.{mod_below}
 use Rattle.std.proofs.lemmas.Nat.Gcd.{dvd_of_mod-eq-zero}
-use Rattle.replay.specs.Watched.{Watched}
-use Rattle.replay.proofs.WatchedLemmas.{watched_joined}
+use Rattle.replay.specs.Walked.{Walked}
+use Rattle.replay.proofs.WalkedLemmas.{walked_joined}
 use Rattle.replay.proofs.travelling.travel.Goals as goal
 
 pub stride_on-requires-clause-grid : goal.stride_on-requires-clause-grid
@@ -19,9 +19,9 @@ stride_on-requires-2-clause-grid g c =
     let e : end ≡ (low / 16384 + 1) * 16384 = omega (arith, all, c.min-first.ensures, c.if-end-high.false, whole, rest) in
     rw e (dvd-mul_left 16384 (low / 16384 + 1))
 
-pub returns-clause-watched : goal.returns-clause-watched
-returns-clause-watched g c =
+pub returns-clause-walked : goal.returns-clause-walked
+returns-clause-walked g c =
     let p = c.args.processor.now.scenario in
-    let early : Watched g.W.Watcher.sees p c.args.low c.leap-end.result.0 false c.args.watcher.now c.leap-end.new.watcher = rw c.if-ended.false at c.leap-end.ensures.watched in
-    let late : Watched g.W.Watcher.sees p c.leap-end.result.0 c.stride_on-2.result.0 c.stride_on-2.result.1 c.leap-end.new.watcher c.stride_on-2.new.watcher = rw c.leap-end.ensures.scenario at c.stride_on-2.ensures.watched in
-    watched_joined g.W.Watcher.sees p c.args.low c.leap-end.result.0 c.stride_on-2.result.0 c.stride_on-2.result.1 c.args.watcher.now c.leap-end.new.watcher c.stride_on-2.new.watcher early late
+    let early : Walked g.S.Stepper.sees p c.args.low c.leap-end.result.0 false c.args.stepper.now c.leap-end.new.stepper = rw c.if-ended.false at c.leap-end.ensures.walked in
+    let late : Walked g.S.Stepper.sees p c.leap-end.result.0 c.stride_on-2.result.0 c.stride_on-2.result.1 c.leap-end.new.stepper c.stride_on-2.new.stepper = rw c.leap-end.ensures.scenario at c.stride_on-2.ensures.walked in
+    walked_joined g.S.Stepper.sees p c.args.low c.leap-end.result.0 c.stride_on-2.result.0 c.stride_on-2.result.1 c.args.stepper.now c.leap-end.new.stepper c.stride_on-2.new.stepper early late

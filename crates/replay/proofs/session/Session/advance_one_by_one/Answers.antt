@@ -1,10 +1,9 @@
 use Rattle.std.proofs.Common.{◌≡◌, ◌+◌, ◌∙◌, false, true, refl, ap, arith}
-use Rattle.std.proofs.Common.{ℕ}
 use Rattle.cpu.specs.State.{Scenario}
-use Rattle.cpu.specs.Run.{run, out}
 use Rattle.replay.specs.View.{SessionView}
+use Rattle.replay.specs.Walked.{Walked}
 use Rattle.replay.proofs.SessionLemmas.{images_of}
-use Rattle.replay.proofs.WatchedLemmas.{watched_none, watched_more}
+use Rattle.replay.proofs.WalkedLemmas.{walked_none, walked_joined}
 use Rattle.replay.proofs.AdvanceLemmas.{advanced_none, advanced_on}
 use Rattle.replay.proofs.session.Session.advance_one_by_one.Goals as goal
 
@@ -15,7 +14,7 @@ loop-made-init g c =
     record {
       n = omega arith;
       none = λ _. (refl, refl);
-      watched = watched_none g.W.Watcher.sees c.args.self.now.scenario c.args.self.now.n c.args.watcher.now;
+      walked = walked_none g.S.Stepper.sees c.args.self.now.scenario c.args.self.now.n c.args.stepper.now;
       metered = rw (← c.self.view_is) c.self.invariant.metered;
       advanced = advanced_none c.args.self.now (rw (← c.self.view_is) c.self.invariant.stands) (rw (← c.self.view_is) (images_of view c.self.invariant (g.met.K.Keeper.rising s.keeper)));
     }
@@ -24,30 +23,26 @@ pub loop-made-preserved : goal.loop-made-preserved
 loop-made-preserved g c =
     let kept = c.loop-made.invariant in
     let old = c.args.self.now in
-    let new = c.forward.new.self in
+    let new = c.forward_by.new.self in
     let told = c.in-Ok.ensures in
-    let put : c.in-Ok.output ≡ out old.scenario (c.loop-made.self.n + 1) = told.output ∙ ap (λ (n : ℕ). out c.loop-made.self.scenario n) told.step ∙ ap (λ (p : Scenario). out p (c.loop-made.self.n + 1)) kept.advanced.scenario in
-    let same = ap (λ (q : SessionView). q.present) c.self-in-loop-made.view_is in
-    let is : c.self-in-loop-made.inside.present ≡ run old.scenario (c.loop-made.self.n + 1) = same ∙ told.stands.present ∙ ap (λ (p : Scenario). run p new.n) (told.scenario ∙ kept.advanced.scenario) ∙ ap (λ (n : ℕ). run old.scenario n) told.step in
+    let step : Walked g.S.Stepper.sees old.scenario c.loop-made.self.n new.n false c.loop-made.stepper c.forward_by.new.stepper = rw (← kept.advanced.scenario, ← c.if-ended.false) told.walked in
     record {
       n = omega (arith, kept.n, told.step);
       none = λ e. absurd (omega (arith, e));
-      watched = rw told.step (watched_more g.W.Watcher.sees old.scenario old.n c.loop-made.self.n false c.args.watcher.now c.loop-made.watcher c.watch.new.self c.in-Ok.output c.self-in-loop-made.inside.present kept.watched put is (rw c.if-watch.false at c.watch.ensures));
+      walked = walked_joined g.S.Stepper.sees old.scenario old.n c.loop-made.self.n new.n false c.args.stepper.now c.loop-made.stepper c.forward_by.new.stepper kept.walked step;
       metered = rw (← c.self-in-loop-made.view_is) c.self-in-loop-made.invariant.metered;
       advanced = advanced_on old c.loop-made.self new kept.advanced kept.metered told.step told.meter told.scenario told.shown told.stands told.images;
     }
 
-pub returns-then-watch : goal.returns-then-watch
-returns-then-watch g c =
+pub returns-then-ended : goal.returns-then-ended
+returns-then-ended g c =
     let kept = c.loop-made.invariant in
     let old = c.args.self.now in
-    let new = c.forward.new.self in
+    let new = c.forward_by.new.self in
     let told = c.in-Ok.ensures in
-    let put : c.in-Ok.output ≡ out old.scenario (c.loop-made.self.n + 1) = told.output ∙ ap (λ (n : ℕ). out c.loop-made.self.scenario n) told.step ∙ ap (λ (p : Scenario). out p (c.loop-made.self.n + 1)) kept.advanced.scenario in
-    let same = ap (λ (q : SessionView). q.present) c.self-in-loop-made.view_is in
-    let is : c.self-in-loop-made.inside.present ≡ run old.scenario (c.loop-made.self.n + 1) = same ∙ told.stands.present ∙ ap (λ (p : Scenario). run p new.n) (told.scenario ∙ kept.advanced.scenario) ∙ ap (λ (n : ℕ). run old.scenario n) told.step in
+    let step : Walked g.S.Stepper.sees old.scenario c.loop-made.self.n new.n true c.loop-made.stepper c.forward_by.new.stepper = rw (← kept.advanced.scenario, ← c.if-ended.true) told.walked in
     record {
-      watched = rw told.step (watched_more g.W.Watcher.sees old.scenario old.n c.loop-made.self.n true c.args.watcher.now c.loop-made.watcher c.watch.new.self c.in-Ok.output c.self-in-loop-made.inside.present kept.watched put is (rw c.if-watch.true at c.watch.ensures));
+      walked = walked_joined g.S.Stepper.sees old.scenario old.n c.loop-made.self.n new.n true c.args.stepper.now c.loop-made.stepper c.forward_by.new.stepper kept.walked step;
       stopped = (omega (arith, kept.n, told.step), omega (arith, kept.n, told.step, c.loop-made-test.true));
       advanced = advanced_on old c.loop-made.self new kept.advanced kept.metered told.step told.meter told.scenario told.shown told.stands told.images;
       err = tt;
@@ -61,7 +56,7 @@ returns g c =
     let kept = c.loop-made.invariant in
     let n : c.loop-made.self.n ≡ c.args.self.now.n + c.args.k = omega (arith, kept.n, c.loop-made-test.false, c.loop-made.auto.made-end) in
     record {
-      watched = kept.watched;
+      walked = kept.walked;
       stopped = n;
       advanced = kept.advanced;
       err = tt;
