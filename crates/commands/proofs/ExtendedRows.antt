@@ -75,7 +75,7 @@ refusals : asked (codes "mem FIV" ∷ codes "break at FIV" ∷ codes "mem BIG" �
     ∷ Says (codes "E50 COMMAND mem takes a place, or a place and a count\n")
     ∷ Says (codes "E50 COMMAND mem takes a place, or a place and a count\n")
     ∷ Says (codes "E50 COMMAND last takes an erasable place\n")
-    ∷ Says (codes "E50 COMMAND break takes at PLACE, word PLACE W or chan C W [MASK]\n")
+    ∷ Says (codes "E50 COMMAND break takes at|exec PLACE, word PLACE W or chan C W [MASK]\n")
     ∷ Says (codes "E50 COMMAND until takes a number of cycles\n")
     ∷ Says (codes "E50 COMMAND regs takes all, or nothing\n")
     ∷ Says (codes "E50 COMMAND regs takes all, or nothing\n")
@@ -115,7 +115,7 @@ wrong_places : asked (codes "mem 02,2005" ∷ codes "mem E3,1377" ∷ codes "mem
     ∷ codes "mem takes a place, or a place and a count\n"
     ∷ codes "mem takes a place, or a place and a count\n"
     ∷ codes "no symbol CH7\n"
-    ∷ codes "break takes at PLACE, word PLACE W or chan C W [MASK]\n"
+    ∷ codes "break takes at|exec PLACE, word PLACE W or chan C W [MASK]\n"
     ∷ [])
 unfolding extended_line extended_forms usages forms runs parsed counters sequences registers window
 wrong_places = refl
@@ -129,12 +129,24 @@ looks = refl
 -- a channel under a mask
 bits : asked (codes "break chan 10 12" ∷ codes "break chan 10 12 77" ∷ codes "break chan 10 12 77 1" ∷ codes "break chan 10 12 8" ∷ codes "break chan 1000 12 77" ∷ [])
     ≡ Common (Break (breakpoint.Channel 8 0o12)) ∷ Common (Break (breakpoint.Bits 8 0o12 0o77)) ∷ map (λ text. Says (codes "E50 COMMAND " ++ text))
-    (codes "break takes at PLACE, word PLACE W or chan C W [MASK]\n"
-    ∷ codes "break takes at PLACE, word PLACE W or chan C W [MASK]\n"
-    ∷ codes "break takes at PLACE, word PLACE W or chan C W [MASK]\n"
+    (codes "break takes at|exec PLACE, word PLACE W or chan C W [MASK]\n"
+    ∷ codes "break takes at|exec PLACE, word PLACE W or chan C W [MASK]\n"
+    ∷ codes "break takes at|exec PLACE, word PLACE W or chan C W [MASK]\n"
     ∷ [])
 unfolding extended_line extended_forms usages forms runs parsed counters sequences registers window
 bits = refl
+
+-- the instruction at a place, in each form of a place
+executed : asked (codes "break exec FIVE" ∷ codes "break exec FIVE +1" ∷ codes "break exec 02,4005" ∷ codes "break exec Q" ∷ codes "break exec A" ∷ codes "break exec FIV" ∷ codes "break exec FIVE 5" ∷ codes "break exec" ∷ codes "break executed FIVE" ∷ [])
+    ≡ map (λ place. Common (Break (breakpoint.Executed place))) (Fixed 2 5 ∷ Fixed 2 6 ∷ Fixed 2 5 ∷ Erasable 0o102 ∷ Erasable 0 ∷ [])
+    ++ map (λ text. Says (codes "E50 COMMAND " ++ text))
+    (codes "no symbol FIV\n"
+    ∷ codes "break takes at|exec PLACE, word PLACE W or chan C W [MASK]\n"
+    ∷ codes "break takes at|exec PLACE, word PLACE W or chan C W [MASK]\n"
+    ∷ codes "break takes at|exec PLACE, word PLACE W or chan C W [MASK]\n"
+    ∷ [])
+unfolding extended_line extended_forms usages forms runs parsed counters sequences registers window
+executed = refl
 
 -- the last steps
 last_steps : asked (codes "trace 5" ∷ codes "trace" ∷ codes "trace x" ∷ codes "trace 5 6" ∷ [])

@@ -133,13 +133,14 @@ watches_bits (channel ∷ word ∷ []) = None
 watches_bits (channel ∷ word ∷ mask ∷ []) = bits_of (channel_in channel) (word_in word) (word_in mask)
 watches_bits (channel ∷ word ∷ mask ∷ next ∷ more) = None
 
--- `at` and a place; `word`, an erasable place and a word; or `chan`, a channel, a word and a mask
+-- `at` and a place; `word`, an erasable place and a word; `chan`, a channel, a word and a mask; or `exec` and a place
 abbrev pub break_form : SymbolTable → ExtendedForm
 break_form symbols [] = None
 break_form symbols (kind ∷ fields) =
     if same_name kind (codes "at") then option_map (λ p. broken_at (breakpoint.Place p)) (place_alone symbols fields)
     else if same_name kind (codes "word") then watches symbols fields
     else if same_name kind (codes "chan") then watches_bits fields
+    else if same_name kind (codes "exec") then option_map (λ p. broken_at (breakpoint.Executed p)) (place_alone symbols fields)
     else None
 
 -- the commands that an extended session has besides, but for `echo`

@@ -23,6 +23,8 @@ pub enum Breakpoint {
     Returned(Linear, bool),
     /// No interrupt is served.
     Outside,
+    /// The step executed the instruction at a place.
+    Executed(Linear),
 }
 
 /// A command.

@@ -338,6 +338,9 @@ fn break_form(symbols: &Symbols, rest: &[u8]) -> Option<ExtendedLine>
         watches(symbols, more)
     } else if kind == "chan".as_bytes() {
         watches_bits(more)
+    } else if kind == "exec".as_bytes() {
+        let place = place_alone(symbols, more)?;
+        Some(broken_at(Breakpoint::Executed(place)))
     } else {
         None
     }

@@ -52,7 +52,7 @@ const ROWS: [Row; 28] = [
     ("seek", "nothing", "back to a breakpoint"),
     (
         "break",
-        "at PLACE, word PLACE W or chan C W [MASK]",
+        "at|exec PLACE, word PLACE W or chan C W [MASK]",
         "one breakpoint more",
     ),
     ("breaks", "nothing", "the breakpoints"),
