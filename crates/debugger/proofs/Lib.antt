@@ -1,4 +1,5 @@
 pub mod Breaking
+pub mod StopLemmas
 pub mod ChainText
 pub mod CellNumbers
 pub mod WhyLines

@@ -4,7 +4,7 @@ use Rattle.std.specs.List.{remove}
 use Rattle.words.specs.Numerals.{octal_text}
 use Rattle.commands.specs.Usages.{usages, help_lines}
 use Rattle.commands.specs.declared.command.Breakpoint.{Breakpoint}
-use Rattle.commands.specs.declared.command.Breakpoint.TheVariants.{Place, Word, Channel, Bits, Cycles, Returned, Outside}
+use Rattle.commands.specs.declared.command.Breakpoint.TheVariants.{Place, Word, Channel, Bits, Cycles, Returned, Outside, Executed}
 use Rattle.commands.specs.declared.extended.ExtendedLine.{ExtendedLine}
 use Rattle.commands.specs.declared.extended.ExtendedLine.TheVariants.{Plain, Common, Says, Help, Breaks, ClearOne, On, AllRegisters, Until, WhyStep, Why, Words, Where, Find, Trace, Inputs, Over, Out}
 use Rattle.cpu.specs.Run.{run}
@@ -19,7 +19,7 @@ use Rattle.debugger.specs.Terms.{Terms}
 use Rattle.debugger.specs.Inputs.{inputs_text}
 use Rattle.debugger.specs.Routines.{goes_over, goes_out}
 use Rattle.replay.specs.LastHit.{first_hit}
-use Rattle.debugger.specs.Growth.{grow, lowest_hit}
+use Rattle.debugger.specs.Growth.{grow, hit_at}
 use Rattle.debugger.specs.declared.ending.Ending.{Ending}
 use Rattle.debugger.specs.declared.ending.Ending.TheVariants.{Reached, Hit, NoMemory, Limit}
 use Rattle.commands.specs.Extended.{most_count}
@@ -34,6 +34,7 @@ breakpoint_text (Bits c w mask) = codes "chan " ++ octal_text 3 c ++ codes " " +
 breakpoint_text (Cycles cycles) = codes "cycles " ++ decimal cycles
 breakpoint_text (Returned place inside) = codes "returned " ++ place_text place
 breakpoint_text Outside = codes "outside"
+breakpoint_text (Executed place) = codes "exec " ++ place_text place
 
 -- a line for each, numbered on from so many, and how many there are
 abbrev pub breaks_from : ℕ → List Breakpoint → List ℕ
@@ -48,7 +49,7 @@ clears_one d i =
 
 -- the first step after the position, of so many that stand, at which a breakpoint holds
 abbrev pub next_stop : History → Desk → ℕ → Option ℕ
-next_stop h d k = first_hit (λ t. is_some (lowest_hit d.breakpoints (h.after t))) (d.position + 1) (min k (d.steps - d.position))
+next_stop h d k = first_hit (λ t. is_some (hit_at h d.breakpoints t)) (d.position + 1) (min k (d.steps - d.position))
 
 -- the position moves on to it; where there is none, new steps are made, as many as are left
 abbrev pub grows_to : History → Desk → ℕ → Reply

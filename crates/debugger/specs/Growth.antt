@@ -4,12 +4,13 @@ use Rattle.std.specs.Option.{option_map}
 use Rattle.words.specs.Numbers.{correct}
 use Rattle.words.specs.BitSums.{and_sum}
 use Rattle.space.specs.Places.{same_place}
+use Rattle.space.specs.declared.place.Linear.{Linear}
 use Rattle.cpu.specs.declared.output.Output.{Output}
 use Rattle.replay.specs.Memory.{step_limit}
 use Rattle.cpu.specs.ChannelLines.{channel_line}
-use Rattle.debugger.specs.History.{Sight, History}
+use Rattle.debugger.specs.History.{Sight, StepSight, History}
 use Rattle.commands.specs.declared.command.Breakpoint.{Breakpoint}
-use Rattle.commands.specs.declared.command.Breakpoint.TheVariants.{Place, Word, Channel, Bits, Cycles, Returned, Outside}
+use Rattle.commands.specs.declared.command.Breakpoint.TheVariants.{Place, Word, Channel, Bits, Cycles, Returned, Outside, Executed}
 use Rattle.debugger.specs.declared.ending.Ending.{Ending}
 use Rattle.debugger.specs.declared.ending.Ending.TheVariants.{Reached, Hit, NoMemory, Limit}
 
@@ -21,19 +22,29 @@ word_seen seen p = correct (seen.reading p)
 abbrev pub channel_seen : Sight → ℕ → ℕ
 channel_seen seen c = correct (seen.channel c)
 
--- a breakpoint holds
-abbrev pub holds : Sight → Breakpoint → Bool
-holds seen (Place place) = same_place seen.place place
-holds seen (Word p w) = word_seen seen p == w
-holds seen (Channel c w) = channel_seen seen c == w
-holds seen (Bits c w mask) = and_sum 15 (channel_seen seen c) mask == and_sum 15 w mask
-holds seen (Cycles cycles) = nat_le cycles seen.cycles
-holds seen (Returned place inside) = same_place seen.place place && (inside || not seen.inside)
-holds seen Outside = not seen.inside
+-- a place is the one whose instruction was executed
+abbrev pub is_executed : Option Linear → Linear → Bool
+is_executed None place = false
+is_executed (Some executed) place = same_place executed place
+
+-- a breakpoint holds, by the step that led to a state, and by the state
+abbrev pub holds : StepSight → Sight → Breakpoint → Bool
+holds step seen (Place place) = same_place seen.place place
+holds step seen (Word p w) = word_seen seen p == w
+holds step seen (Channel c w) = channel_seen seen c == w
+holds step seen (Bits c w mask) = and_sum 15 (channel_seen seen c) mask == and_sum 15 w mask
+holds step seen (Cycles cycles) = nat_le cycles seen.cycles
+holds step seen (Returned place inside) = same_place seen.place place && (inside || not seen.inside)
+holds step seen Outside = not seen.inside
+holds step seen (Executed place) = is_executed step.executed place
 
 -- the lowest number, from 1, of the breakpoints that hold
-unfoldable pub lowest_hit : List Breakpoint → Sight → Option ℕ
-lowest_hit breakpoints seen = option_map (λ k. k + 1) (position (holds seen) breakpoints)
+unfoldable pub lowest_hit : List Breakpoint → StepSight → Sight → Option ℕ
+lowest_hit breakpoints step seen = option_map (λ k. k + 1) (position (holds step seen) breakpoints)
+
+-- the same, after so many steps of a run
+abbrev pub hit_at : History → List Breakpoint → ℕ → Option ℕ
+hit_at h breakpoints t = lowest_hit breakpoints (h.step t) (h.after t)
 
 -- what growing gives: the lines of the outputs, the steps then, the answers left, and how it ends
 pub record Growth : Type 0 where
@@ -76,5 +87,5 @@ grow h breakpoints (suc more) n answers =
     if n == step_limit then grown n answers Limit
     else (if is_refused answers then grown n (later answers) NoMemory
     else with_line (output_line (h.output (n + 1)))
-    (unless_hit (lowest_hit breakpoints (h.after (n + 1))) (n + 1) (later answers)
+    (unless_hit (hit_at h breakpoints (n + 1)) (n + 1) (later answers)
     (grow h breakpoints more (n + 1) (later answers))))

@@ -1,5 +1,5 @@
 -- What can be seen of a run.
-use Rattle.std.specs.Prelude.{ℕ, Bool, List, Option}
+use Rattle.std.specs.Prelude.{ℕ, zero, suc, Bool, List, Option, Some, None}
 use Rattle.rope.specs.Places.{Words, word_at}
 use Rattle.space.specs.Cells.{get, get_channel, at, superbank, erasable_bank, fixed_bank}
 use Rattle.space.specs.declared.place.Linear.{Linear}
@@ -7,6 +7,9 @@ use Rattle.cpu.specs.State.{State, Scenario}
 use Rattle.cpu.specs.Effects.{next_address, place_in}
 use Rattle.cpu.specs.Next.{instruction_word}
 use Rattle.cpu.specs.Run.{run, out, outs}
+use Rattle.cpu.specs.Profiles.{account_of}
+use Rattle.cpu.specs.declared.account.Account.{Account}
+use Rattle.cpu.specs.declared.account.Account.TheVariants.{Input, Entry, Waiting, Place}
 use Rattle.cpu.specs.declared.output.Output.{Output}
 use Rattle.debugger.specs.declared.manner.Manner.{Manner}
 use Rattle.debugger.specs.declared.manner.Manner.TheVariants as manner
@@ -43,11 +46,31 @@ sight rope s =
       instruction = instruction_word rope s;
     }
 
--- a run as it is seen: the words of fixed memory, the state after each number of steps, the output of each step, and those of
--- the first so many; and the manner in which it is told
+-- what is seen of a step: the place whose instruction it executed, if it executed one. An input and an interrupt have none, and a
+-- word that waited stands at none
+pub record StepSight : Type 0 where
+  pub executed : Option Linear
+
+abbrev pub place_executed : Account → Option Linear
+place_executed Input = None
+place_executed Entry = None
+place_executed Waiting = None
+place_executed (Place place) = Some place
+
+-- the step from a state, and the step that led to the state after so many steps; none has led to the start
+abbrev pub step_from : Scenario → State → StepSight
+step_from scenario s = record { executed = place_executed (account_of scenario s) }
+
+abbrev pub step_to : Scenario → ℕ → StepSight
+step_to scenario zero = record { executed = None }
+step_to scenario (suc t) = step_from scenario (run scenario t)
+
+-- a run as it is seen: the words of fixed memory, the state after each number of steps, and the step that led there, the output
+-- of each step, and those of the first so many; and the manner in which it is told
 pub record History : Type 0 where
   pub fixed : ℕ → ℕ → ℕ
   pub after : ℕ → Sight
+  pub step : ℕ → StepSight
   pub output : ℕ → Option Output
   pub outputs : ℕ → List Output
   pub manner : Manner
@@ -58,6 +81,7 @@ history scenario =
     record {
       fixed = word_at scenario.rope;
       after = λ t. sight scenario.rope (run scenario t);
+      step = step_to scenario;
       output = out scenario;
       outputs = outs scenario;
       manner = manner.Plain;

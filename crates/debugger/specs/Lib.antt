@@ -1,6 +1,7 @@
 pub mod Additions
 pub mod History
 pub mod Growth
+pub mod Stopping
 pub mod Replies
 pub mod Positions
 pub mod PlaceTexts

@@ -20,7 +20,7 @@ use Rattle.debugger.specs.Additions.{with_added}
 use Rattle.debugger.specs.declared.manner.Manner.{Manner}
 use Rattle.debugger.specs.declared.manner.Manner.TheVariants as manner
 use Rattle.debugger.specs.History.{Sight, History}
-use Rattle.debugger.specs.Growth.{Growth, grow, later, word_seen, channel_seen, lowest_hit}
+use Rattle.debugger.specs.Growth.{Growth, grow, later, word_seen, channel_seen, hit_at}
 use Rattle.commands.specs.declared.command.Breakpoint.{Breakpoint}
 use Rattle.commands.specs.declared.command.Command.{Command}
 use Rattle.commands.specs.declared.command.Command.TheVariants.{Step, Run, Back, Goto, Seek, Break, Clear, Registers, Memory, Channel, Last, Symbol, Changed, Tail, Add, Quit}
@@ -136,7 +136,7 @@ goes h d t = if nat_lt d.steps t then not_yet d else moves h d t
 
 -- the last step before the position at which a breakpoint holds
 abbrev pub last_stop : History → Desk → Option ℕ
-last_stop h d = last_hit (λ t. is_some (lowest_hit d.breakpoints (h.after t))) d.position
+last_stop h d = last_hit (λ t. is_some (hit_at h d.breakpoints t)) d.position
 
 -- the line of the breakpoint that holds
 abbrev pub hit_text : Option ℕ → List ℕ
@@ -146,7 +146,7 @@ hit_text (Some i) = hit_line i
 -- the position moves back to a step
 abbrev pub sought : History → Desk → Option ℕ → Reply
 sought h d None = refuses d (codes "NONE")
-sought h d (Some t) = stands h (hit_text (lowest_hit d.breakpoints (h.after t))) (record d { position = t })
+sought h d (Some t) = stands h (hit_text (hit_at h d.breakpoints t)) (record d { position = t })
 
 abbrev pub breaks : Desk → Breakpoint → Reply
 breaks d b =

@@ -122,7 +122,7 @@ arrival_text Limit cycles = line (codes "E40 LIMIT")
 
 -- the first step after the position, of so many that stand, at which the end is come to
 abbrev pub next_end : History → Desk → Breakpoint → ℕ → Option ℕ
-next_end h d end k = first_hit (λ t. holds (h.after t) end) (d.position + 1) (min k (d.steps - d.position))
+next_end h d end k = first_hit (λ t. holds (h.step t) (h.after t) end) (d.position + 1) (min k (d.steps - d.position))
 
 -- the position moves on to it; where there is none, new steps are made, as many as are left
 abbrev pub arrives : History → Desk → ℕ → Reply

@@ -2,16 +2,12 @@
 use Rattle.std.specs.Prelude.{◌≡◌, ℕ, Bool, true, false, List, ◌∷◌, [], ◌++◌, Option, None, Some, MatchOption, Result, Ok, IsErr}
 use Rattle.words.specs.Devices.{WritesBeginning, one_more}
 use Rattle.words.specs.declared.device.WriteFailed.{WriteFailed}
-use Rattle.rope.specs.Places.{Words}
-use Rattle.cpu.specs.State.{State}
 use Rattle.cpu.specs.declared.output.Output.{Output}
-use Rattle.commands.specs.declared.command.Breakpoint.{Breakpoint}
 use Rattle.replay.specs.declared.stop.Stop.{Stop}
 use Rattle.replay.specs.declared.stop.Stop.TheVariants as stop
 use Rattle.debugger.specs.declared.ending.Ending.{Ending}
 use Rattle.debugger.specs.declared.ending.Ending.TheVariants.{Reached, Hit, NoMemory, Limit}
-use Rattle.debugger.specs.History.{sight}
-use Rattle.debugger.specs.Growth.{output_line, lowest_hit}
+use Rattle.debugger.specs.Growth.{output_line}
 use Rattle.debugger.specs.Replies.{last_of, tail_length}
 
 -- the last outputs, what is written, and how many writes have failed
@@ -21,10 +17,10 @@ pub record Telling : Type 0 where
   pub failures : ℕ
 
 -- its line was written, and the breakpoint of lowest number was found that holds, if one does
-pub record TellsWhole (told : Bool) (breakpoints : List Breakpoint) (output : Option Output) (machine : State) (found : Option ℕ) (old new : Telling) : Type 0 where
+pub record TellsWhole (told : Bool) (lowest : Option ℕ) (output : Option Output) (found : Option ℕ) (old new : Telling) : Type 0 where
   pub written : told ≡ true → new.text ≡ old.text ++ output_line output
   pub failures : new.failures ≡ old.failures
-  pub found_is : (rope : Words) → found ≡ lowest_hit breakpoints (sight rope machine)
+  pub found_is : found ≡ lowest
 
 -- its line could not be written whole, or the lines not be handed on
 pub record TellsPart (told : Bool) (output : Option Output) (old new : Telling) : Type 0 where
@@ -32,15 +28,15 @@ pub record TellsPart (told : Bool) (output : Option Output) (old new : Telling) 
   pub failures : new.failures ≡ one_more old.failures
 
 -- steps go on after it; or they end at a breakpoint, or at a write that failed
-abbrev pub TellsBy : Bool → List Breakpoint → Option Output → State → Bool → Option ℕ → Telling → Telling → Type 0
-TellsBy told breakpoints output machine false hit old new = TellsWhole told breakpoints output machine None old new
-TellsBy told breakpoints output machine true (Some number) old new = TellsWhole told breakpoints output machine (Some number) old new
-TellsBy told breakpoints output machine true None old new = TellsPart told output old new
+abbrev pub TellsBy : Bool → Option ℕ → Option Output → Bool → Option ℕ → Telling → Telling → Type 0
+TellsBy told lowest output false hit old new = TellsWhole told lowest output None old new
+TellsBy told lowest output true (Some number) old new = TellsWhole told lowest output (Some number) old new
+TellsBy told lowest output true None old new = TellsPart told output old new
 
--- a step is told, with its output and the machine after it
-pub record Tells (told : Bool) (breakpoints : List Breakpoint) (output : Option Output) (machine : State) (ended : Bool) (hit : Option ℕ) (old new : Telling) : Type 0 where
+-- a step is told, with its output and the lowest breakpoint that holds after it
+pub record Tells (told : Bool) (lowest : Option ℕ) (output : Option Output) (ended : Bool) (hit : Option ℕ) (old new : Telling) : Type 0 where
   pub tail : MatchOption output (new.tail ≡ old.tail) (λ o. new.tail ≡ last_of tail_length (old.tail ++ o ∷ []))
-  pub by : TellsBy told breakpoints output machine ended hit old new
+  pub by : TellsBy told lowest output ended hit old new
 
 -- how steps end that were told
 abbrev pub EndsAs : Stop → Option ℕ → Result Ending WriteFailed → Type 0

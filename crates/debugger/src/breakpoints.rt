@@ -3,14 +3,15 @@
 ghost use Rattle.std.specs.Prelude.{◌≡◌};
 ghost use Rattle.rope.specs.Places.{Words};
 ghost use Rattle.debugger.specs.History.{sight};
-ghost use Rattle.debugger.specs.Growth.{holds, lowest_hit};
+ghost use Rattle.debugger.specs.Growth.{holds, lowest_hit, is_executed};
 
 use commands::Breakpoint;
 use cpu::Machine;
+use space::Linear;
 
-/// Whether a breakpoint holds.
-pub(crate) fn holds(breakpoint: Breakpoint, machine: &Machine) -> bool
-    ensures { (rope : Words) → result ≡ holds (sight rope machine.now) breakpoint }
+/// Whether a breakpoint holds after a step that executed the instruction at a place, or at none.
+fn holds(breakpoint: Breakpoint, executed: Option<Linear>, machine: &Machine) -> bool
+    ensures { (rope : Words) → result ≡ holds (record { executed = executed }) (sight rope machine.now) breakpoint }
 {
     match breakpoint {
         Breakpoint::Place(place) => machine.next_place() == place,
@@ -24,16 +25,32 @@ pub(crate) fn holds(breakpoint: Breakpoint, machine: &Machine) -> bool
             machine.next_place() == place && (inside || !machine.inside())
         }
         Breakpoint::Outside => !machine.inside(),
+        Breakpoint::Executed(place) => is_executed(executed, place),
     }
 }
 
-/// The lowest number, counted from 1, of the breakpoints that hold.
-pub(crate) fn lowest_hit(breakpoints: &[Breakpoint], machine: &Machine) -> Option<u64>
-    ensures { (rope : Words) → result ≡ lowest_hit breakpoints.now (sight rope machine.now) }
+/// Whether a place is the one whose instruction was executed.
+fn is_executed(executed: Option<Linear>, place: Linear) -> bool
+    ensures { result ≡ is_executed executed place }
+{
+    match executed {
+        Some(executed) => executed == place,
+        None => false,
+    }
+}
+
+/// The lowest number, counted from 1, of the breakpoints that hold after a step that executed the instruction at a place, or at
+/// none.
+pub(crate) fn lowest_hit(
+    breakpoints: &[Breakpoint],
+    executed: Option<Linear>,
+    machine: &Machine,
+) -> Option<u64>
+    ensures { (rope : Words) → result ≡ lowest_hit breakpoints.now (record { executed = executed }) (sight rope machine.now) }
 {
     let mut number = 1;
     for breakpoint in breakpoints {
-        if holds(*breakpoint, machine) {
+        if holds(*breakpoint, executed, machine) {
             return Some(number);
         }
         number += 1;

@@ -1,6 +1,7 @@
 //! The commands that an extended session has besides.
 
-ghost use Rattle.std.specs.Prelude.{◌≡◌, ◌+◌, ◌*◌, ◌≤◌, ◌++◌, length, true, IfSome};
+ghost use Rattle.std.specs.Prelude.{◌≡◌, ◌+◌, ◌*◌, ◌≤◌, ◌++◌, length, true, Some, IfSome};
+ghost use Rattle.std.specs.Option.{option_map};
 ghost use Rattle.arrayvec.specs.ArrayVec.{array_vec_len};
 ghost use Rattle.words.specs.Devices.{failures_after};
 ghost use Rattle.cpu.specs.Run.{outs};
@@ -11,17 +12,17 @@ ghost use Rattle.debugger.specs.Replies.{last_of, tail_length, line, hit_text, a
 ghost use Rattle.debugger.specs.PlaceTexts.{place_text};
 ghost use Rattle.debugger.specs.ExtendedReplies.{breakpoint_text, breaks_from, next_stop};
 ghost use Rattle.debugger.specs.History.{history};
-ghost use Rattle.debugger.specs.Growth.{lowest_hit};
+ghost use Rattle.debugger.specs.Growth.{hit_at};
 ghost use Rattle.debugger.specs.Conversation.{effort, to_asked};
 ghost use Rattle.debugger.specs.declared.manner.Manner.TheVariants as manner;
 ghost use Rattle.debugger.specs.Executions.{desk, BringsAsked, Replies, grows_on, HasLooked, HasGoneOn, HasDone};
 
-use crate::breakpoints::lowest_hit;
 use crate::desk::Desk;
 use crate::growing::grow;
 use crate::inputs::tell_inputs;
 use crate::manner::Manner;
 use crate::standing::find;
+use crate::stops::Stops;
 use crate::texts::{Text, hit_and_at_line, number_line, text_line};
 use arrayvec::ArrayVec;
 use commands::{Breakpoint, Breakpoints, ExtendedLine, help_text};
@@ -105,41 +106,39 @@ impl Desk {
         ensures failures { W.failures out.new ≡ failures_after (W.failures out.old) result }
     {
         match self.next_stop(session, steps) {
-            Some(step) => {
+            Some((step, number)) => {
                 self.position = step;
-                write_all(out, self.stop_text(session).as_slice())
+                write_all(out, self.stop_text(session, number).as_slice())
             }
             None => self.grow_on(session, steps, out),
         }
     }
 
-    /// The first step after the position, of so many that stand, at which a breakpoint holds.
-    fn next_stop<K: Keeper>(&self, session: &mut Session<K>, steps: u64) -> Option<u64>
+    /// The first step after the position, of so many that stand, at which a breakpoint holds, and the lowest of those that do.
+    fn next_stop<K: Keeper>(&self, session: &mut Session<K>, steps: u64) -> Option<(u64, u64)>
         requires { self.now.position ≤ session.old.n }
-        ensures next { result ≡ next_stop (history session.old.scenario) (desk session.old self.now.position self.now.breakpoints) steps }
-        ensures within { IfSome result (λ t. t ≤ session.old.n) }
+        ensures next { option_map (λ r. r.0) result ≡ next_stop (history session.old.scenario) (desk session.old self.now.position self.now.breakpoints) steps }
+        ensures hit { IfSome result (λ r. Some r.1 ≡ hit_at (history session.old.scenario) self.now.breakpoints r.0) }
+        ensures within { IfSome result (λ r. r.0 ≤ session.old.n) }
         ensures looked { HasLooked session.old session.new session.old.n }
     {
-        let breakpoints = self.breakpoints.as_slice();
         let count = steps.min(session.steps() - self.position);
-        session.seek_on(
-            self.position + 1,
-            count,
-            |machine| lowest_hit(breakpoints, machine).is_some(),
-        )
+        let stops = Stops::at(self.breakpoints.as_slice());
+        match session.seek_step_on(self.position, count, &stops) {
+            Some((before, number)) => Some((before + 1, number)),
+            None => None,
+        }
     }
 
-    /// The breakpoint that holds at the position, and the line of the position.
-    fn stop_text<K: Keeper>(&self, session: &mut Session<K>) -> Text
+    /// A breakpoint that holds at the position, and the line of the position.
+    #[tactic(auto, unfolding(crate::specs::History::history))]
+    fn stop_text<K: Keeper>(&self, session: &mut Session<K>, number: u64) -> Text
         requires { self.now.position ≤ session.old.n }
-        ensures text { result.items ≡ hit_text (lowest_hit self.now.breakpoints ((history session.old.scenario).after self.now.position)) ++ at_line_of manner.Extended self.now.position ((history session.old.scenario).after self.now.position) }
+        ensures text { result.items ≡ hit_text (Some number) ++ at_line_of manner.Extended self.now.position ((history session.old.scenario).after self.now.position) }
         ensures looked { HasLooked session.old session.new session.old.n }
     {
         match session.show(self.position) {
-            Ok(machine) => {
-                let hit = lowest_hit(self.breakpoints.as_slice(), machine);
-                hit_and_at_line(Manner::Extended, hit, self.position, machine)
-            }
+            Ok(machine) => hit_and_at_line(Manner::Extended, Some(number), self.position, machine),
             Err(_) => unreachable!(),
         }
     }
@@ -246,6 +245,10 @@ fn push_breakpoint(text: &mut BreaksText, breakpoint: Breakpoint)
             push_place(text, place);
         }
         Breakpoint::Outside => push_all(text, b"outside"),
+        Breakpoint::Executed(place) => {
+            push_all(text, b"exec ");
+            push_place(text, place);
+        }
     }
 }
 

@@ -10,12 +10,12 @@ ghost use Rattle.debugger.specs.Executions.{Grows};
 ghost use Rattle.debugger.specs.HandingOn.{steps_left_after};
 ghost use Rattle.debugger.specs.Telling.{EndsAs};
 
-use crate::breakpoints::lowest_hit;
 use crate::ending::Ending;
+use crate::stops::Stops;
 use crate::tail::Tail;
 use commands::Breakpoint;
-use cpu::{Machine, Output, write_channel_line};
-use replay::{Keeper, Refusal, Session, Stop, Watcher};
+use cpu::{Machine, Output, Processor, write_channel_line};
+use replay::{Keeper, Refusal, Session, Stepper, Stop};
 use words::{Write, WriteFailed};
 
 /// The most steps that are made before the lines written so far are handed on.
@@ -40,12 +40,12 @@ pub(crate) fn grow<K: Keeper, W: Write>(
 {
     let mut teller = Teller {
         tail,
-        breakpoints,
+        stops: Stops::at(breakpoints),
         out,
         until_flush: STEPS_BETWEEN_FLUSHES,
         hit: None,
     };
-    match session.advance(more, &mut teller) {
+    match session.advance_by(more, &mut teller) {
         Ok(stop) => ending_of(stop, teller.hit),
         Err(Refusal::StepLimit) => Ok(Ending::Limit),
         Err(Refusal::NoMemory) => Ok(Ending::NoMemory),
@@ -68,12 +68,12 @@ fn ending_of(stop: Stop, hit: Option<u64>) -> Result<Ending, WriteFailed>
     }
 }
 
-/// What writes the line of each output, hands the lines on as long steps go, and ends steps after the first at which a
+/// What makes steps, writes the line of each output, hands the lines on as long steps go, and ends after the first at which a
 /// breakpoint holds or the writer has failed.
 #[derive(Drop)]
 struct Teller<'a, W: Write> {
     tail: &'a mut Tail,
-    breakpoints: &'a [Breakpoint],
+    stops: Stops<'a>,
     out: &'a mut W,
 
     /// The steps that are left before the lines are handed on.
@@ -83,23 +83,27 @@ struct Teller<'a, W: Write> {
     hit: Option<u64>,
 }
 
-impl<'a, W: Write> Watcher for Teller<'a, W> {
+impl<'a, W: Write> Stepper for Teller<'a, W> {
+    ghost use Rattle.cpu.specs.Next.{next};
     ghost use Rattle.debugger.specs.HandingOn.{HandsOn};
+    ghost use Rattle.debugger.specs.Stopping.{hit_by};
     ghost use Rattle.debugger.specs.Telling.{Tells, Telling};
 
-    ghost sees = { λ old output machine ended new. (new.tail.ghost_name ≡ old.tail.ghost_name) × (new.out.ghost_name ≡ old.out.ghost_name) × (new.breakpoints ≡ old.breakpoints)
-        × Tells W.told old.breakpoints.now output machine ended new.hit (record { tail = old.tail.now; text = W.written old.out.now; failures = W.failures old.out.now }) (record { tail = new.tail.now; text = W.written new.out.now; failures = W.failures new.out.now })
+    ghost sees = { λ old scenario state ended new. (new.tail.ghost_name ≡ old.tail.ghost_name) × (new.out.ghost_name ≡ old.out.ghost_name) × (new.stops ≡ old.stops)
+        × Tells W.told (hit_by old.stops.breakpoints.now old.stops.looks scenario state) (next scenario state).1 ended new.hit (record { tail = old.tail.now; text = W.written old.out.now; failures = W.failures old.out.now }) (record { tail = new.tail.now; text = W.written new.out.now; failures = W.failures new.out.now })
         × HandsOn W.told ended old.until_flush new.until_flush (W.handed_on new.out.now) (W.written new.out.now) };
 
     #[inline(always)]
-    fn watch(&mut self, output: Option<Output>, machine: &Machine) -> bool {
+    fn make_step(&mut self, processor: &mut Processor, machine: &mut Machine) -> bool {
+        let executed = self.stops.executed(processor, machine);
+        let output = processor.step(machine);
         if tell(self.tail, output, self.out).is_err()
             || hand_on_in_time(&mut self.until_flush, self.out).is_err()
         {
             self.hit = None;
             return true;
         }
-        match lowest_hit(self.breakpoints, machine) {
+        match self.stops.hit(executed, machine) {
             Some(number) => {
                 self.hit = Some(number);
                 true

@@ -23,6 +23,7 @@ mod session;
 mod short;
 mod standing;
 mod steps;
+mod stops;
 mod tail;
 mod texts;
 mod travel;

@@ -1,18 +1,21 @@
 //! Commands that make no new step and have a short reply.
 
-ghost use Rattle.std.specs.Prelude.{◌≡◌, ◌+◌, ◌-◌, ◌*◌, ◌^◌, ◌<◌, ◌≤◌, codes, IfSome};
+ghost use Rattle.std.specs.Prelude.{◌≡◌, ◌+◌, ◌-◌, ◌*◌, ◌^◌, ◌<◌, ◌≤◌, codes, Some, IfSome};
+ghost use Rattle.std.specs.Option.{option_map};
+ghost use Rattle.cpu.specs.State.{Scenario};
 ghost use Rattle.commands.specs.declared.command.Command.TheVariants as command;
 ghost use Rattle.commands.specs.declared.command.ParsedLine.TheVariants.{Known};
 ghost use Rattle.space.specs.Cells.{changed_places};
 ghost use Rattle.replay.specs.View.{SessionView};
-ghost use Rattle.replay.specs.LastHit.{HasSought};
 ghost use Rattle.debugger.specs.History.{history, sight};
+ghost use Rattle.debugger.specs.Growth.{hit_at};
 ghost use Rattle.debugger.specs.Replies.{line, changed_text, memory_word, last_stop, last_change};
 ghost use Rattle.debugger.specs.Executions.{desk, Brings, BringsIn, HasLooked};
 
 use crate::breakpoints::lowest_hit;
 use crate::desk::Desk;
 use crate::manner::Manner;
+use crate::stops::Stops;
 use crate::texts::{
     PlacesText, Text, at_line, hit_and_at_line, last_line, number_line, places_text,
     registers_text, text_line, word_line,
@@ -77,30 +80,43 @@ impl Desk {
         ensures tail { self.new.tail ≡ self.old.tail }
         ensures looked { HasLooked session.old session.new (3 * session.old.n) }
     {
-        let Some(step) = self.last_stop(session) else {
+        let Some((step, number)) = self.last_stop(session) else {
             return text_line(b"NONE");
         };
         self.position = step;
         match session.show(step) {
-            Ok(machine) => {
-                let hit = lowest_hit(self.breakpoints.as_slice(), machine);
-                hit_and_at_line(manner, hit, step, machine)
-            }
+            Ok(machine) => hit_and_at_line(manner, Some(number), step, machine),
             Err(_) => unreachable!(),
         }
     }
 
-    /// The last step before the position at which a breakpoint holds.
-    fn last_stop<K: Keeper>(&self, session: &mut Session<K>) -> Option<u64>
+    /// The last step before the position at which a breakpoint holds, and the lowest of those that do.
+    fn last_stop<K: Keeper>(&self, session: &mut Session<K>) -> Option<(u64, u64)>
         requires { self.now.position ≤ session.old.n }
-        ensures last { result ≡ last_stop (history session.old.scenario) (desk session.old self.now.position self.now.breakpoints) }
-        ensures after { HasSought session.old self.now.position result session.new }
+        ensures last { option_map (λ r. r.0) result ≡ last_stop (history session.old.scenario) (desk session.old self.now.position self.now.breakpoints) }
+        ensures hit { IfSome result (λ r. Some r.1 ≡ hit_at (history session.old.scenario) self.now.breakpoints r.0) }
+        ensures before { IfSome result (λ r. r.0 ≤ session.old.n) }
+        ensures same { session.new ≡ record session.old { shown = session.new.shown; meter = session.new.meter } }
+        ensures cost { session.new.meter ≤ session.old.meter + 2 * session.old.n }
     {
-        let breakpoints = self.breakpoints.as_slice();
-        session.seek_back(
-            self.position,
-            |machine| lowest_hit(breakpoints, machine).is_some(),
-        )
+        if self.position == 0 {
+            return None;
+        }
+        let stops = Stops::at(self.breakpoints.as_slice());
+        match session.seek_step_back(self.position - 1, &stops) {
+            Some((before, number)) => Some((before + 1, number)),
+            None => self.stop_at_start(),
+        }
+    }
+
+    /// The start, where a breakpoint holds there, and the lowest of those that do.
+    fn stop_at_start(&self) -> Option<(u64, u64)>
+        ensures { (scenario : Scenario) → result ≡ option_map (λ i. (0, i)) (hit_at (history scenario) self.now.breakpoints 0) }
+    {
+        match lowest_hit(self.breakpoints.as_slice(), None, &Machine::start()) {
+            Some(number) => Some((0, number)),
+            None => None,
+        }
     }
 
     /// `break`: one breakpoint more.

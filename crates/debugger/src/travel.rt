@@ -14,12 +14,12 @@ ghost use Rattle.debugger.specs.Conversation.{to_asked};
 ghost use Rattle.debugger.specs.declared.manner.Manner.TheVariants as manner;
 ghost use Rattle.debugger.specs.Executions.{desk, Replies, goes_to_end, grows_to_end, HasLooked, HasGoneOn, HasDone};
 
-use crate::breakpoints::holds;
 use crate::desk::Desk;
 use crate::ending::Ending;
 use crate::growing::grow;
 use crate::manner::Manner;
 use crate::routines::{Routines, entered};
+use crate::stops::Stops;
 use crate::texts::{Text, number_line, push_at_line, text_line};
 use arrayvec::ArrayVec;
 use commands::Breakpoint;
@@ -139,7 +139,11 @@ impl Desk {
         ensures looked { HasLooked session.old session.new session.old.n }
     {
         let count = steps.min(session.steps() - self.position);
-        session.seek_on(self.position + 1, count, |machine| holds(*end, machine))
+        let ends = [*end];
+        match session.seek_step_on(self.position, count, &Stops::at(&ends)) {
+            Some((before, _)) => Some(before + 1),
+            None => None,
+        }
     }
 
     /// How steps ended, with the cycles since so many, and the line of the position.

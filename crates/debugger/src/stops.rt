@@ -1,0 +1,89 @@
+//! Steps, each with the lowest breakpoint that holds after it.
+
+ghost use Rattle.std.specs.Prelude.{◌≡◌, Option};
+ghost use Rattle.std.specs.List.{list_any};
+ghost use Rattle.rope.specs.Places.{Words};
+ghost use Rattle.cpu.specs.State.{FitsRun};
+ghost use Rattle.debugger.specs.History.{sight, step_from};
+ghost use Rattle.debugger.specs.Growth.{lowest_hit};
+ghost use Rattle.debugger.specs.Stopping.{asks, looked};
+
+use crate::breakpoints::lowest_hit;
+use commands::Breakpoint;
+use cpu::{Account, Machine, Processor};
+use replay::{StepTest, make_step};
+use space::Linear;
+
+/// Where steps are to stop: at the first after which one of some breakpoints holds.
+#[derive(Clone, Copy, Drop)]
+pub(crate) struct Stops<'a> {
+    breakpoints: &'a [Breakpoint],
+
+    /// Whether one of them asks what a step did. Else nothing is looked at before a step.
+    looks: bool,
+}
+
+impl<'a> Stops<'a> {
+    /// Steps that stop at some breakpoints.
+    pub(crate) fn at(breakpoints: &'a [Breakpoint]) -> Stops<'a>
+        ensures breakpoints { result.breakpoints.now ≡ breakpoints.now }
+        ensures looks { result.looks ≡ list_any asks breakpoints.now }
+    {
+        Stops {
+            breakpoints,
+            looks: breakpoints.iter().any(|it| asks(it)),
+        }
+    }
+
+    /// The place whose instruction the next step executes, if it is to be looked at.
+    #[inline(always)]
+    pub(crate) fn executed(&self, processor: &Processor, machine: &Machine) -> Option<Linear>
+        requires { FitsRun processor.now.scenario machine.now }
+        ensures { result ≡ (looked self.now.looks processor.now.scenario machine.now).executed }
+    {
+        if !self.looks {
+            return None;
+        }
+        place_executed(processor, machine)
+    }
+
+    /// The lowest breakpoint that holds after a step that executed the instruction at a place, or at none.
+    #[inline(always)]
+    pub(crate) fn hit(&self, executed: Option<Linear>, machine: &Machine) -> Option<u64>
+        ensures { (rope : Words) → result ≡ lowest_hit self.now.breakpoints.now (record { executed = executed }) (sight rope machine.now) }
+    {
+        lowest_hit(self.breakpoints, executed, machine)
+    }
+}
+
+/// The place whose instruction the next step executes, if it executes one.
+fn place_executed(processor: &Processor, machine: &Machine) -> Option<Linear>
+    requires { FitsRun processor.now.scenario machine.now }
+    ensures { result ≡ (step_from processor.now.scenario machine.now).executed }
+{
+    match processor.account(machine) {
+        Account::Place(place) => Some(place),
+        Account::Input => None,
+        Account::Entry => None,
+        Account::Waiting => None,
+    }
+}
+
+/// Whether a breakpoint asks what a step did.
+fn asks(breakpoint: &Breakpoint) -> bool
+    ensures { result ≡ asks breakpoint.now }
+{
+    matches!(breakpoint, Breakpoint::Executed(_))
+}
+
+impl<'a> StepTest for Stops<'a> {
+    ghost use Rattle.debugger.specs.Stopping.{hit_by};
+
+    ghost finds = { λ stops scenario state. hit_by stops.breakpoints.now stops.looks scenario state };
+
+    fn test_step(&self, processor: &mut Processor, machine: &mut Machine) -> Option<u64> {
+        let executed = self.executed(processor, machine);
+        make_step(processor, machine);
+        self.hit(executed, machine)
+    }
+}
