@@ -1,21 +1,25 @@
 -- A session that adds inputs to a run that goes on.
-use Rattle.std.proofs.Common.{◌≡◌, ℕ, List, [], ◌∷◌, ◌++◌, ap, ◌∙◌}
+use Rattle.std.proofs.Common.{◌≡◌, ℕ, Bool, true, false, List, [], ◌∷◌, ◌++◌, map, is_some, ap, refl, ◌∙◌}
+use Rattle.std.specs.List.{range_with_len}
 use Rattle.std.specs.Prelude.{codes}
 use Rattle.std.specs.Fmt.{digits}
 use Rattle.agc_text.specs.Fields.{runs}
 use Rattle.agc_text.specs.Lines.{lines}
-use Rattle.feed.specs.Merged.{inserted, is_before}
+use Rattle.feed.specs.Merged.{inserted, is_before, due}
 use Rattle.feed.specs.Names.{counters, sequences}
 use Rattle.feed.specs.Statements.{parsed}
 use Rattle.feed.specs.declared.entry.Entry.{Entry}
 use Rattle.words.specs.Numerals.{octal_text}
 use Rattle.space.specs.Places.{place}
+use Rattle.space.specs.declared.place.Linear.TheVariants.{Fixed}
 use Rattle.cpu.proofs.ClockRun.{loop, loop_words, clock, added, after_0, twelve_and, two, start-held, goes-twelve, goes-fourteen}
 use Rattle.commands.specs.Commands.{parsed_line, forms}
+use Rattle.commands.specs.declared.command.Breakpoint.{Breakpoint}
+use Rattle.commands.specs.declared.command.Breakpoint.TheVariants.{Place, Executed}
 use Rattle.debugger.specs.Additions.{with_added}
 use Rattle.cpu.specs.ChannelLines.{channel_lines}
 use Rattle.debugger.specs.History.{History, history}
-use Rattle.debugger.specs.Growth.{grow, lowest_hit}
+use Rattle.debugger.specs.Growth.{grow, lowest_hit, hit_at}
 use Rattle.debugger.specs.Replies.{Desk, answer, reply, at_line}
 use Rattle.debugger.specs.Transcript.{transcript, first_desk, command_lines}
 use Rattle.debugger.proofs.ListedHistories.{listed, history-listed}
@@ -55,3 +59,15 @@ added_inputs =
     replies-line [] then (desk (added ∷ []) 14 14) (codes "goto 12") (codes "mem 25" ∷ []) history-then
     ∙ ap (λ t. ended (codes "AT 12 11 4000" ∷ []) ++ t) (
     replies-line [] then (desk (added ∷ []) 14 12) (codes "mem 25") ([]) history-then))))))
+
+-- after which of the first steps a breakpoint holds: Z leads to the same place after each, but some of them take an input
+abbrev holds_after : History → Breakpoint → List Bool
+holds_after h breakpoint = map (λ t. is_some (hit_at h (breakpoint ∷ []) t)) (range_with_len 0 13)
+
+next_at_the_loop : holds_after (history (loop [])) (Place (Fixed 2 0)) ≡ true ∷ true ∷ true ∷ true ∷ true ∷ true ∷ true ∷ true ∷ true ∷ true ∷ true ∷ true ∷ true ∷ []
+unfolding lowest_hit place
+next_at_the_loop = ap (λ h. holds_after h (Place (Fixed 2 0))) history-before ∙ refl
+
+executed_in_the_loop : holds_after (history (loop [])) (Executed (Fixed 2 0)) ≡ false ∷ true ∷ true ∷ true ∷ false ∷ true ∷ false ∷ false ∷ true ∷ true ∷ false ∷ true ∷ false ∷ []
+unfolding lowest_hit place due
+executed_in_the_loop = ap (λ h. holds_after h (Executed (Fixed 2 0))) history-before ∙ refl

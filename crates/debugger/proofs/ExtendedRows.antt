@@ -30,7 +30,7 @@ use Rattle.commands.specs.Extended.{extended_line, extended_forms}
 use Rattle.commands.specs.NamedPlaces.{registers}
 use Rattle.commands.specs.Usages.{usages}
 use Rattle.commands.specs.declared.command.Breakpoint.{Breakpoint}
-use Rattle.commands.specs.declared.command.Breakpoint.TheVariants.{Place, Channel, Bits, Cycles}
+use Rattle.commands.specs.declared.command.Breakpoint.TheVariants.{Place, Channel, Bits, Cycles, Executed}
 use Rattle.commands.specs.declared.extended.ExtendedLine.TheVariants.{Common, On, Until}
 use Rattle.commands.specs.declared.command.Command.{Command}
 use Rattle.commands.specs.declared.command.Command.TheVariants.{Goto, Back, Seek, Memory}
@@ -53,8 +53,8 @@ abbrev session : List (List ℕ) → List ℕ
 session lines = conversation (terms_of symbols five) (extended_line symbols) (first_desk five [] []) lines
 
 -- breakpoints are told, and taken away one by one; those that stay are numbered anew
-breakpoints : session (codes "breaks" ∷ codes "break at FIVE" ∷ codes "break word 101 75" ∷ codes "break chan 10 12" ∷ codes "break chan 10 12 77" ∷ codes "breaks" ∷ codes "clear 2" ∷ codes "clear 4" ∷ codes "clear 0" ∷ codes "breaks" ∷ codes "clear" ∷ codes "breaks" ∷ [])
-    ≡ ended (codes "COUNT 0" ∷ codes "BREAK 1" ∷ codes "BREAK 2" ∷ codes "BREAK 3" ∷ codes "BREAK 4" ∷ codes "BREAK 1 at 02,0005" ∷ codes "BREAK 2 word 0101 00075" ∷ codes "BREAK 3 chan 010 00012" ∷ codes "BREAK 4 chan 010 00012 00077" ∷ codes "COUNT 4" ∷ codes "CLEAR 2" ∷ codes "NONE" ∷ codes "NONE" ∷ codes "BREAK 1 at 02,0005" ∷ codes "BREAK 2 chan 010 00012" ∷ codes "BREAK 3 chan 010 00012 00077" ∷ codes "COUNT 3" ∷ codes "CLEAR" ∷ codes "COUNT 0" ∷ [])
+breakpoints : session (codes "breaks" ∷ codes "break at FIVE" ∷ codes "break word 101 75" ∷ codes "break chan 10 12" ∷ codes "break chan 10 12 77" ∷ codes "break exec FIVE" ∷ codes "breaks" ∷ codes "clear 2" ∷ codes "clear 5" ∷ codes "clear 0" ∷ codes "breaks" ∷ codes "clear" ∷ codes "breaks" ∷ [])
+    ≡ ended (codes "COUNT 0" ∷ codes "BREAK 1" ∷ codes "BREAK 2" ∷ codes "BREAK 3" ∷ codes "BREAK 4" ∷ codes "BREAK 5" ∷ codes "BREAK 1 at 02,0005" ∷ codes "BREAK 2 word 0101 00075" ∷ codes "BREAK 3 chan 010 00012" ∷ codes "BREAK 4 chan 010 00012 00077" ∷ codes "BREAK 5 exec 02,0005" ∷ codes "COUNT 5" ∷ codes "CLEAR 2" ∷ codes "NONE" ∷ codes "NONE" ∷ codes "BREAK 1 at 02,0005" ∷ codes "BREAK 2 chan 010 00012" ∷ codes "BREAK 3 chan 010 00012 00077" ∷ codes "BREAK 4 exec 02,0005" ∷ codes "COUNT 4" ∷ codes "CLEAR" ∷ codes "COUNT 0" ∷ [])
 unfolding extended_line extended_forms extended_reply usages forms runs parsed counters sequences answer reply digits octal_text
 breakpoints = refl
 
@@ -89,6 +89,12 @@ on_some_bits : on (history five) 9 3 1 (Bits 8 0o102 7 ∷ []) ++ on (history fi
     ≡ ended (codes "7 CH 010 00012" ∷ codes "HIT 1" ∷ codes "AT 4 7 02,4004" ∷ codes "HIT 2" ∷ codes "AT 4 7 02,4004" ∷ [])
 unfolding extended_reply grow lowest_hit at_line digits octal_text place channel_lines place_text window and_sum
 on_some_bits = ap (λ h. on h 9 3 1 (Bits 8 0o102 7 ∷ []) ++ on h 9 8 0 (Bits 8 0o102 0o17 ∷ Bits 8 0o77777 2 ∷ [])) history-five ∙ refl
+
+-- the instruction at a place was executed by the step that led there; no step has led to the start
+on_executed : on (history five) 9 8 0 (Executed (linear.Fixed 2 2) ∷ []) ++ on (history five) 9 8 3 (Executed (linear.Fixed 2 2) ∷ []) ++ on (history five) 9 3 2 (Place (linear.Fixed 2 4) ∷ Executed (linear.Fixed 2 3) ∷ []) ++ on (history five) 4 8 0 (Executed (linear.Fixed 2 0) ∷ [])
+    ≡ ended (codes "HIT 1" ∷ codes "AT 3 5 02,4003" ∷ codes "HIT 1" ∷ codes "AT 8 13 02,4003" ∷ codes "7 CH 010 00012" ∷ codes "HIT 1" ∷ codes "AT 4 7 02,4004" ∷ codes "HIT 1" ∷ codes "AT 1 2 02,4001" ∷ [])
+unfolding extended_reply grow lowest_hit at_line digits octal_text place channel_lines place_text window
+on_executed = ap (λ h. on h 9 8 0 (Executed (linear.Fixed 2 2) ∷ []) ++ on h 9 8 3 (Executed (linear.Fixed 2 2) ∷ []) ++ on h 9 3 2 (Place (linear.Fixed 2 4) ∷ Executed (linear.Fixed 2 3) ∷ []) ++ on h 4 8 0 (Executed (linear.Fixed 2 0) ∷ [])) history-five ∙ refl
 
 -- the commands of any session tell the bank too, and other words as ever
 abbrev common : History → Command → List ℕ

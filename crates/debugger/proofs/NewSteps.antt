@@ -13,7 +13,7 @@ use Rattle.cpu.proofs.RunLaws.{outs-add-one}
 use Rattle.replay.specs.Memory.{step_limit}
 use Rattle.commands.specs.declared.command.Breakpoint.{Breakpoint}
 use Rattle.debugger.specs.History.{History}
-use Rattle.debugger.specs.Growth.{Growth, grow, grown, with_line, output_line, unless_hit, lowest_hit}
+use Rattle.debugger.specs.Growth.{Growth, grow, grown, with_line, output_line, unless_hit, hit_at}
 use Rattle.debugger.specs.Replies.{last_of, tail_length}
 use Rattle.debugger.specs.Sessions.{AllGranted}
 use Rattle.debugger.specs.Executions.{Grown, GrowthBroken}
@@ -23,7 +23,7 @@ below_limit : (n : ℕ) → n ≢ step_limit → (n == step_limit) ≡ false
 below_limit n h = grind (arith, nat_tests)
 
 step : (h : History) (breakpoints : List Breakpoint) (left now : ℕ) (rest : List Bool) → now ≢ step_limit
-    → grow h breakpoints (suc left) now (false ∷ rest) ≡ with_line (output_line (h.output (now + 1))) (unless_hit (lowest_hit breakpoints (h.after (now + 1))) (now + 1) rest (grow h breakpoints left (now + 1) rest))
+    → grow h breakpoints (suc left) now (false ∷ rest) ≡ with_line (output_line (h.output (now + 1))) (unless_hit (hit_at h breakpoints (now + 1)) (now + 1) rest (grow h breakpoints left (now + 1) rest))
 unfolding grow
 step h breakpoints left now rest below = rw (below_limit now below) refl
 
@@ -55,7 +55,7 @@ module _ {may_refuse : Bool} {h : History} {breakpoints : List Breakpoint} {more
   growing-none = record { answers = []; granted = λ _. tt; text = []; goes_on = λ rest. refl; written = sym (append-nil old) }
 
   -- a step was granted
-  went : {left now : ℕ} {new : List ℕ} (g : Growing may_refuse h breakpoints more n old (suc left) now new) → now ≢ step_limit → (found : Option ℕ) → lowest_hit breakpoints (h.after (now + 1)) ≡ found → (rest : List Bool)
+  went : {left now : ℕ} {new : List ℕ} (g : Growing may_refuse h breakpoints more n old (suc left) now new) → now ≢ step_limit → (found : Option ℕ) → hit_at h breakpoints (now + 1) ≡ found → (rest : List Bool)
       → grow h breakpoints more n ((g.answers ++ false ∷ []) ++ rest) ≡ with_line (g.text ++ output_line (h.output (now + 1))) (unless_hit found (now + 1) rest (grow h breakpoints left (now + 1) rest))
   went {left} {now} g below found is rest =
       let line = output_line (h.output (now + 1)) in
@@ -70,7 +70,7 @@ module _ {may_refuse : Bool} {h : History} {breakpoints : List Breakpoint} {more
 
   -- one step more, and no breakpoint holds
   pub growing-step : {left now : ℕ} {new : List ℕ} (left' now' : ℕ) (new' : List ℕ) → Growing may_refuse h breakpoints more n old left now new → left ≡ suc left' → now' ≡ now + 1 → now ≢ step_limit
-      → lowest_hit breakpoints (h.after (now + 1)) ≡ None → new' ≡ new ++ output_line (h.output (now + 1)) → Growing may_refuse h breakpoints more n old left' now' new'
+      → hit_at h breakpoints (now + 1) ≡ None → new' ≡ new ++ output_line (h.output (now + 1)) → Growing may_refuse h breakpoints more n old left' now' new'
   growing-step {left} {now} {new} left' now' new' g e f below none w =
       let at : Growing may_refuse h breakpoints more n old (suc left') now new = rw e at g in
       rw f (record {
@@ -114,7 +114,7 @@ module _ {may_refuse : Bool} {h : History} {breakpoints : List Breakpoint} {more
 
   -- a breakpoint ends them
   pub grown-hit : {left now : ℕ} {new : List ℕ} (left' now' i : ℕ) (new' : List ℕ) → Growing may_refuse h breakpoints more n old left now new → left ≡ suc left' → now' ≡ now + 1 → now ≢ step_limit
-      → lowest_hit breakpoints (h.after (now + 1)) ≡ Some i → new' ≡ new ++ output_line (h.output (now + 1)) → Grown may_refuse h breakpoints more n (Hit i) now' old new'
+      → hit_at h breakpoints (now + 1) ≡ Some i → new' ≡ new ++ output_line (h.output (now + 1)) → Grown may_refuse h breakpoints more n (Hit i) now' old new'
   grown-hit {left} {now} {new} left' now' i new' g e f below hit w =
       let at : Growing may_refuse h breakpoints more n old (suc left') now new = rw e at g in
       let line = output_line (h.output (now + 1)) in
@@ -132,9 +132,9 @@ module _ {may_refuse : Bool} {h : History} {breakpoints : List Breakpoint} {more
   growth-broken {left} {now} {new} left' new' g e below w =
       let at : Growing may_refuse h breakpoints more n old (suc left') now new = rw e at g in
       let line = output_line (h.output (now + 1)) in
-      let further = unless_hit (lowest_hit breakpoints (h.after (now + 1))) (now + 1) [] (grow h breakpoints left' (now + 1) []) in
+      let further = unless_hit (hit_at h breakpoints (now + 1)) (now + 1) [] (grow h breakpoints left' (now + 1) []) in
       let whole : (grow h breakpoints more n (at.answers ++ false ∷ [])).text ≡ (at.text ++ line) ++ further.text =
-      ap (λ (xs : List Bool). (grow h breakpoints more n xs).text) (sym (append-nil (at.answers ++ false ∷ []))) ∙ ap (λ (x : Growth). x.text) (went at below (lowest_hit breakpoints (h.after (now + 1))) refl []) in
+      ap (λ (xs : List Bool). (grow h breakpoints more n xs).text) (sym (append-nil (at.answers ++ false ∷ []))) ∙ ap (λ (x : Growth). x.text) (went at below (hit_at h breakpoints (now + 1)) refl []) in
       record {
         answers = at.answers ++ false ∷ [];
         granted = granted-one at;

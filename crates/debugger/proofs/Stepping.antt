@@ -7,7 +7,7 @@ use Rattle.commands.specs.declared.command.Breakpoint.{Breakpoint}
 use Rattle.replay.specs.View.{SessionView}
 use Rattle.debugger.specs.History.{History, history, in_manner}
 use Rattle.debugger.specs.declared.manner.Manner.{Manner}
-use Rattle.debugger.specs.Growth.{Growth, grow, grown, with_line, output_line, unless_hit, lowest_hit, is_refused, later}
+use Rattle.debugger.specs.Growth.{Growth, grow, grown, with_line, output_line, unless_hit, hit_at, is_refused, later}
 use Rattle.replay.specs.Memory.{step_limit}
 use Rattle.debugger.specs.Replies.{Desk, Reply, says, stands, after_text, after_growth, at_line_of}
 use Rattle.debugger.specs.Executions.{Grown, GrowthBroken, desk, awaiting, ReplyBroken, Replies}
@@ -26,7 +26,7 @@ grow_in m h tried (suc more) n answers =
     ap (λ (g : Growth).
     cond (n == step_limit) (grown n answers Limit)
     (cond (is_refused answers) (grown n (later answers) NoMemory)
-    (with_line (output_line (h.output (n + 1))) (unless_hit (lowest_hit tried (h.after (n + 1))) (n + 1) (later answers) g))))
+    (with_line (output_line (h.output (n + 1))) (unless_hit (hit_at h tried (n + 1)) (n + 1) (later answers) g))))
     (grow_in m h tried more (n + 1) (later answers))
 
 -- a request makes up to so many steps, up to some breakpoints, and the position is told by how many there are then

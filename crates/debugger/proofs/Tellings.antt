@@ -4,21 +4,28 @@ use Rattle.words.specs.Devices.{failures_after, one_more}
 use Rattle.words.specs.declared.device.WriteFailed.{WriteFailed}
 use Rattle.cpu.specs.declared.output.Output.{Output}
 use Rattle.cpu.specs.State.{State, Scenario}
+use Rattle.cpu.specs.Next.{next}
 use Rattle.cpu.specs.Run.{run, out, outs}
+use Rattle.cpu.proofs.RunLaws.{out-add-one}
 use Rattle.replay.specs.Memory.{step_limit}
 use Rattle.replay.specs.Stops.{is_by_watcher, HasStopped}
-use Rattle.replay.specs.Watched.{Watched, WatchedFor}
+use Rattle.replay.specs.Walked.{Walked, WalkedFor}
 use Rattle.replay.specs.declared.stop.Stop.{Stop}
 use Rattle.replay.specs.declared.stop.Stop.TheVariants as stop
 use Rattle.commands.specs.declared.command.Breakpoint.{Breakpoint}
 use Rattle.debugger.specs.History.{history}
+use Rattle.debugger.specs.Growth.{hit_at}
 use Rattle.debugger.specs.Replies.{last_of, tail_length}
 use Rattle.debugger.specs.HandingOn.{HandsOn}
 use Rattle.debugger.specs.Telling.{Telling, Tells, TellsBy, EndsAs}
 use Rattle.debugger.specs.declared.growing.Teller.{Teller}
+use Rattle.debugger.specs.declared.stops.Stops.{Stops}
+use Rattle.debugger.specs.Stopping.{asks, hit_by}
+use Rattle.std.specs.List.{list_any}
 use Rattle.debugger.specs.Executions.{Grows, Grown}
 use Rattle.debugger.specs.declared.ending.Ending.{Ending}
 use Rattle.debugger.specs.declared.ending.Ending.TheVariants.{NoMemory, Limit}
+use Rattle.debugger.proofs.StopLemmas.{found_at}
 use Rattle.debugger.proofs.NewSteps.{Growing, growing-none, growing-step, grown-reached, grown-limit, grown-refused, grown-hit, growth-broken, tail-more}
 
 tail_on : (scenario : Scenario) (n m : ℕ) (o : Option Output) (old new : Telling) → o ≡ out scenario (n + m + 1) → old.tail ≡ last_of tail_length (outs scenario (n + m)) → MatchOption o (new.tail ≡ old.tail) (λ x. new.tail ≡ last_of tail_length (old.tail ++ x ∷ [])) → new.tail ≡ last_of tail_length (outs scenario (n + suc m))
@@ -38,78 +45,88 @@ pub record HasEnded (told may_refuse : Bool) (scenario : Scenario) (breakpoints 
   pub failures : new.failures ≡ failures_after old.failures result
   pub growth : told ≡ true → Grows may_refuse (history scenario) breakpoints more n high old.text new.text result
 
--- of what tells steps: what is seen of it, its breakpoints, which stay, and the one that has ended the steps
-module _ {T : Type 0} (told may_refuse : Bool) (sees : T → Option Output → State → Bool → T → Type 0) (view : T → Telling) (breakpoints : T → List Breakpoint) (hit : T → Option ℕ)
-    (same : (w : T) (o : Option Output) (s : State) (b : Bool) (w' : T) → sees w o s b w' → breakpoints w' ≡ breakpoints w)
-    (tells : (w : T) (o : Option Output) (s : State) (b : Bool) (w' : T) → sees w o s b w' → Tells told (breakpoints w) o s b (hit w') (view w) (view w'))
+-- of what tells steps: what is seen of it, where its steps stop, which stays, and the breakpoint that has ended them
+module _ {T : Type 0} (told may_refuse : Bool) (sees : T → Scenario → State → Bool → T → Type 0) (view : T → Telling) (stops : T → Stops) (hit : T → Option ℕ)
+    (same : (w : T) (p : Scenario) (s : State) (b : Bool) (w' : T) → sees w p s b w' → stops w' ≡ stops w)
+    (tells : (w : T) (p : Scenario) (s : State) (b : Bool) (w' : T) → sees w p s b w' → Tells told (hit_by (stops w).breakpoints.now (stops w).looks p s) (next p s).1 b (hit w') (view w) (view w'))
     (scenario : Scenario) (more n : ℕ) where
-  breakpoints_stay : (m : ℕ) (old new : T) → WatchedFor sees scenario n m false old new → breakpoints new ≡ breakpoints old
-  breakpoints_stay zero old new watched = ap breakpoints watched.1
-  breakpoints_stay (suc m) old new (between, early, late) = same between (out scenario (n + m + 1)) (run scenario (n + m + 1)) false new late ∙ breakpoints_stay m old between early
+  stops_stay : (m : ℕ) (old new : T) → WalkedFor sees scenario n m false old new → stops new ≡ stops old
+  stops_stay zero old new walked = ap stops walked.1
+  stops_stay (suc m) old new (between, early, late) = same between scenario (run scenario (n + m)) false new late ∙ stops_stay m old between early
 
-  has_told : (m : ℕ) (old new : T) → m ≤ more → n + m ≤ step_limit → (view old).tail ≡ last_of tail_length (outs scenario n) → WatchedFor sees scenario n m false old new → HasTold told may_refuse scenario (breakpoints old) more n m (view old) (view new)
+  -- the breakpoint that is found after a step is the one that holds there
+  holds_there : (m : ℕ) (old between : T) → (stops old).looks ≡ list_any asks (stops old).breakpoints.now → WalkedFor sees scenario n m false old between
+      → hit_by (stops between).breakpoints.now (stops between).looks scenario (run scenario (n + m)) ≡ hit_at (history scenario) (stops old).breakpoints.now (n + m + 1)
+  holds_there m old between right early =
+      rw (stops_stay m old between early) (found_at scenario (stops old).breakpoints.now (stops old).looks (n + m) right)
+
+  has_told : (m : ℕ) (old new : T) → m ≤ more → n + m ≤ step_limit → (stops old).looks ≡ list_any asks (stops old).breakpoints.now → (view old).tail ≡ last_of tail_length (outs scenario n) → WalkedFor sees scenario n m false old new
+      → HasTold told may_refuse scenario (stops old).breakpoints.now more n m (view old) (view new)
   unfolding history
-  has_told zero old new most within tail watched =
+  has_told zero old new most within right tail walked =
       let none : n + 0 ≡ n = omega arith in
       let all : more - 0 ≡ more = omega arith in
-      rw watched.1 (record { tail = rw none tail; failures = refl; growth = λ _. rw (none, all) growing-none })
-  has_told (suc m) old new most within tail (between, early, late) =
-      let so_far = has_told m old between (omega arith) (omega arith) tail early in
-      let o = out scenario (n + m + 1) in
-      let s = run scenario (n + m + 1) in
-      let step = tells between o s false new late in
-      let next : n + suc m ≡ n + m + 1 = omega arith in
+      rw walked.1 (record { tail = rw none tail; failures = refl; growth = λ _. rw (none, all) growing-none })
+  has_told (suc m) old new most within right tail (between, early, late) =
+      let so_far = has_told m old between (omega arith) (omega arith) right tail early in
+      let step = tells between scenario (run scenario (n + m)) false new late in
+      let put = sym (out-add-one scenario (n + m)) in
+      let next_is : n + suc m ≡ n + m + 1 = omega arith in
       let left : more - m ≡ suc (more - suc m) = omega arith in
       record {
-        tail = tail_on scenario n m o (view between) (view new) refl so_far.tail step.tail;
+        tail = tail_on scenario n m (next scenario (run scenario (n + m))).1 (view between) (view new) put so_far.tail step.tail;
         failures = step.by.failures ∙ so_far.failures;
-        growth = λ w. growing-step (more - suc m) (n + suc m) (view new).text (so_far.growth w) left next (λ e. absurd (omega arith)) (rw (breakpoints_stay m old between early) at (sym (step.by.found_is scenario.rope))) (step.by.written w);
+        growth = λ w. growing-step (more - suc m) (n + suc m) (view new).text (so_far.growth w) left next_is (λ e. absurd (omega arith)) (sym (step.by.found_is ∙ holds_there m old between right early)) (rw put at (step.by.written w));
       }
 
   -- they end at a breakpoint, or at a write that failed
-  ended_by : (m : ℕ) (old new : T) (h : Option ℕ) (result : Result Ending WriteFailed) → m < more → n + m < step_limit → (view old).tail ≡ last_of tail_length (outs scenario n) → WatchedFor sees scenario n (suc m) true old new → hit new ≡ h → EndsAs stop.Watcher h result
-      → HasEnded told may_refuse scenario (breakpoints old) more n (n + suc m) (view old) (view new) result
+  ended_by : (m : ℕ) (old new : T) (h : Option ℕ) (result : Result Ending WriteFailed) → m < more → n + m < step_limit → (stops old).looks ≡ list_any asks (stops old).breakpoints.now → (view old).tail ≡ last_of tail_length (outs scenario n) → WalkedFor sees scenario n (suc m) true old new → hit new ≡ h → EndsAs stop.Watcher h result
+      → HasEnded told may_refuse scenario (stops old).breakpoints.now more n (n + suc m) (view old) (view new) result
   unfolding history
-  ended_by m old new (Some number) result most within tail (between, early, late) is ends =
-      let so_far = has_told m old between (omega arith) (omega arith) tail early in
-      let o = out scenario (n + m + 1) in
-      let s = run scenario (n + m + 1) in
-      let step = tells between o s true new late in
-      let by : TellsBy told (breakpoints between) o s true (Some number) (view between) (view new) = rw is at step.by in
-      let next : n + suc m ≡ n + m + 1 = omega arith in
+  ended_by m old new (Some number) result most within right tail (between, early, late) is ends =
+      let so_far = has_told m old between (omega arith) (omega arith) right tail early in
+      let s = run scenario (n + m) in
+      let o = (next scenario s).1 in
+      let lowest = hit_by (stops between).breakpoints.now (stops between).looks scenario s in
+      let step = tells between scenario s true new late in
+      let by : TellsBy told lowest o true (Some number) (view between) (view new) = rw is at step.by in
+      let put = sym (out-add-one scenario (n + m)) in
+      let next_is : n + suc m ≡ n + m + 1 = omega arith in
       let left : more - m ≡ suc (more - suc m) = omega arith in
       rw ends (record {
-        tail = tail_on scenario n m o (view between) (view new) refl so_far.tail step.tail;
+        tail = tail_on scenario n m o (view between) (view new) put so_far.tail step.tail;
         failures = by.failures ∙ so_far.failures;
-        growth = λ w. grown-hit (more - suc m) (n + suc m) number (view new).text (so_far.growth w) left next (λ e. absurd (omega arith)) (rw (breakpoints_stay m old between early) at (sym (by.found_is scenario.rope))) (by.written w);
+        growth = λ w. grown-hit (more - suc m) (n + suc m) number (view new).text (so_far.growth w) left next_is (λ e. absurd (omega arith)) (sym (by.found_is ∙ holds_there m old between right early)) (rw put at (by.written w));
       })
-  ended_by m old new None (Ok x) most within tail watched is ends = absurd (let bad : false ≡ true = ends in cc)
-  ended_by m old new None (Err failed) most within tail (between, early, late) is ends =
-      let so_far = has_told m old between (omega arith) (omega arith) tail early in
-      let o = out scenario (n + m + 1) in
-      let s = run scenario (n + m + 1) in
-      let step = tells between o s true new late in
-      let by : TellsBy told (breakpoints between) o s true None (view between) (view new) = rw is at step.by in
+  ended_by m old new None (Ok x) most within right tail walked is ends = absurd (let bad : false ≡ true = ends in cc)
+  ended_by m old new None (Err failed) most within right tail (between, early, late) is ends =
+      let so_far = has_told m old between (omega arith) (omega arith) right tail early in
+      let s = run scenario (n + m) in
+      let o = (next scenario s).1 in
+      let lowest = hit_by (stops between).breakpoints.now (stops between).looks scenario s in
+      let step = tells between scenario s true new late in
+      let by : TellsBy told lowest o true None (view between) (view new) = rw is at step.by in
+      let put = sym (out-add-one scenario (n + m)) in
       let left : more - m ≡ suc (more - suc m) = omega arith in
       record {
-        tail = tail_on scenario n m o (view between) (view new) refl so_far.tail step.tail;
+        tail = tail_on scenario n m o (view between) (view new) put so_far.tail step.tail;
         failures = by.failures ∙ ap one_more so_far.failures;
-        growth = λ w. growth-broken (more - suc m) (view new).text (so_far.growth w) left (λ e. absurd (omega arith)) (by.written w);
+        growth = λ w. growth-broken (more - suc m) (view new).text (so_far.growth w) left (λ e. absurd (omega arith)) (rw put at (by.written w));
       }
 
-  pub has_ended : (is : Stop) (m : ℕ) (old new : T) (h : Option ℕ) (result : Result Ending WriteFailed) → n + m ≤ step_limit → HasStopped may_refuse n more (n + m) is → (view old).tail ≡ last_of tail_length (outs scenario n) → WatchedFor sees scenario n m (is_by_watcher is) old new → hit new ≡ h → EndsAs is h result
-      → HasEnded told may_refuse scenario (breakpoints old) more n (n + m) (view old) (view new) result
-  has_ended stop.All m old new h result within stopped tail watched found ends =
-      let so_far = has_told m old new (omega (arith, stopped)) within tail watched in
+  pub has_ended : (is : Stop) (m : ℕ) (old new : T) (h : Option ℕ) (result : Result Ending WriteFailed) → n + m ≤ step_limit → HasStopped may_refuse n more (n + m) is → (stops old).looks ≡ list_any asks (stops old).breakpoints.now → (view old).tail ≡ last_of tail_length (outs scenario n) → WalkedFor sees scenario n m (is_by_watcher is) old new → hit new ≡ h → EndsAs is h result
+      → HasEnded told may_refuse scenario (stops old).breakpoints.now more n (n + m) (view old) (view new) result
+  has_ended stop.All m old new h result within stopped right tail walked found ends =
+      let so_far = has_told m old new (omega (arith, stopped)) within right tail walked in
       rw ends (record { tail = so_far.tail; failures = so_far.failures; growth = λ w. grown-reached (so_far.growth w) (omega (arith, stopped)) })
-  has_ended stop.Watcher zero old new h result within stopped tail watched found ends = absurd (omega (arith, stopped.0))
-  has_ended stop.Watcher (suc m) old new h result within stopped tail watched found ends = ended_by m old new h result (omega (arith, stopped.1)) (omega (arith, within)) tail watched found ends
-  has_ended stop.StepLimit m old new h result within stopped tail watched found ends =
-      let so_far = has_told m old new (omega (arith, stopped.1)) within tail watched in
+  has_ended stop.Watcher zero old new h result within stopped right tail walked found ends = absurd (omega (arith, stopped.0))
+  has_ended stop.Watcher (suc m) old new h result within stopped right tail walked found ends = ended_by m old new h result (omega (arith, stopped.1)) (omega (arith, within)) right tail walked found ends
+  has_ended stop.StepLimit m old new h result within stopped right tail walked found ends =
+      let so_far = has_told m old new (omega (arith, stopped.1)) within right tail walked in
       let left : more - m ≡ suc (more - suc m) = omega (arith, stopped.1) in
       rw ends (record { tail = so_far.tail; failures = so_far.failures; growth = λ w. grown-limit (more - suc m) (so_far.growth w) left stopped.2 })
-  has_ended stop.NoMemory m old new h result within stopped tail watched found ends =
-      let so_far = has_told m old new (omega (arith, stopped.1)) within tail watched in
+  has_ended stop.NoMemory m old new h result within stopped right tail walked found ends =
+      let so_far = has_told m old new (omega (arith, stopped.1)) within right tail walked in
       let left : more - m ≡ suc (more - suc m) = omega (arith, stopped.1) in
       rw ends (record { tail = so_far.tail; failures = so_far.failures; growth = λ w. grown-refused (more - suc m) (so_far.growth w) left (λ e. absurd (omega (arith, e, stopped.2))) (λ never. let bad : true ≡ false = sym stopped.3 ∙ never in cc) })
 
@@ -124,29 +141,29 @@ grows_refused may_refuse scenario breakpoints more n text some below may = grown
 abbrev pub seen : {W : Type 0} → (W → List ℕ) → (W → ℕ) → Teller W → Telling
 seen written failures t = record { tail = t.tail.now; text = written t.out.now; failures = failures t.out.now }
 
-abbrev pub Sees : {W : Type 0} → Bool → (W → List ℕ) → (W → List ℕ) → (W → ℕ) → Teller W → Option Output → State → Bool → Teller W → Type 0
-Sees told written handed_on failures old output machine ended new =
-    (new.tail.ghost_name ≡ old.tail.ghost_name) × (new.out.ghost_name ≡ old.out.ghost_name) × (new.breakpoints ≡ old.breakpoints)
-    × Tells told old.breakpoints.now output machine ended new.hit (seen written failures old) (seen written failures new)
+abbrev pub Sees : {W : Type 0} → Bool → (W → List ℕ) → (W → List ℕ) → (W → ℕ) → Teller W → Scenario → State → Bool → Teller W → Type 0
+Sees told written handed_on failures old scenario state ended new =
+    (new.tail.ghost_name ≡ old.tail.ghost_name) × (new.out.ghost_name ≡ old.out.ghost_name) × (new.stops ≡ old.stops)
+    × Tells told (hit_by old.stops.breakpoints.now old.stops.looks scenario state) (next scenario state).1 ended new.hit (seen written failures old) (seen written failures new)
     × HandsOn told ended old.until_flush new.until_flush (handed_on new.out.now) (written new.out.now)
 
 -- what no step changes
-same_for : {T X : Type 0} (sees : T → Option Output → State → Bool → T → Type 0) (name : T → X) → ((w : T) (o : Option Output) (s : State) (b : Bool) (w' : T) → sees w o s b w' → name w' ≡ name w)
-    → (scenario : Scenario) (n m : ℕ) (ended : Bool) (old new : T) → WatchedFor sees scenario n m ended old new → name new ≡ name old
-same_for sees name keeps scenario n zero ended old new watched = ap name watched.1
+same_for : {T X : Type 0} (sees : T → Scenario → State → Bool → T → Type 0) (name : T → X) → ((w : T) (p : Scenario) (s : State) (b : Bool) (w' : T) → sees w p s b w' → name w' ≡ name w)
+    → (scenario : Scenario) (n m : ℕ) (ended : Bool) (old new : T) → WalkedFor sees scenario n m ended old new → name new ≡ name old
+same_for sees name keeps scenario n zero ended old new walked = ap name walked.1
 same_for sees name keeps scenario n (suc m) ended old new (between, early, late) =
-    keeps between (out scenario (n + m + 1)) (run scenario (n + m + 1)) ended new late ∙ same_for sees name keeps scenario n m false old between early
+    keeps between scenario (run scenario (n + m)) ended new late ∙ same_for sees name keeps scenario n m false old between early
 
 -- what is left of it, and how its steps end
 pub teller_ended : {W : Type 0} (told may_refuse : Bool) (written handed_on : W → List ℕ) (failures : W → ℕ) (scenario : Scenario) (more n high : ℕ) (is : Stop) (old new : Teller W) (result : Result Ending WriteFailed)
-    → high ≤ step_limit → HasStopped may_refuse n more high is → old.tail.now ≡ last_of tail_length (outs scenario n) → Watched (Sees told written handed_on failures) scenario n high (is_by_watcher is) old new → EndsAs is new.hit result
-    → (new.tail.ghost_name ≡ old.tail.ghost_name) × (new.out.ghost_name ≡ old.out.ghost_name) × HasEnded told may_refuse scenario old.breakpoints.now more n high (seen written failures old) (seen written failures new) result
-teller_ended told may_refuse written handed_on failures scenario more n high is old new result within stopped tail (m, reached, watched) ends =
+    → high ≤ step_limit → HasStopped may_refuse n more high is → old.stops.looks ≡ list_any asks old.stops.breakpoints.now → old.tail.now ≡ last_of tail_length (outs scenario n) → Walked (Sees told written handed_on failures) scenario n high (is_by_watcher is) old new → EndsAs is new.hit result
+    → (new.tail.ghost_name ≡ old.tail.ghost_name) × (new.out.ghost_name ≡ old.out.ghost_name) × HasEnded told may_refuse scenario old.stops.breakpoints.now more n high (seen written failures old) (seen written failures new) result
+teller_ended told may_refuse written handed_on failures scenario more n high is old new result within stopped right tail (m, reached, walked) ends =
     let sees = Sees told written handed_on failures in (
-      same_for sees (λ (w : Teller _). w.tail.ghost_name) (λ w o s b w' k. k.0) scenario n m (is_by_watcher is) old new watched,
-      same_for sees (λ (w : Teller _). w.out.ghost_name) (λ w o s b w' k. k.1) scenario n m (is_by_watcher is) old new watched,
-      rw reached (has_ended told may_refuse sees (seen written failures) (λ (w : Teller _). w.breakpoints.now) (λ (w : Teller _). w.hit) (λ w o s b w' k. ap (λ (r : _). r.now) k.2) (λ w o s b w' k. k.3) scenario more n
-          is m old new new.hit result (rw reached at within) (rw reached at stopped) tail watched refl ends),
+      same_for sees (λ (w : Teller _). w.tail.ghost_name) (λ w p s b w' k. k.0) scenario n m (is_by_watcher is) old new walked,
+      same_for sees (λ (w : Teller _). w.out.ghost_name) (λ w p s b w' k. k.1) scenario n m (is_by_watcher is) old new walked,
+      rw reached (has_ended told may_refuse sees (seen written failures) (λ (w : Teller _). w.stops) (λ (w : Teller _). w.hit) (λ w p s b w' k. k.2) (λ w p s b w' k. k.3) scenario more n
+          is m old new new.hit result (rw reached at within) (rw reached at stopped) right tail walked refl ends),
     )
 
 -- of a teller that was told nothing

@@ -38,8 +38,7 @@ impl<'a> Stops<'a> {
     /// The place whose instruction the next step executes, if it is to be looked at.
     #[inline(always)]
     pub(crate) fn executed(&self, processor: &Processor, machine: &Machine) -> Option<Linear>
-        requires { FitsRun processor.now.scenario machine.now }
-        ensures { result ≡ (looked self.now.looks processor.now.scenario machine.now).executed }
+        ensures { FitsRun processor.now.scenario machine.now → result ≡ (looked self.now.looks processor.now.scenario machine.now).executed }
     {
         if !self.looks {
             return None;
@@ -58,8 +57,7 @@ impl<'a> Stops<'a> {
 
 /// The place whose instruction the next step executes, if it executes one.
 fn place_executed(processor: &Processor, machine: &Machine) -> Option<Linear>
-    requires { FitsRun processor.now.scenario machine.now }
-    ensures { result ≡ (step_from processor.now.scenario machine.now).executed }
+    ensures { FitsRun processor.now.scenario machine.now → result ≡ (step_from processor.now.scenario machine.now).executed }
 {
     match processor.account(machine) {
         Account::Place(place) => Some(place),

@@ -1,0 +1,138 @@
+-- Steps that were tested, and the steps of a history at which breakpoints hold.
+use Rattle.std.proofs.Common.{◌≡◌, ℕ, zero, suc, ◌+◌, ◌||◌, Bool, true, false, cond, not, List, [], ◌∷◌, length, Option, Some, None, IfSome, is_some, refl, sym, ap, ◌∙◌, arith, add-one}
+use Rattle.std.specs.Prelude.{nat_lt}
+use Rattle.std.specs.Option.{option_map}
+use Rattle.std.specs.List.{list_any, position, position_or_len}
+use Rattle.cpu.specs.State.{State, Scenario}
+use Rattle.cpu.specs.Next.{next}
+use Rattle.cpu.specs.Run.{run}
+use Rattle.cpu.proofs.RunLaws.{run-add-one}
+use Rattle.commands.specs.declared.command.Breakpoint.{Breakpoint}
+use Rattle.commands.specs.declared.command.Breakpoint.TheVariants.{Place, Word, Channel, Bits, Cycles, Returned, Outside, Executed}
+use Rattle.replay.specs.LastHit.{last_hit, first_hit}
+use Rattle.replay.specs.Found.{or_other, last_found, first_found, found_by}
+use Rattle.debugger.specs.History.{Sight, StepSight, history, sight, step_from, step_to}
+use Rattle.debugger.specs.Growth.{holds, lowest_hit, hit_at}
+use Rattle.debugger.specs.Stopping.{asks, looked, hit_by}
+
+-- a breakpoint that does not ask what the step did holds whatever it did
+unasked : (b : Breakpoint) → asks b ≡ false → (one other : StepSight) (seen : Sight) → holds one seen b ≡ holds other seen b
+unasked (Place place) no one other seen = refl
+unasked (Word p w) no one other seen = refl
+unasked (Channel c w) no one other seen = refl
+unasked (Bits c w mask) no one other seen = refl
+unasked (Cycles cycles) no one other seen = refl
+unasked (Returned place inside) no one other seen = refl
+unasked Outside no one other seen = refl
+unasked (Executed place) no one other seen = absurd (let bad : true ≡ false = no in cc)
+
+either_parts : (b c : Bool) → (b || c) ≡ false → (b ≡ false) × (c ≡ false)
+either_parts false c e = (refl, e)
+either_parts true c e = absurd (cc)
+
+-- the first that passes one test is the first that passes another, where they answer alike
+same_first : {X : Type 0} (apart p q : X → Bool) (xs : List X) → ((x : X) → apart x ≡ false → p x ≡ q x) → list_any apart xs ≡ false → position_or_len p xs ≡ position_or_len q xs
+same_first apart p q [] alike none = refl
+same_first apart p q (x ∷ xs) alike none =
+    let both = either_parts (apart x) (list_any apart xs) none in
+    let here = alike x both.0 in
+    let later = same_first apart p q xs alike both.1 in
+    λ i. cond (not (here i)) (1 + later i) 0
+
+same_position : {X : Type 0} (apart p q : X → Bool) (xs : List X) → ((x : X) → apart x ≡ false → p x ≡ q x) → list_any apart xs ≡ false → position p xs ≡ position q xs
+same_position apart p q xs alike none =
+    let same = same_first apart p q xs alike none in
+    λ i. cond (nat_lt (same i) (length xs)) (Some (same i)) None
+
+-- where none asks what a step did, the same hold
+unlooked : (breakpoints : List Breakpoint) → list_any asks breakpoints ≡ false → (one other : StepSight) (seen : Sight) → lowest_hit breakpoints one seen ≡ lowest_hit breakpoints other seen
+unfolding lowest_hit
+unlooked breakpoints none one other seen =
+    ap (option_map (λ (k : ℕ). k + 1)) (same_position asks (holds one seen) (holds other seen) breakpoints (λ b no. unasked b no one other seen) none)
+
+by_looking : (looks : Bool) (breakpoints : List Breakpoint) (scenario : Scenario) (s : State) (seen : Sight) → looks ≡ list_any asks breakpoints → lowest_hit breakpoints (looked looks scenario s) seen ≡ lowest_hit breakpoints (step_from scenario s) seen
+by_looking false breakpoints scenario s seen is = unlooked breakpoints (sym is) (looked false scenario s) (step_from scenario s) seen
+by_looking true breakpoints scenario s seen is = refl
+
+step_to_more : (scenario : Scenario) (t : ℕ) → step_to scenario (t + 1) ≡ step_from scenario (run scenario t)
+step_to_more scenario t = rw add-one refl
+
+-- what is found of the step after t steps is what holds at the next
+pub found_at : (scenario : Scenario) (breakpoints : List Breakpoint) (looks : Bool) (t : ℕ) → looks ≡ list_any asks breakpoints → hit_by breakpoints looks scenario (run scenario t) ≡ hit_at (history scenario) breakpoints (t + 1)
+unfolding history
+found_at scenario breakpoints looks t is =
+    by_looking looks breakpoints scenario (run scenario t) (sight scenario.rope (next scenario (run scenario t)).0) is
+    ∙ rw (step_to_more scenario t, run-add-one scenario t) refl
+
+-- a search among steps is one among those that they lead to
+other_is : (b : Option ℕ) (t : ℕ) (last : Option (ℕ × ℕ)) (earlier : Option ℕ) → option_map (λ (r : ℕ × ℕ). r.0 + 1) last ≡ earlier
+    → option_map (λ (r : ℕ × ℕ). r.0 + 1) (or_other t b last) ≡ cond (is_some b) (Some (t + 1)) earlier
+other_is (Some x) t last earlier is = refl
+other_is None t last earlier is = is
+
+pub first_led : (find hit : ℕ → Option ℕ) → ((t : ℕ) → find t ≡ hit (t + 1)) → (from count : ℕ) → option_map (λ (r : ℕ × ℕ). r.0 + 1) (first_found find from count) ≡ first_hit (λ t. is_some (hit t)) (from + 1) count
+first_led find hit same from zero = refl
+first_led find hit same from (suc count) = rw (← same from) (other_is (find from) from (first_found find (from + 1) count) (first_hit (λ t. is_some (hit t)) (from + 1 + 1) count) (first_led find hit same (from + 1) count))
+
+-- of the steps before the one after p, with the start
+with_start : Option ℕ → Option ℕ → Option ℕ
+with_start None start = start
+with_start (Some t) start = Some t
+
+start_hit : Bool → Option ℕ
+start_hit holds = cond holds (Some 0) None
+
+led_by : (b : Option ℕ) (t : ℕ) (last : Option (ℕ × ℕ)) (start earlier : Option ℕ) → earlier ≡ with_start (option_map (λ (r : ℕ × ℕ). r.0 + 1) last) start
+    → cond (is_some b) (Some (t + 1)) earlier ≡ with_start (option_map (λ (r : ℕ × ℕ). r.0 + 1) (or_other t b last)) start
+unfolding with_start
+led_by (Some x) t last start earlier is = refl
+led_by None t last start earlier is = is
+
+last_led : (find hit : ℕ → Option ℕ) → ((t : ℕ) → find t ≡ hit (t + 1)) → (p : ℕ) → last_hit (λ t. is_some (hit t)) (p + 1) ≡ with_start (option_map (λ (r : ℕ × ℕ). r.0 + 1) (last_found find p)) (start_hit (is_some (hit 0)))
+unfolding with_start start_hit
+last_led find hit same zero = refl
+last_led find hit same (suc p) =
+    let e : suc p + 1 ≡ suc (p + 1) = omega arith in
+    rw e (rw (← same p) (led_by (find p) p (last_found find p) (start_hit (is_some (hit 0))) (last_hit (λ t. is_some (hit t)) (p + 1)) (last_led find hit same p)))
+
+pub last_led_by : (find hit : ℕ → Option ℕ) → ((t : ℕ) → find t ≡ hit (t + 1)) → (p : ℕ) (r : ℕ × ℕ) → Some r ≡ last_found find p → Some (r.0 + 1) ≡ last_hit (λ t. is_some (hit t)) (p + 1)
+unfolding with_start
+last_led_by find hit same p r is = sym (last_led find hit same p ∙ rw (← is) refl)
+
+start_is : (b : Option ℕ) → option_map (λ (r : ℕ × ℕ). r.0) (option_map (λ i. (0, i)) b) ≡ start_hit (is_some b)
+unfolding start_hit
+start_is None = refl
+start_is (Some i) = refl
+
+pub last_led_none : (find hit : ℕ → Option ℕ) → ((t : ℕ) → find t ≡ hit (t + 1)) → (p : ℕ) (start : Option (ℕ × ℕ)) → None ≡ last_found find p → start ≡ option_map (λ i. (0, i)) (hit 0) → option_map (λ (r : ℕ × ℕ). r.0) start ≡ last_hit (λ t. is_some (hit t)) (p + 1)
+unfolding with_start start_hit
+last_led_none find hit same p start is at = rw at (start_is (hit 0)) ∙ sym (last_led find hit same p ∙ rw (← is) refl)
+
+-- what is found stands
+other_found : (find : ℕ → Option ℕ) (t : ℕ) (b : Option ℕ) (last : Option (ℕ × ℕ)) → b ≡ find t → IfSome last (λ r. Some r.1 ≡ find r.0) → IfSome (or_other t b last) (λ r. Some r.1 ≡ find r.0)
+other_found find t (Some x) last is h = is
+other_found find t None last is h = h
+
+pub last_is_found : (find : ℕ → Option ℕ) (p : ℕ) → IfSome (last_found find p) (λ r. Some r.1 ≡ find r.0)
+last_is_found find zero = tt
+last_is_found find (suc p) = other_found find p (find p) (last_found find p) refl (last_is_found find p)
+
+pub first_is_found : (find : ℕ → Option ℕ) (from count : ℕ) → IfSome (first_found find from count) (λ r. Some r.1 ≡ find r.0)
+first_is_found find from zero = tt
+first_is_found find from (suc count) = other_found find from (find from) (first_found find (from + 1) count) refl (first_is_found find (from + 1) count)
+
+-- one breakpoint alone
+alone_by : (b : Bool) → is_some (option_map (λ (k : ℕ). k + 1) (cond (nat_lt (cond (not b) (1 + 0) 0) 1) (Some (cond (not b) (1 + 0) 0)) None)) ≡ b
+alone_by true = refl
+alone_by false = refl
+
+alone : (end : Breakpoint) (step : StepSight) (seen : Sight) → is_some (lowest_hit (end ∷ []) step seen) ≡ holds step seen end
+unfolding lowest_hit
+alone end step seen = alone_by (holds step seen end)
+
+same_first_hit : (f g : ℕ → Bool) → ((t : ℕ) → f t ≡ g t) → (from count : ℕ) → first_hit f from count ≡ first_hit g from count
+same_first_hit f g same from zero = refl
+same_first_hit f g same from (suc count) = λ i. cond (same from i) (Some from) (same_first_hit f g same (from + 1) count i)
+
+pub first_end : (scenario : Scenario) (end : Breakpoint) (from count : ℕ) → first_hit (λ t. is_some (hit_at (history scenario) (end ∷ []) t)) from count ≡ first_hit (λ t. holds ((history scenario).step t) ((history scenario).after t) end) from count
+first_end scenario end from count = same_first_hit _ _ (λ t. alone end ((history scenario).step t) ((history scenario).after t)) from count
