@@ -75,6 +75,7 @@ break at FIVE
 break word 25 3
 break chan 10 12
 break chan 10 2 7
+break exec FIVE
 seek
 back 5
 %s

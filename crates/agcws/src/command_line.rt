@@ -495,6 +495,8 @@ With --extended there are these besides, and after E50 COMMAND stands why:
   trace K              a line for each of the last K steps up to P, as agcws
                        trace has it
   break chan C W MASK  where a channel has the bits of W where MASK has ones
+  break exec PLACE     where the step executed the instruction at PLACE, as an
+                       input and an interrupt do not, nor a word that waited
   where                WHERE, the next instruction's place as a listing has it,
                        and the symbol at it or before it; and in an interrupt IN
                        INTERRUPT K BY T, the step that entered it
