@@ -1,5 +1,5 @@
 -- Steps that were tested, and the steps of a history at which breakpoints hold.
-use Rattle.std.proofs.Common.{◌≡◌, ℕ, zero, suc, ◌+◌, ◌||◌, Bool, true, false, cond, not, List, [], ◌∷◌, length, Option, Some, None, IfSome, is_some, refl, sym, ap, ◌∙◌, arith, add-one}
+use Rattle.std.proofs.Common.{◌≡◌, ℕ, zero, suc, ◌+◌, ◌<◌, ◌≤◌, ◌||◌, Bool, true, false, cond, not, List, [], ◌∷◌, length, Option, Some, None, IfSome, is_some, refl, sym, ap, ◌∙◌, arith, add-one}
 use Rattle.std.specs.Prelude.{nat_lt}
 use Rattle.std.specs.Option.{option_map}
 use Rattle.std.specs.List.{list_any, position, position_or_len}
@@ -120,6 +120,55 @@ last_is_found find (suc p) = other_found find p (find p) (last_found find p) ref
 pub first_is_found : (find : ℕ → Option ℕ) (from count : ℕ) → IfSome (first_found find from count) (λ r. Some r.1 ≡ find r.0)
 first_is_found find from zero = tt
 first_is_found find from (suc count) = other_found find from (find from) (first_found find (from + 1) count) refl (first_is_found find (from + 1) count)
+
+-- the steps that they lead to
+abbrev pub led : Option (ℕ × ℕ) → Option (ℕ × ℕ)
+led r = option_map (λ (t : ℕ × ℕ). (t.0 + 1, t.1)) r
+
+pub within_more : (r : Option (ℕ × ℕ)) (p q : ℕ) → p ≤ q → IfSome r (λ t. t.0 < p) → IfSome r (λ t. t.0 < q)
+within_more None p q order h = tt
+within_more (Some t) p q order h = omega (arith, order, h)
+
+pub led_within : (r : Option (ℕ × ℕ)) (p q : ℕ) → p ≤ q → IfSome r (λ t. t.0 < p) → IfSome (led r) (λ t. t.0 ≤ q)
+led_within None p q order h = tt
+led_within (Some t) p q order h = omega (arith, order, h)
+
+pub step_led : (r : Option (ℕ × ℕ)) → option_map (λ (t : ℕ × ℕ). t.0) (led r) ≡ option_map (λ (t : ℕ × ℕ). t.0 + 1) r
+step_led None = refl
+step_led (Some t) = refl
+
+pub led_found : (find hit : ℕ → Option ℕ) → ((t : ℕ) → find t ≡ hit (t + 1)) → (r : Option (ℕ × ℕ)) → IfSome r (λ t. Some t.1 ≡ find t.0) → IfSome (led r) (λ t. Some t.1 ≡ hit t.0)
+led_found find hit same None h = tt
+led_found find hit same (Some t) h = h ∙ same t.0
+
+is_none : (r : Option (ℕ × ℕ)) → is_some r ≡ false → r ≡ None
+is_none None e = refl
+is_none (Some t) e = absurd (let bad : true ≡ false = e in cc)
+
+some_led : (find hit : ℕ → Option ℕ) → ((t : ℕ) → find t ≡ hit (t + 1)) → (p : ℕ) (r : Option (ℕ × ℕ)) → r ≡ last_found find p → is_some r ≡ true → option_map (λ (t : ℕ × ℕ). t.0) (led r) ≡ last_hit (λ t. is_some (hit t)) (p + 1)
+some_led find hit same p None is some = absurd (let bad : false ≡ true = some in cc)
+some_led find hit same p (Some t) is some = last_led_by find hit same p t is
+
+-- what the searches of a session come to, over what runs
+pub next_led : (scenario : Scenario) (breakpoints : List Breakpoint) (looks : Bool) (from count : ℕ) (r : Option (ℕ × ℕ)) → looks ≡ list_any asks breakpoints → r ≡ first_found (found_by (hit_by breakpoints looks) scenario) from count
+    → (option_map (λ (t : ℕ × ℕ). t.0) (led r) ≡ first_hit (λ t. is_some (hit_at (history scenario) breakpoints t)) (from + 1) count) × IfSome (led r) (λ t. Some t.1 ≡ hit_at (history scenario) breakpoints t.0)
+next_led scenario breakpoints looks from count r right is =
+    let find = found_by (hit_by breakpoints looks) scenario in
+    let hit = hit_at (history scenario) breakpoints in
+    let same : (t : ℕ) → find t ≡ hit (t + 1) = λ t. found_at scenario breakpoints looks t right in
+    rw is (step_led (first_found find from count) ∙ first_led find hit same from count, led_found find hit same (first_found find from count) (first_is_found find from count))
+
+pub last_led_to : (scenario : Scenario) (breakpoints : List Breakpoint) (looks : Bool) (p : ℕ) (r : Option (ℕ × ℕ)) → looks ≡ list_any asks breakpoints → r ≡ last_found (found_by (hit_by breakpoints looks) scenario) p
+    → (is_some r ≡ true → option_map (λ (t : ℕ × ℕ). t.0) (led r) ≡ last_hit (λ t. is_some (hit_at (history scenario) breakpoints t)) (p + 1)) × IfSome (led r) (λ t. Some t.1 ≡ hit_at (history scenario) breakpoints t.0)
+    × (is_some r ≡ false → (start : Option (ℕ × ℕ)) → start ≡ option_map (λ i. (0, i)) (hit_at (history scenario) breakpoints 0) → option_map (λ (t : ℕ × ℕ). t.0) start ≡ last_hit (λ t. is_some (hit_at (history scenario) breakpoints t)) (p + 1))
+last_led_to scenario breakpoints looks p r right is =
+    let find = found_by (hit_by breakpoints looks) scenario in
+    let hit = hit_at (history scenario) breakpoints in
+    let same : (t : ℕ) → find t ≡ hit (t + 1) = λ t. found_at scenario breakpoints looks t right in (
+      λ some. some_led find hit same p r is some,
+      rw is (led_found find hit same (last_found find p) (last_is_found find p)),
+      λ none start at. last_led_none find hit same p start (sym (is_none r none) ∙ is) at,
+    )
 
 -- one breakpoint alone
 alone_by : (b : Bool) → is_some (option_map (λ (k : ℕ). k + 1) (cond (nat_lt (cond (not b) (1 + 0) 0) 1) (Some (cond (not b) (1 + 0) 0)) None)) ≡ b

@@ -22,7 +22,7 @@ use crate::growing::grow;
 use crate::inputs::tell_inputs;
 use crate::manner::Manner;
 use crate::standing::find;
-use crate::stops::Stops;
+use crate::stops::{Stops, led_to};
 use crate::texts::{Text, hit_and_at_line, number_line, text_line};
 use arrayvec::ArrayVec;
 use commands::{Breakpoint, Breakpoints, ExtendedLine, help_text};
@@ -124,10 +124,7 @@ impl Desk {
     {
         let count = steps.min(session.steps() - self.position);
         let stops = Stops::at(self.breakpoints.as_slice());
-        match session.seek_step_on(self.position, count, &stops) {
-            Some((before, number)) => Some((before + 1, number)),
-            None => None,
-        }
+        led_to(session.seek_step_on(self.position, count, &stops))
     }
 
     /// A breakpoint that holds at the position, and the line of the position.

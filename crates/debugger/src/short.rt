@@ -15,7 +15,7 @@ ghost use Rattle.debugger.specs.Executions.{desk, Brings, BringsIn, HasLooked};
 use crate::breakpoints::lowest_hit;
 use crate::desk::Desk;
 use crate::manner::Manner;
-use crate::stops::Stops;
+use crate::stops::{Stops, led_to};
 use crate::texts::{
     PlacesText, Text, at_line, hit_and_at_line, last_line, number_line, places_text,
     registers_text, text_line, word_line,
@@ -102,11 +102,13 @@ impl Desk {
         if self.position == 0 {
             return None;
         }
+        let _limited = session.steps();
         let stops = Stops::at(self.breakpoints.as_slice());
-        match session.seek_step_back(self.position - 1, &stops) {
-            Some((before, number)) => Some((before + 1, number)),
-            None => self.stop_at_start(),
+        let found = led_to(session.seek_step_back(self.position - 1, &stops));
+        if found.is_some() {
+            return found;
         }
+        self.stop_at_start()
     }
 
     /// The start, where a breakpoint holds there, and the lowest of those that do.

@@ -1,6 +1,7 @@
 //! Steps, each with the lowest breakpoint that holds after it.
 
-ghost use Rattle.std.specs.Prelude.{◌≡◌, Option};
+ghost use Rattle.std.specs.Prelude.{◌≡◌, ◌+◌, ◌<◌, ◌^◌, Option, IfSome};
+ghost use Rattle.std.specs.Option.{option_map};
 ghost use Rattle.std.specs.List.{list_any};
 ghost use Rattle.rope.specs.Places.{Words};
 ghost use Rattle.cpu.specs.State.{FitsRun};
@@ -52,6 +53,27 @@ impl<'a> Stops<'a> {
         ensures { (rope : Words) → result ≡ lowest_hit self.now.breakpoints.now (record { executed = executed }) (sight rope machine.now) }
     {
         lowest_hit(self.breakpoints, executed, machine)
+    }
+}
+
+/// The steps that tested ones lead to, where something was found of one.
+pub(crate) fn led_to(found: Option<(u64, u64)>) -> Option<(u64, u64)>
+    requires { IfSome found (λ r. r.0 < 2 ^ 40) }
+    ensures { result ≡ option_map (λ r. (r.0 + 1, r.1)) found }
+{
+    match found {
+        Some((before, number)) => Some((before + 1, number)),
+        None => None,
+    }
+}
+
+/// The step of something that was found.
+pub(crate) fn step_of(found: Option<(u64, u64)>) -> Option<u64>
+    ensures { result ≡ option_map (λ r. r.0) found }
+{
+    match found {
+        Some((step, _)) => Some(step),
+        None => None,
     }
 }
 

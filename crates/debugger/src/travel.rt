@@ -19,7 +19,7 @@ use crate::ending::Ending;
 use crate::growing::grow;
 use crate::manner::Manner;
 use crate::routines::{Routines, entered};
-use crate::stops::Stops;
+use crate::stops::{Stops, led_to, step_of};
 use crate::texts::{Text, number_line, push_at_line, text_line};
 use arrayvec::ArrayVec;
 use commands::Breakpoint;
@@ -140,10 +140,8 @@ impl Desk {
     {
         let count = steps.min(session.steps() - self.position);
         let ends = [*end];
-        match session.seek_step_on(self.position, count, &Stops::at(&ends)) {
-            Some((before, _)) => Some(before + 1),
-            None => None,
-        }
+        let stops = Stops::at(&ends);
+        step_of(led_to(session.seek_step_on(self.position, count, &stops)))
     }
 
     /// How steps ended, with the cycles since so many, and the line of the position.
