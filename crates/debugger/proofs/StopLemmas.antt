@@ -129,6 +129,14 @@ pub within_more : (r : Option (ℕ × ℕ)) (p q : ℕ) → p ≤ q → IfSome r
 within_more None p q order h = tt
 within_more (Some t) p q order h = omega (arith, order, h)
 
+pub within_by : (r : Option (ℕ × ℕ)) (low p q : ℕ) → p ≤ q → IfSome r (λ t. (low ≤ t.0) × (t.0 < p)) → IfSome r (λ t. t.0 < q)
+within_by None low p q order h = tt
+within_by (Some t) low p q order h = omega (arith, order, h.1)
+
+pub led_by_within : (r : Option (ℕ × ℕ)) (low p q : ℕ) → p ≤ q → IfSome r (λ t. (low ≤ t.0) × (t.0 < p)) → IfSome (led r) (λ t. t.0 ≤ q)
+led_by_within None low p q order h = tt
+led_by_within (Some t) low p q order h = omega (arith, order, h.1)
+
 pub led_within : (r : Option (ℕ × ℕ)) (p q : ℕ) → p ≤ q → IfSome r (λ t. t.0 < p) → IfSome (led r) (λ t. t.0 ≤ q)
 led_within None p q order h = tt
 led_within (Some t) p q order h = omega (arith, order, h)
