@@ -29,6 +29,10 @@ from_zero : (find : ℕ → Option ℕ) (m : ℕ) → last_between find 0 m ≡ 
 from_zero find zero = refl
 from_zero find (suc m) = let e : 0 + m ≡ m = omega arith in rw e (ap (or_other m (find m)) (from_zero find m))
 
+some_by : (find : ℕ → Option ℕ) (low m : ℕ) (r : ℕ × ℕ) (found : Option ℕ) → or_other (low + m) found (last_between find low m) ≡ Some r → (last_between find low m ≡ Some r → last_found find (low + m) ≡ Some r) → or_other (low + m) found (last_found find (low + m)) ≡ Some r
+some_by find low m r None is rest = rest is
+some_by find low m r (Some x) is rest = is
+
 -- what is found of the steps from low up to high is the last of all below, and where nothing is those below low are left
 after_some : (find : ℕ → Option ℕ) (low m : ℕ) (r : ℕ × ℕ) → last_between find low m ≡ Some r → last_found find (low + m) ≡ Some r
 after_some find low zero r is = absurd (let bad : None ≡ Some r = is in cc)
@@ -36,19 +40,15 @@ after_some find low (suc m) r is =
     let e : low + suc m ≡ suc (low + m) = omega arith in
     rw e (some_by find low m r (find (low + m)) is (after_some find low m r))
 
-some_by : (find : ℕ → Option ℕ) (low m : ℕ) (r : ℕ × ℕ) (found : Option ℕ) → or_other (low + m) found (last_between find low m) ≡ Some r → (last_between find low m ≡ Some r → last_found find (low + m) ≡ Some r) → or_other (low + m) found (last_found find (low + m)) ≡ Some r
-some_by find low m r None is rest = rest is
-some_by find low m r (Some x) is rest = is
+none_by : (find : ℕ → Option ℕ) (low m : ℕ) (found : Option ℕ) → or_other (low + m) found (last_between find low m) ≡ None → (last_between find low m ≡ None → last_found find (low + m) ≡ last_found find low) → or_other (low + m) found (last_found find (low + m)) ≡ last_found find low
+none_by find low m None is rest = rest is
+none_by find low m (Some x) is rest = absurd (let bad : Some (low + m, x) ≡ None = is in cc)
 
 after_none : (find : ℕ → Option ℕ) (low m : ℕ) → last_between find low m ≡ None → last_found find (low + m) ≡ last_found find low
 after_none find low zero is = let e : low + 0 ≡ low = omega arith in rw e refl
 after_none find low (suc m) is =
     let e : low + suc m ≡ suc (low + m) = omega arith in
     rw e (none_by find low m (find (low + m)) is (after_none find low m))
-
-none_by : (find : ℕ → Option ℕ) (low m : ℕ) (found : Option ℕ) → or_other (low + m) found (last_between find low m) ≡ None → (last_between find low m ≡ None → last_found find (low + m) ≡ last_found find low) → or_other (low + m) found (last_found find (low + m)) ≡ last_found find low
-none_by find low m None is rest = rest is
-none_by find low m (Some x) is rest = absurd (let bad : Some (low + m, x) ≡ None = is in cc)
 
 pub found_in_segment : (find : ℕ → Option ℕ) (low high p : ℕ) (r : ℕ × ℕ) → low ≤ high → last_found find p ≡ last_found find high → Some r ≡ last_between find low (high - low) → Some r ≡ last_found find p
 found_in_segment find low high p r order same is =

@@ -1,5 +1,5 @@
 -- Steps that a stepper made, joined, and told to a watcher.
-use Rattle.std.proofs.Common.{◌≡◌, ℕ, zero, suc, ◌+◌, Bool, false, Option, refl, sym, ap, ◌∙◌, arith}
+use Rattle.std.proofs.Common.{◌≡◌, ℕ, zero, suc, ◌+◌, Bool, false, Option, Result, Ok, Err, IfOk, refl, ap, ◌∙◌, arith}
 use Rattle.cpu.specs.State.{State, Scenario}
 use Rattle.cpu.specs.declared.output.Output.{Output}
 use Rattle.cpu.specs.Next.{next}
@@ -35,7 +35,7 @@ Tells sees old scenario state ended new = (new.watcher.ghost_name ≡ old.watche
 
 watched_for : {W : Type 0} (sees : W → Option Output → State → Bool → W → Type 0) (scenario : Scenario) (low m : ℕ) (ended : Bool) (old new : Watching W) → WalkedFor (Tells sees) scenario low m ended old new
     → (new.watcher.ghost_name ≡ old.watcher.ghost_name) × WatchedFor sees scenario low m ended old.watcher.now new.watcher.now
-watched_for sees scenario low zero ended old new h = (ap (λ (w : Watching _). w.watcher.ghost_name) h.1, h.0, ap (λ (w : Watching _). w.watcher.now) h.1)
+watched_for sees scenario low zero ended old new h = (ap (λ (w : Watching _). w.watcher.ghost_name) h.1, (h.0, ap (λ (w : Watching _). w.watcher.now) h.1))
 watched_for sees scenario low (suc m) ended old new (between, early, late) =
     let before = watched_for sees scenario low m false old between early in
     (late.0 ∙ before.0, (between.watcher.now, before.1, rw (out-add-one scenario (low + m), run-add-one scenario (low + m)) late.1))
@@ -45,3 +45,8 @@ pub watched_by : {W : Type 0} (sees : W → Option Output → State → Bool →
 watched_by sees scenario low high ended old new (m, is, walked) =
     let both = watched_for sees scenario low m ended old new walked in
     (both.0, (m, is, both.1))
+
+-- what is so where a call went well, as it follows from what it says then
+pub if_ok : {X E : Type 0} (result : Result X E) (P Q : X → Type 0) → ((x : X) → P x → Q x) → IfOk result P → IfOk result Q
+if_ok (Ok x) P Q then h = then x h
+if_ok (Err e) P Q then h = tt

@@ -1,5 +1,4 @@
-use Rattle.std.proofs.Common.{◌≡◌, ◌+◌, ◌-◌, ◌∙◌, None, Some, sym, ap, arith}
-use Rattle.cpu.specs.State.{Scenario}
+use Rattle.std.proofs.Common.{◌≡◌, ◌-◌, ◌∙◌, None, Some, sym, ap, arith}
 use Rattle.replay.specs.Found.{found_by, last_between, last_found}
 use Rattle.replay.proofs.FoundLemmas.{found_in_segment, none_in_segment}
 use Rattle.replay.proofs.testing.search_steps.Goals as goal
@@ -11,7 +10,7 @@ returns-in-Some-clause-last g c =
     let low = c.step_before-low.result in
     let same = c.restore.ensures.scenario ∙ kept.scenario in
     let find = found_by (g.T.StepTest.finds c.args.test.now) c.args.processor.now.scenario in
-    let found : Some c.in-Some.found ≡ last_between find low (high - low) = rw (← same) (sym c.in-Some.is ∙ c.in-Some.ensures.last) in
+    let found : Some c.in-Some.found ≡ last_between find low (high - low) = rw (← same) c.in-Some.ensures.last in
     found_in_segment find low high c.args.p c.in-Some.found (omega (arith, c.step_before-low.ensures.before)) kept.none found
 
 pub returns-in-Some-clause-found : goal.returns-in-Some-clause-found
@@ -27,7 +26,7 @@ loop-high-preserved g c =
     let same = c.restore.ensures.scenario ∙ kept.scenario in
     let find = found_by (g.T.StepTest.finds c.args.test.now) c.args.processor.now.scenario in
     let cost = c.restore.ensures.most low c.step_before-low.ensures.kept_too (omega arith) in
-    let none : None ≡ last_between find low (high - low) = rw (← same) (sym c.in_default.is ∙ c.in_default.ensures.last) in
+    let none : None ≡ last_between find low (high - low) = rw (← same) c.in_default.ensures.last in
     record {
       high = omega (arith, c.step_before-low.ensures.before);
       scenario = c.in_default.ensures.scenario ∙ same;

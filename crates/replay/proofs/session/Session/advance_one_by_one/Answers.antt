@@ -30,7 +30,7 @@ loop-made-preserved g c =
       n = omega (arith, kept.n, told.step);
       none = λ e. absurd (omega (arith, e));
       walked = walked_joined g.S.Stepper.sees old.scenario old.n c.loop-made.self.n new.n false c.args.stepper.now c.loop-made.stepper c.forward_by.new.stepper kept.walked step;
-      metered = rw (← c.self-in-loop-made.view_is) c.self-in-loop-made.invariant.metered;
+      metered = omega (arith, told.meter);
       advanced = advanced_on old c.loop-made.self new kept.advanced kept.metered told.step told.meter told.scenario told.shown told.stands told.images;
     }
 
