@@ -8,5 +8,5 @@ place_alone-requires c = others-short 80 _ c.in_ok-kind.kind.now (texts (runs c.
 pub watches-requires : goal.watches-requires
 watches-requires c = others-short 80 _ c.in_ok-kind.kind.now (texts (runs c.in_ok-kind.more.now)) c.requires c.in_ok-kind.ensures
 
-pub place_alone-requires-2 : goal.place_alone-requires-2
-place_alone-requires-2 c = others-short 80 _ c.in_ok-kind.kind.now (texts (runs c.in_ok-kind.more.now)) c.requires c.in_ok-kind.ensures
+pub place_alone-requires-then-eq-4 : goal.place_alone-requires-then-eq-4
+place_alone-requires-then-eq-4 c = others-short 80 _ c.in_ok-kind.kind.now (texts (runs c.in_ok-kind.more.now)) c.requires c.in_ok-kind.ensures
