@@ -19,6 +19,7 @@ mod links;
 mod manner;
 mod retracing;
 mod routines;
+mod rows;
 mod session;
 mod short;
 mod standing;
