@@ -16,15 +16,21 @@ use Rattle.std.specs.Cmp.{nat_cmp_total}
 use Rattle.std.specs.Prelude.{◌||◌}
 use Rattle.space.specs.Cells.{accumulator, lower_accumulator, return_address, program_counter, both_banks, erasable_bank, fixed_bank}
 use Rattle.cpu.proofs.Holding.{get-holding, at-holding, superbank-holding}
-use Rattle.cpu.proofs.Held.{state}
+use Rattle.cpu.proofs.Held.{state, rope, word_at-rope}
+use Rattle.cpu.specs.Codes.{basic_rows, extracode_rows, code_of}
+use Rattle.cpu.specs.Texts.{instruction_text}
+use Rattle.audit.specs.WordLines.{extracode_at}
+use Rattle.names.specs.NamedLines.{named_line, named_instruction, place_told}
 use Rattle.cpu.specs.State.{State}
-use Rattle.cpu.proofs.FiveRun.{five}
+use Rattle.cpu.proofs.FiveRun.{five, five_words}
 use Rattle.symbols.specs.declared.values.Value.TheVariants.{Num, Erasable, Fixed}
 use Rattle.symbols.specs.Values.{SymbolTable}
 use Rattle.space.specs.Places.{window}
 use Rattle.yayul.specs.Listing.{place_text}
 use Rattle.trace.specs.TraceLines.{symbol_at}
-use Rattle.debugger.specs.Standing.{nearest_symbol, nearest_text, found_text, words_text}
+use Rattle.debugger.specs.Standing.{nearest_symbol, nearest_text, found_text, words_text, rows_text}
+use Rattle.debugger.specs.Rows.{based_text, list_row, numbers_text as numbers_row, row_text}
+use Rattle.debugger.specs.declared.rows.RowKind.TheVariants.{Instruction, Number}
 use Rattle.commands.specs.Commands.{forms}
 use Rattle.commands.specs.Extended.{extended_line, extended_forms}
 use Rattle.commands.specs.NamedPlaces.{registers}
@@ -176,3 +182,32 @@ words_there : words (history five) (linear.Fixed 2 3) 3 ++ words (history five) 
 unfolding words_text place_text window octal_text
 words_there =
     ap (λ h. words h (linear.Fixed 2 3) 3 ++ words h (linear.Fixed 2 0o1776) 9 ++ words h (linear.Erasable 0o3777) 2 ++ words h (linear.Erasable 0) 0) history-five ∙ refl
+
+-- the row of a word is the line that it has with names: an instruction by the symbol of its place or a register's letter, an
+-- extracode after EXTEND, and of erasable memory the word alone
+abbrev row : History → Linear → List ℕ
+row h place = row_text Instruction symbols (rope five_words) h (h.after 7) place
+
+rows : row (history five) (linear.Fixed 2 0) ++ row (history five) (linear.Fixed 2 2) ++ row (history five) (linear.Fixed 2 3) ++ row (history five) (linear.Fixed 2 4) ++ row (history five) (linear.Fixed 2 5)
+    ≡ ended (codes "LIST 02,4000 34005 CA FIVE" ∷ codes "LIST 02,4002 00006 EXTEND" ∷ codes "LIST 02,4003 01010 WRITE 010" ∷ codes "LIST 02,4004 14000 TCF 4000" ∷ codes "LIST 02,4005 00005 TC Z" ∷ [])
+unfolding named_line named_instruction extracode_at place_told symbol_at octal_text place_text window basic_rows extracode_rows code_of instruction_text
+rows = rw (word_at-rope five_words 2 0, word_at-rope five_words 2 1, word_at-rope five_words 2 2, word_at-rope five_words 2 3, word_at-rope five_words 2 4, word_at-rope five_words 2 5) refl
+
+erasable_row : row (history five) (linear.Erasable 5) ++ row (history five) (linear.Erasable 0o1400) ≡ ended (codes "LIST E0,0005 04002" ∷ codes "LIST E3,1400 00000" ∷ [])
+unfolding place_text window octal_text
+erasable_row = ap (λ h. row h (linear.Erasable 5) ++ row h (linear.Erasable 0o1400)) history-five ∙ refl
+
+-- words as numbers: both zeros, one and minus one, the greatest and the least, and a half
+numbers : ended (numbers_row 0 ∷ numbers_row 0o77777 ∷ numbers_row 1 ∷ numbers_row 0o77776 ∷ numbers_row 0o37777 ∷ numbers_row 0o40000 ∷ numbers_row 0o20000 ∷ [])
+    ≡ ended (codes "00000 0 0.00000000000000 000000000000000" ∷ codes "77777 -0 -0.00000000000000 111111111111111" ∷ codes "00001 1 0.00006103515625 000000000000001" ∷ codes "77776 -1 -0.00006103515625 111111111111110" ∷ codes "37777 16383 0.99993896484375 011111111111111" ∷ codes "40000 -16383 -0.99993896484375 100000000000000" ∷ codes "20000 8192 0.50000000000000 010000000000000" ∷ [])
+unfolding based_text octal_text digits
+numbers = refl
+
+-- so many from a place on, up to the last of its bank
+abbrev values : History → Linear → ℕ → List ℕ
+values h place k = rows_text Number symbols (rope five_words) h (h.after 7) place k
+
+values_there : values (history five) (linear.Fixed 2 3) 2 ++ values (history five) (linear.Fixed 2 0o1777) 9 ++ values (history five) (linear.Erasable 0) 1 ++ values (history five) (linear.Erasable 0) 0
+    ≡ ended (codes "VALUE 02,4003 01010 520 0.03173828125000 000001000001000" ∷ codes "VALUE 02,4004 14000 6144 0.37500000000000 001100000000000" ∷ codes "VALUE 02,5777 00000 0 0.00000000000000 000000000000000" ∷ codes "VALUE E0,0000 00012 10 0.00061035156250 000000000001010" ∷ [])
+unfolding rows_text based_text place_text window octal_text digits
+values_there = ap (λ h. values h (linear.Fixed 2 3) 2 ++ values h (linear.Fixed 2 0o1777) 9 ++ values h (linear.Erasable 0) 1 ++ values h (linear.Erasable 0) 0) history-five ∙ refl

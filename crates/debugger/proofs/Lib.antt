@@ -4,6 +4,7 @@ pub mod CellNumbers
 pub mod WhyLines
 pub mod PartByPart
 pub mod Standings
+pub mod Based
 pub mod WholeReplies
 pub mod InputsAdded
 pub mod LineByLine
