@@ -23,6 +23,7 @@ pub mod FirstHit
 mod Retraced
 pub mod Travelling
 pub mod Added
+pub mod InputsRead
 mod RoutineRows
 mod InputRows
 pub mod Entered

@@ -12,6 +12,7 @@ pub mod Retracing
 pub mod LeftToWrite
 pub mod Terms
 pub mod Inputs
+pub mod ReadBack
 pub mod Routines
 pub mod ExtendedReplies
 pub mod AllRegisters

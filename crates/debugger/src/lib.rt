@@ -14,6 +14,7 @@ mod extended;
 mod fault;
 mod growing;
 mod inputs;
+mod laws;
 mod link_texts;
 mod links;
 mod manner;
@@ -32,4 +33,5 @@ mod why;
 
 pub use ending::Ending;
 pub use fault::DebugFault;
+pub use laws::inputs_read_back;
 pub use session::{MOST_COMMAND_BYTES, debug_session, extended_session};
