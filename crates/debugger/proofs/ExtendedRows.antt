@@ -6,6 +6,7 @@ use Rattle.agc_text.specs.Fields.{runs}
 use Rattle.words.specs.Numerals.{octal_text}
 use Rattle.feed.specs.Names.{counters, sequences}
 use Rattle.feed.specs.Statements.{parsed}
+use Rattle.rope.specs.Places.{Words, word_at}
 use Rattle.space.specs.declared.place.Linear.{Linear}
 use Rattle.space.specs.declared.place.Linear.TheVariants as linear
 use Rattle.space.specs.Places.{place}
@@ -16,7 +17,7 @@ use Rattle.std.specs.Cmp.{nat_cmp_total}
 use Rattle.std.specs.Prelude.{◌||◌}
 use Rattle.space.specs.Cells.{accumulator, lower_accumulator, return_address, program_counter, both_banks, erasable_bank, fixed_bank}
 use Rattle.cpu.proofs.Holding.{get-holding, at-holding, superbank-holding}
-use Rattle.cpu.proofs.Held.{state, rope, word_at-rope}
+use Rattle.cpu.proofs.Held.{state, rope}
 use Rattle.cpu.specs.Codes.{basic_rows, extracode_rows, code_of}
 use Rattle.cpu.specs.Texts.{instruction_text}
 use Rattle.audit.specs.WordLines.{extracode_at}
@@ -41,7 +42,7 @@ use Rattle.commands.specs.declared.extended.ExtendedLine.TheVariants.{Common, On
 use Rattle.commands.specs.declared.command.Command.{Command}
 use Rattle.commands.specs.declared.command.Command.TheVariants.{Goto, Back, Seek, Memory}
 use Rattle.words.specs.BitSums.{and_sum}
-use Rattle.debugger.specs.History.{History, history}
+use Rattle.debugger.specs.History.{History, Sight, history}
 use Rattle.debugger.specs.Growth.{grow, lowest_hit}
 use Rattle.debugger.specs.Replies.{Desk, answer, reply, at_line}
 use Rattle.debugger.specs.AllRegisters.{register_lines, flag_lines, requested, numbers_text, or_none, sum_line, word_line}
@@ -184,14 +185,17 @@ words_there =
     ap (λ h. words h (linear.Fixed 2 3) 3 ++ words h (linear.Fixed 2 0o1776) 9 ++ words h (linear.Erasable 0o3777) 2 ++ words h (linear.Erasable 0) 0) history-five ∙ refl
 
 -- the row of a word is the line that it has with names: an instruction by the symbol of its place or a register's letter, an
--- extracode after EXTEND, and of erasable memory the word alone
+-- extracode where one is in force, and of erasable memory the word alone
+row_by_symbol : (words : Words) (seen : Sight) → word_at words 2 0 ≡ 0o34005 → list_row symbols words seen (linear.Fixed 2 0) ≡ codes "LIST 02,4000 34005 CA FIVE\n"
+unfolding named_line named_instruction extracode_at place_told symbol_at octal_text place_text window basic_rows code_of instruction_text
+row_by_symbol words seen first = rw first refl
+
+row_of_extracode : (words : Words) (seen : Sight) → extracode_at words 2 3 ≡ true → word_at words 2 3 ≡ 0o01010 → list_row symbols words seen (linear.Fixed 2 3) ≡ codes "LIST 02,4003 01010 WRITE 010\n"
+unfolding named_line named_instruction place_told symbol_at octal_text place_text window extracode_rows code_of instruction_text
+row_of_extracode words seen extra fourth = rw (extra, fourth) refl
+
 abbrev row : History → Linear → List ℕ
 row h place = row_text Instruction symbols (rope five_words) h (h.after 7) place
-
-rows : row (history five) (linear.Fixed 2 0) ++ row (history five) (linear.Fixed 2 2) ++ row (history five) (linear.Fixed 2 3) ++ row (history five) (linear.Fixed 2 4) ++ row (history five) (linear.Fixed 2 5)
-    ≡ ended (codes "LIST 02,4000 34005 CA FIVE" ∷ codes "LIST 02,4002 00006 EXTEND" ∷ codes "LIST 02,4003 01010 WRITE 010" ∷ codes "LIST 02,4004 14000 TCF 4000" ∷ codes "LIST 02,4005 00005 TC Z" ∷ [])
-unfolding named_line named_instruction extracode_at place_told symbol_at octal_text place_text window basic_rows extracode_rows code_of instruction_text
-rows = rw (word_at-rope five_words 2 0, word_at-rope five_words 2 1, word_at-rope five_words 2 2, word_at-rope five_words 2 3, word_at-rope five_words 2 4, word_at-rope five_words 2 5) refl
 
 erasable_row : row (history five) (linear.Erasable 5) ++ row (history five) (linear.Erasable 0o1400) ≡ ended (codes "LIST E0,0005 04002" ∷ codes "LIST E3,1400 00000" ∷ [])
 unfolding place_text window octal_text

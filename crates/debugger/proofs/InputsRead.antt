@@ -8,7 +8,7 @@ use Rattle.std.proofs.lemmas.Int.Digits.{number_push}
 use Rattle.std.proofs.lemmas.Bool.{cases_Bool}
 use Rattle.std.proofs.lemmas.Bool.Decides.{nat_tests}
 use Rattle.std.proofs.Math.Seq.{take-append_seam, drop-append_seam, take-length}
-use Rattle.std.proofs.lemmas.List.{append-nil, map-append, get_or_append_left}
+use Rattle.std.proofs.lemmas.List.{append-nil, map-append, get_or_append_left, length-drop}
 use Rattle.std.proofs.lemmas.List.Elements.{All-head, All-tail}
 use Rattle.std.proofs.lemmas.List.Folds.{list_all-append}
 use Rattle.words.specs.Numerals.{octal_text}
@@ -111,7 +111,8 @@ field_alone : (w : List ℕ) → IsField w → texts (runs w) ≡ w ∷ []
 field_alone w f =
     let whole = past is_blank w [] (all_weaker is_plain (λ b. not (is_blank b)) unblank_of w f.1) in
     let at : position_or_len is_blank w ≡ length w = rw append-nil at whole ∙ omega arith in
-    let none : length (drop (length w) w) ≡ 0 = simp (omega arith) in
+    let left = length-drop (length w) w in
+    let none : length (drop (length w) w) ≡ 0 = omega (arith, left) in
     texts-take w (length w) f.0 (stands_first w f) (sym at) ∙ rw (take-length w, texts-none (drop (length w) w) none) refl
 
 one_blank : (r : ℕ) (rest : List ℕ) → is_blank r ≡ false → 1 ≡ position_or_len (λ b. not (is_blank b)) (0o40 ∷ r ∷ rest)
@@ -279,9 +280,9 @@ input_fields (Word n w) = codes "CHAN" ∷ octal_text 3 n ∷ octal_text 5 w ∷
 input_fields (Interrupt k) = codes "RUPT" ∷ decimal k ∷ []
 
 are_fields : (i : Input) → CanBeGiven i → AreFields (input_fields i)
-are_fields (Count c s) given = (counter_field c, sequence_field s, tt)
-are_fields (Word n w) given = ((omega arith, refl), octal_field 3 n (omega arith), octal_field 5 w (omega arith), tt)
-are_fields (Interrupt k) given = ((omega arith, refl), decimal_field k (omega (arith, given.1)), tt)
+are_fields (Count c s) given = (counter_field c, (sequence_field s, tt))
+are_fields (Word n w) given = ((omega arith, refl), (octal_field 3 n (omega arith), (octal_field 5 w (omega arith), tt)))
+are_fields (Interrupt k) given = ((omega arith, refl), (decimal_field k (omega (arith, given.1)), tt))
 
 told_as : (i : Input) → CanBeGiven i → input_in (input_fields i) ≡ Ok i
 told_as (Count c s) given = let c_back = counter_back c in let s_back = sequence_back s in rw (c_back.2, c_back.1, s_back.1, given) refl
@@ -298,20 +299,28 @@ told_as (Interrupt k) given =
 abbrev text_of_input : Entry → List ℕ
 text_of_input e = decimal e.cycle ++ codes " " ++ input_text e.input
 
+blank_between : (a b : List ℕ) → a ++ codes " " ++ b ≡ a ++ 0o40 ∷ b
+blank_between a b = append_assoc a (codes " ") b
+
 is_joined : (cycle : ℕ) (i : Input) → decimal cycle ++ codes " " ++ input_text i ≡ joined (decimal cycle) (input_fields i)
-is_joined cycle (Count c s) = refl
-is_joined cycle (Word n w) = refl
-is_joined cycle (Interrupt k) = refl
+is_joined cycle (Count c s) = blank_between (decimal cycle) (input_text (Count c s)) ∙ ap (λ t. decimal cycle ++ 0o40 ∷ t) (blank_between (row_of c).name (sequence_name s))
+is_joined cycle (Word n w) =
+    blank_between (decimal cycle) (input_text (Word n w)) ∙ ap (λ t. decimal cycle ++ 0o40 ∷ t) (blank_between (codes "CHAN " ++ octal_text 3 n) (octal_text 5 w))
+is_joined cycle (Interrupt k) = blank_between (decimal cycle) (input_text (Interrupt k))
 
 short_input_text : (i : Input) → CanBeGiven i → length (input_text i) ≤ 30
 short_input_text (Count c s) given =
     let c_back = counter_back c in
     let s_back = sequence_back s in
-    omega (arith, length-append (row_of c).name (codes " " ++ sequence_name s), c_back.0, s_back.0)
-short_input_text (Word n w) given = omega (arith, length-append (octal_text 3 n) (codes " " ++ octal_text 5 w), length-octal_text 3 n, length-octal_text 5 w)
+    let front = length-append (row_of c).name (codes " ") in
+    omega (arith, length-append ((row_of c).name ++ codes " ") (sequence_name s), front, c_back.0, s_back.0)
+short_input_text (Word n w) given =
+    let name = length-append (codes "CHAN ") (octal_text 3 n) in
+    let front = length-append (codes "CHAN " ++ octal_text 3 n) (codes " ") in
+    omega (arith, length-append (codes "CHAN " ++ octal_text 3 n ++ codes " ") (octal_text 5 w), name, front, length-octal_text 3 n, length-octal_text 5 w)
 short_input_text (Interrupt k) given =
     let short : length (decimal k) ≤ 2 = length-decimal-le 2 k (omega arith) (omega (arith, given.1)) (omega (arith, given.1)) in
-    omega (arith, short)
+    omega (arith, length-append (codes "RUPT ") (decimal k), short)
 
 no_every : (w : List ℕ) → list_all (is_digit 10) w ≡ true → same_name w (codes "EVERY") ≡ false
 no_every [] all = refl
@@ -327,7 +336,7 @@ line_says e stands =
     let few : length (decimal e.cycle) ≤ 15 = length-decimal-le 15 e.cycle (omega arith) stands.0 small in
     let joins = is_joined e.cycle e.input in
     let long : length (joined (decimal e.cycle) (input_fields e.input)) ≤ 120 =
-    (let same = ap length joins in omega (arith, same, few, short_input_text e.input stands.1, length-append (decimal e.cycle) (codes " " ++ input_text e.input))) in
+    (let same = ap length joins in omega (arith, same, few, short_input_text e.input stands.1, length-append (decimal e.cycle ++ codes " ") (input_text e.input), length-append (decimal e.cycle) (codes " "))) in
     ap statement_of joins
     ∙ says_joined (decimal e.cycle) (input_fields e.input) (decimal_field e.cycle small) (are_fields e.input stands.1) long
     ∙ rw (no_every (decimal e.cycle) (decimal_all (is_digit 10) is_decimal e.cycle small), decimal_value e.cycle 15 small few, told_as e.input stands.1) refl

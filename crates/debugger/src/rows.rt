@@ -31,9 +31,9 @@ pub(crate) fn row_text(
     symbols: &Symbols,
     machine: &Machine,
     processor: &Processor,
-    place: Linear,
+    place: &Linear,
 ) -> Text
-    ensures { result.items ≡ row_text kind symbols.now processor.now.scenario.rope (history processor.now.scenario) (sight processor.now.scenario.rope machine.now) place }
+    ensures { result.items ≡ row_text kind symbols.now processor.now.scenario.rope (history processor.now.scenario) (sight processor.now.scenario.rope machine.now) place.now }
 {
     match kind {
         RowKind::Instruction => list_row(symbols, machine, processor, place),
@@ -46,37 +46,37 @@ pub(crate) fn list_row(
     symbols: &Symbols,
     machine: &Machine,
     processor: &Processor,
-    place: Linear,
+    place: &Linear,
 ) -> Text
-    ensures items { result.items ≡ list_row symbols.now processor.now.scenario.rope (sight processor.now.scenario.rope machine.now) place }
+    ensures items { result.items ≡ list_row symbols.now processor.now.scenario.rope (sight processor.now.scenario.rope machine.now) place.now }
     ensures short { array_vec_len result ≤ 53 }
 {
     let mut row = ArrayVec::new();
     push_all(&mut row, b"LIST ");
     match place {
         Linear::Erasable(number) => {
-            push_all(&mut row, place_text(place).as_slice());
+            push_all(&mut row, place_text(*place).as_slice());
             push_all(&mut row, b" ");
-            push_octal(&mut row, 5, machine.word(number).to_u16());
+            push_octal(&mut row, 5, machine.word(*number).to_u16());
             push_all(&mut row, b"\n");
         }
         Linear::Fixed(bank, offset) => push_all(
             &mut row,
-            line_of_word(processor.rope(), symbols, bank, offset).as_slice(),
+            line_of_word(processor.rope(), symbols, *bank, *offset).as_slice(),
         ),
     }
     row
 }
 
 /// The row of a place with its word as a number.
-fn value_row(machine: &Machine, processor: &Processor, place: Linear) -> Text
-    ensures { result.items ≡ value_row (history processor.now.scenario) (sight processor.now.scenario.rope machine.now) place }
+fn value_row(machine: &Machine, processor: &Processor, place: &Linear) -> Text
+    ensures { result.items ≡ value_row (history processor.now.scenario) (sight processor.now.scenario.rope machine.now) place.now }
 {
     let mut row = ArrayVec::new();
     push_all(&mut row, b"VALUE ");
-    push_all(&mut row, place_text(place).as_slice());
+    push_all(&mut row, place_text(*place).as_slice());
     push_all(&mut row, b" ");
-    push_numbers(&mut row, word_at(machine, processor, place));
+    push_numbers(&mut row, word_at(machine, processor, *place));
     push_all(&mut row, b"\n");
     row
 }

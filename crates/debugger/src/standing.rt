@@ -80,7 +80,7 @@ impl Desk {
         match session.with_present(self.position) {
             Ok((machine, _, processor)) => Standing {
                 line: where_line(symbols, machine),
-                row: list_row(symbols, machine, processor, machine.next_place()),
+                row: list_row(symbols, machine, processor, &machine.next_place()),
                 inside: machine.inside(),
             },
             Err(_) => unreachable!(),
@@ -141,6 +141,14 @@ impl Desk {
     }
 }
 
+/// How many of so many places from one on there are.
+fn row_count(place: &Linear, count: u64) -> u16
+    ensures value { result ≡ min count (places_from place.now) }
+    ensures within { result ≤ places_from place.now }
+{
+    count.min(u64::from(places_from(place))) as u16
+}
+
 /// Writes the rows of so many places from one on.
 #[tactic(auto, unfolding(crate::specs::Standing::rows_text))]
 fn write_rows<W: Write>(
@@ -155,11 +163,9 @@ fn write_rows<W: Write>(
     ensures writes { W.told ≡ true → Writes (W.written out.old) (W.written out.new) (rows_text kind symbols.now processor.now.scenario.rope (history processor.now.scenario) (sight processor.now.scenario.rope machine.now) place.now count) result }
     ensures failures { W.failures out.new ≡ failures_after (W.failures out.old) result }
 {
-    let places = places_from(place);
-    let count = count.min(u64::from(places)) as u16;
-    for index in 0..count {
+    for index in 0..row_count(place, count) {
         let there = place_after(place, index);
-        write_all(out, row_text(kind, symbols, machine, processor, there).as_slice())?;
+        write_all(out, row_text(kind, symbols, machine, processor, &there).as_slice())?;
     }
     Ok(())
 }
