@@ -19,9 +19,10 @@ use Rattle.space.specs.Cells.{accumulator, lower_accumulator, return_address, pr
 use Rattle.cpu.proofs.Holding.{get-holding, at-holding, superbank-holding}
 use Rattle.cpu.proofs.Held.{state, rope}
 use Rattle.cpu.specs.Codes.{basic_rows, extracode_rows, code_of}
+use Rattle.cpu.specs.Operands.{address_of}
 use Rattle.cpu.specs.Texts.{instruction_text}
 use Rattle.audit.specs.WordLines.{extracode_at}
-use Rattle.names.specs.NamedLines.{named_line, named_instruction, place_told}
+use Rattle.names.specs.NamedLines.{named_line, named_instruction, named_text, place_told}
 use Rattle.cpu.specs.State.{State}
 use Rattle.cpu.proofs.FiveRun.{five, five_words}
 use Rattle.symbols.specs.declared.values.Value.TheVariants.{Num, Erasable, Fixed}
@@ -184,15 +185,29 @@ unfolding words_text place_text window octal_text
 words_there =
     ap (λ h. words h (linear.Fixed 2 3) 3 ++ words h (linear.Fixed 2 0o1776) 9 ++ words h (linear.Erasable 0o3777) 2 ++ words h (linear.Erasable 0) 0) history-five ∙ refl
 
--- the row of a word is the line that it has with names: an instruction by the symbol of its place or a register's letter, an
--- extracode where one is in force, and of erasable memory the word alone
-row_by_symbol : (words : Words) (seen : Sight) → word_at words 2 0 ≡ 0o34005 → list_row symbols words seen (linear.Fixed 2 0) ≡ codes "LIST 02,4000 34005 CA FIVE\n"
-unfolding named_line named_instruction extracode_at place_told symbol_at octal_text place_text window basic_rows code_of instruction_text
-row_by_symbol words seen first = rw first refl
+-- the row of a word is the line that it has with names: an instruction by the symbol of its place, an extracode where one is in
+-- force, and of erasable memory the word alone
+instruction_is : (memory : Words) (bank offset word : ℕ) (extra : Bool) (text : List ℕ) → extracode_at memory bank offset ≡ extra → word_at memory bank offset ≡ word
+    → named_text symbols bank (code_of extra word) (address_of (code_of extra word)) ≡ text → named_instruction symbols memory bank offset ≡ text
+unfolding named_instruction
+instruction_is memory bank offset word extra text in_force is told =
+    ap (λ code. named_text symbols bank code (address_of code)) (ap (λ x. code_of x (word_at memory bank offset)) in_force ∙ ap (code_of extra) is) ∙ told
 
-row_of_extracode : (words : Words) (seen : Sight) → extracode_at words 2 3 ≡ true → word_at words 2 3 ≡ 0o01010 → list_row symbols words seen (linear.Fixed 2 3) ≡ codes "LIST 02,4003 01010 WRITE 010\n"
-unfolding named_line named_instruction place_told symbol_at octal_text place_text window extracode_rows code_of instruction_text
-row_of_extracode words seen extra fourth = rw (extra, fourth) refl
+ca_five : named_text symbols 2 (code_of false 0o34005) (address_of (code_of false 0o34005)) ≡ codes "CA FIVE"
+unfolding place_told symbol_at octal_text instruction_text basic_rows code_of
+ca_five = refl
+
+write_10 : named_text symbols 2 (code_of true 0o01010) (address_of (code_of true 0o01010)) ≡ codes "WRITE 010"
+unfolding place_told symbol_at octal_text instruction_text extracode_rows code_of
+write_10 = refl
+
+row_by_symbol : (memory : Words) (seen : Sight) → extracode_at memory 2 0 ≡ false → word_at memory 2 0 ≡ 0o34005 → list_row symbols memory seen (linear.Fixed 2 0) ≡ codes "LIST 02,4000 34005 CA FIVE\n"
+unfolding named_line octal_text place_text window
+row_by_symbol memory seen extra first = rw (instruction_is memory 2 0 0o34005 false (codes "CA FIVE") extra first ca_five, first) refl
+
+row_of_extracode : (memory : Words) (seen : Sight) → extracode_at memory 2 3 ≡ true → word_at memory 2 3 ≡ 0o01010 → list_row symbols memory seen (linear.Fixed 2 3) ≡ codes "LIST 02,4003 01010 WRITE 010\n"
+unfolding named_line octal_text place_text window
+row_of_extracode memory seen extra fourth = rw (instruction_is memory 2 3 0o01010 true (codes "WRITE 010") extra fourth write_10, fourth) refl
 
 abbrev row : History → Linear → List ℕ
 row h place = row_text Instruction symbols (rope five_words) h (h.after 7) place

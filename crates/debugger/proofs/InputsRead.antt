@@ -355,7 +355,7 @@ line_then text rest all = ap lines (append_assoc text (codes "\n") rest) ∙ lin
 
 text_bytes : (e : Entry) → CanStand e → list_all is_text_byte (text_of_input e) ≡ true
 text_bytes e stands =
-    rw (is_joined e.cycle e.input) (all_weaker is_open is_text_byte text_of _ (joined_open (decimal e.cycle) (input_fields e.input) (decimal_field e.cycle (omega (arith, stands.0))) (are_fields e.input stands.1)))
+    rw (is_joined e.cycle e.input) (all_weaker is_open is_text_byte text_of (joined (decimal e.cycle) (input_fields e.input)) (joined_open (decimal e.cycle) (input_fields e.input) (decimal_field e.cycle (omega (arith, stands.0))) (are_fields e.input stands.1)))
 
 -- the comment at the end says nothing
 comment_bytes : (n : ℕ) → n < 2 ^ 64 → list_all is_text_byte (codes "# COUNT " ++ decimal n) ≡ true
