@@ -37,6 +37,7 @@ use Rattle.trace.specs.TraceLines.{input_text, sequence_name}
 use Rattle.cpu.specs.State.{Scenario}
 use Rattle.debugger.specs.Inputs.{input_line, inputs_text, lines_from}
 use Rattle.debugger.specs.ReadBack.{CanBeGiven, CanStand, ReadsBack, giving}
+use Rattle.debugger.specs.Terms.{plain_inputs}
 
 -- ## Bytes
 -- a byte of a field, and one of a line before its comment
@@ -393,4 +394,4 @@ read_lines first n (e ∷ more) few all = elim (cases_Bool (nat_le first e.line)
 
 pub reads_back : (first : ℕ) (scenario : Scenario) → ReadsBack first scenario
 unfolding inputs_text
-reads_back first scenario few all = read_lines first 0 _ few all
+reads_back first scenario few all = read_lines first 0 (plain_inputs scenario) (omega (arith, few)) all
