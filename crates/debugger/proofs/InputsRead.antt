@@ -101,9 +101,9 @@ stands_first : (w : List ℕ) → IsField w → is_blank (get_or w 0 0) ≡ fals
 stands_first [] f = absurd (omega (arith, f.0))
 stands_first (x ∷ xs) f = elim (cases_Bool (is_plain x)) [
   | inl passes ↦ (let un = unblank_of x passes in elim (cases_Bool (is_blank x)) [
-      | inl blank ↦ absurd (let never : false ≡ true = rw blank at un in cc)
-      | inr none ↦ none
-    ])
+    | inl blank ↦ absurd (let never : false ≡ true = rw blank at un in cc)
+    | inr none ↦ none
+  ])
   | inr fails ↦ absurd (let all = f.1 in let never : false ≡ true = rw fails at all in cc)
 ]
 
@@ -182,6 +182,7 @@ decimal_number n small = decimal_by_steps (λ m ds. number_from_digits 10 (map d
   where
     one : (m : ℕ) → m < 10 → number_from_digits 10 (map digit_value ((48 + m) ∷ [])) ≡ m
     one m lt = omega arith
+
     more : (m : ℕ) (ds : List ℕ) → 10 ≤ m → number_from_digits 10 (map digit_value ds) ≡ m / 10 → number_from_digits 10 (map digit_value (ds ++ ((48 + m % 10) ∷ []))) ≡ m
     more m ds le so_far =
         let digit : digit_value (48 + m % 10) ≡ m % 10 = omega arith in

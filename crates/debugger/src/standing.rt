@@ -165,7 +165,10 @@ fn write_rows<W: Write>(
 {
     for index in 0..row_count(place, count) {
         let there = place_after(place, index);
-        write_all(out, row_text(kind, symbols, machine, processor, &there).as_slice())?;
+        write_all(
+            out,
+            row_text(kind, symbols, machine, processor, &there).as_slice(),
+        )?;
     }
     Ok(())
 }

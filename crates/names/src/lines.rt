@@ -73,13 +73,7 @@ fn write_bank<W: Write>(
 
 /// The line of a word.
 #[tactic(auto, unfolding(crate::specs::NamedLines::named_line))]
-pub fn named_line<N: Names>(
-    rope: &Rope,
-    names: &N,
-    bank: Bank,
-    offset: Offset,
-    extra: bool,
-) -> Line
+pub fn named_line<N: Names>(rope: &Rope, names: &N, bank: Bank, offset: Offset, extra: bool) -> Line
     requires { extra ≡ extracode_at rope.now bank offset }
     ensures { result.items ≡ named_line (N.table names.now) rope.now bank offset }
 {
