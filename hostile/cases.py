@@ -102,6 +102,8 @@ why 25
 why CH010 40
 trace 12
 where
+list 02,4000 12
+value 24 3
 mem 02,4000 12
 mem 24 +2
 mem Z

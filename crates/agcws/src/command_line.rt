@@ -498,8 +498,13 @@ With --extended there are these besides, and after E50 COMMAND stands why:
   break exec PLACE     where the step executed the instruction at PLACE, as an
                        input and an interrupt do not, nor a word that waited
   where                WHERE, the next instruction's place as a listing has it,
-                       and the symbol at it or before it; and in an interrupt IN
-                       INTERRUPT K BY T, the step that entered it
+                       and the symbol at it or before it; its row, as list has
+                       it; and in an interrupt IN INTERRUPT K BY T, the step
+                       that entered it
+  list PLACE, .. K     16 words from there on, or K, each as LIST, its place,
+                       the word and the instruction that it is, with names
+  value PLACE, .. K    the word there, or K from there on, each as VALUE, its
+                       place, the word in octal, decimal, fraction and binary
   mem PLACE K          K words from there on, each as MEM, its place, the word
   find TEXT            the symbols whose names begin so, as FIND; COUNT
   breaks               the breakpoints, one a line, as BREAK I at PLACE; COUNT

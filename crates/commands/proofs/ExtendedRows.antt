@@ -20,7 +20,7 @@ use Rattle.commands.specs.declared.command.Breakpoint.TheVariants as breakpoint
 use Rattle.commands.specs.declared.command.Command.TheVariants.{Registers, Memory, Last, Break, Clear, Step, Add}
 use Rattle.commands.specs.declared.command.ParsedLine.TheVariants.{Nothing, TooLong, WrongCounter}
 use Rattle.commands.specs.declared.extended.ExtendedLine.{ExtendedLine}
-use Rattle.commands.specs.declared.extended.ExtendedLine.TheVariants.{Plain, Common, Says, Help, Breaks, ClearOne, On, AllRegisters, Until, WhyStep, Why, Words, Where, Find, Trace, Inputs, Over, Out}
+use Rattle.commands.specs.declared.extended.ExtendedLine.TheVariants.{Plain, Common, Says, Help, Breaks, ClearOne, On, AllRegisters, Until, WhyStep, Why, Words, Where, Find, Trace, Inputs, Over, Out, Listed, Values}
 
 -- a place in fixed memory, and a number that is no place
 abbrev symbols : SymbolTable
@@ -164,3 +164,21 @@ travels : asked (codes "over" ∷ codes "over 20" ∷ codes "out" ∷ codes "out
     ∷ []
 unfolding extended_line extended_forms usages forms runs parsed counters sequences registers window
 travels = refl
+
+-- the words of a place on as instructions, sixteen where no number stands, and as numbers, one where none stands
+shown : asked (codes "list FIVE" ∷ codes "list 02,4005 +1 3" ∷ codes "list SUM 0" ∷ codes "value SUM" ∷ codes "value E3,1400 +2 4" ∷ codes "value A" ∷ [])
+    ≡ Listed (Fixed 2 5) 16 ∷ Listed (Fixed 2 6) 3 ∷ Listed (Erasable 0o101) 0 ∷ Values (Erasable 0o101) 1 ∷ Values (Erasable 0o1402) 4 ∷ Values (Erasable 0) 1 ∷ []
+unfolding extended_line extended_forms usages forms runs parsed counters sequences registers window
+shown = refl
+
+not_shown : asked (codes "list" ∷ codes "list FIV 5" ∷ codes "list FIVE 1000" ∷ codes "value" ∷ codes "value SUMM" ∷ codes "value SUM 1 2" ∷ [])
+    ≡ map (λ text. Says (codes "E50 COMMAND " ++ text))
+    (codes "list takes a place, or a place and a count\n"
+    ∷ codes "no symbol FIV\n"
+    ∷ codes "list takes a place, or a place and a count\n"
+    ∷ codes "value takes a place, or a place and a count\n"
+    ∷ codes "no symbol SUMM\n"
+    ∷ codes "value takes a place, or a place and a count\n"
+    ∷ [])
+unfolding extended_line extended_forms usages forms runs parsed counters sequences registers window
+not_shown = refl

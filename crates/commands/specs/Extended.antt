@@ -18,7 +18,7 @@ use Rattle.commands.specs.declared.command.Command.TheVariants.{Memory, Last, Br
 use Rattle.commands.specs.declared.command.ParsedLine.{ParsedLine}
 use Rattle.commands.specs.declared.command.ParsedLine.TheVariants.{Nothing, TooLong, Unknown, WrongCounter, Known}
 use Rattle.commands.specs.declared.extended.ExtendedLine.{ExtendedLine}
-use Rattle.commands.specs.declared.extended.ExtendedLine.TheVariants.{Plain, Common, Says, Help, Breaks, ClearOne, On, AllRegisters, Until, WhyStep, Why, Words, Where, Find, Trace, Inputs, Over, Out}
+use Rattle.commands.specs.declared.extended.ExtendedLine.TheVariants.{Plain, Common, Says, Help, Breaks, ClearOne, On, AllRegisters, Until, WhyStep, Why, Words, Where, Find, Trace, Inputs, Over, Out, Listed, Values}
 
 -- the most steps that a command can name
 abbrev pub most_count : ℕ
@@ -101,6 +101,18 @@ memory_of place (field ∷ more) = option_map (λ k. Words place k) (option_and_
 abbrev pub memory_form : SymbolTable → ExtendedForm
 memory_form symbols fields = option_and_then (λ place. memory_of place (after_place fields)) (place_first symbols fields)
 
+-- a place and a number of words, or the usual one where none is named
+abbrev pub count_after : ℕ → List (List ℕ) → Option ℕ
+count_after usual [] = Some usual
+count_after usual (field ∷ more) = option_and_then few_in (sole (field ∷ more))
+
+abbrev pub counted_place : SymbolTable → ℕ → List (List ℕ) → Option (Linear × ℕ)
+counted_place symbols usual fields =
+    option_and_then (λ place. option_map (λ k. (place, k)) (count_after usual (after_place fields))) (place_first symbols fields)
+
+abbrev pub with_counted_place : SymbolTable → ℕ → (Linear → ℕ → ExtendedLine) → ExtendedForm
+with_counted_place symbols usual request fields = option_map (λ r. request r.0 r.1) (counted_place symbols usual fields)
+
 -- a place, where no field stands after it
 abbrev pub if_none : {X : Type 0} → List (List ℕ) → Option X → Option X
 if_none [] x = x
@@ -162,6 +174,8 @@ extended_forms symbols =
     ∷ (codes "where", with_none Where)
     ∷ (codes "find", with_field (λ field. Some field) (λ text. Find text))
     ∷ (codes "trace", with_field count_in (λ k. Trace k))
+    ∷ (codes "list", with_counted_place symbols usual_links (λ place k. Listed place k))
+    ∷ (codes "value", with_counted_place symbols 1 (λ place k. Values place k))
     ∷ []
 
 -- the field that names a place
@@ -173,6 +187,7 @@ abbrev pub place_field : List ℕ → List (List ℕ) → Option (List ℕ)
 place_field name [] = None
 place_field name (field ∷ more) =
     if same_name name (codes "mem") || same_name name (codes "last") || same_name name (codes "why") then Some field
+    else if same_name name (codes "list") || same_name name (codes "value") then Some field
     else if same_name name (codes "break") then breakpoint_place_field field more
     else None
 

@@ -7,7 +7,7 @@ ghost use Rattle.agc_text.specs.Tables.{value_in};
 ghost use Rattle.commands.specs.Lines.{kept_line};
 ghost use Rattle.commands.specs.Commands.{count_in};
 ghost use Rattle.commands.specs.declared.extended.ExtendedLine.TheVariants as asked;
-ghost use Rattle.commands.specs.Extended.{extended_forms, most_count, sole, with_none, with_word, with_field, with_field_or, help_in, few_in, links_in, why_of, why_form, memory_of, memory_form, place_alone, last_form, broken_at, watches, bits_of, watches_bits, break_form, breakpoint_place_field, place_field, is_no_symbol, missing_symbol, refusal_line, in_words, echoed, extended_in, extended_line, steps_in};
+ghost use Rattle.commands.specs.Extended.{extended_forms, most_count, sole, with_none, with_word, with_field, with_field_or, help_in, few_in, links_in, why_of, why_form, memory_of, memory_form, count_after, counted_place, place_alone, last_form, broken_at, watches, bits_of, watches_bits, break_form, breakpoint_place_field, place_field, is_no_symbol, missing_symbol, refusal_line, in_words, echoed, extended_in, extended_line, steps_in};
 
 use crate::command::{Breakpoint, Command, ParsedLine};
 use crate::fields::{channel_in, count_in};
@@ -73,6 +73,10 @@ pub enum ExtendedLine {
     Find(Phrase),
     /// The last so many steps up to the position, a line each.
     Trace(u64),
+    /// The words from a place on as instructions, at most so many.
+    Listed(Linear, u64),
+    /// The words from a place on as numbers, at most so many.
+    Values(Linear, u64),
 }
 
 /// What a line of an extended session asks for, where the symbols of a program stand.
@@ -157,6 +161,12 @@ fn command_in(symbols: &Symbols, name: &[u8], rest: &[u8]) -> Option<ExtendedLin
         find_form(rest)
     } else if name == "trace".as_bytes() {
         sole(rest).and_then(count_in).map(ExtendedLine::Trace)
+    } else if name == "list".as_bytes() {
+        let (place, count) = counted_place(symbols, rest, USUAL_LINKS)?;
+        Some(ExtendedLine::Listed(place, count))
+    } else if name == "value".as_bytes() {
+        let (place, count) = counted_place(symbols, rest, 1)?;
+        Some(ExtendedLine::Values(place, count))
     } else {
         None
     }
@@ -299,6 +309,27 @@ fn memory_of(place: Linear, rest: &[u8]) -> Option<ExtendedLine>
             let count = sole(rest).and_then(few_in)?;
             Some(ExtendedLine::Words(place, count))
         }
+    }
+}
+
+// A place and a number of words, or the usual one where none is named.
+fn counted_place(symbols: &Symbols, rest: &[u8], usual: u64) -> Option<(Linear, u64)>
+    requires { All (λ field. length field ≤ 80) (texts (runs rest.now)) }
+    ensures { result ≡ counted_place symbols.now usual (texts (runs rest.now)) }
+{
+    let place = place_first(symbols, rest)?;
+    let count = count_after(usual, after_place(rest))?;
+    Some((place, count))
+}
+
+// A number of words, or the usual one where none is named.
+fn count_after(usual: u64, rest: &[u8]) -> Option<u64>
+    requires { All (λ field. length field ≤ 80) (texts (runs rest.now)) }
+    ensures { result ≡ count_after usual (texts (runs rest.now)) }
+{
+    match split_field(rest) {
+        None => Some(usual),
+        Some(_) => sole(rest).and_then(few_in),
     }
 }
 
@@ -457,6 +488,8 @@ fn place_field<'a>(name: &[u8], rest: &'a [u8]) -> Option<&'a [u8]>
 {
     let (first, rest) = split_field(rest)?;
     if name == "mem".as_bytes() || name == "last".as_bytes() || name == "why".as_bytes() {
+        Some(first)
+    } else if name == "list".as_bytes() || name == "value".as_bytes() {
         Some(first)
     } else if name == "break".as_bytes() {
         breakpoint_place_field(first, rest)

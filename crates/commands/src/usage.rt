@@ -16,7 +16,7 @@ use words::push_all;
 type Row = (&'static str, &'static str, &'static str);
 
 /// The rows of the help.
-const ROWS: [Row; 28] = [
+const ROWS: [Row; 30] = [
     (
         "step",
         "a number of steps",
@@ -91,6 +91,16 @@ const ROWS: [Row; 28] = [
         "where",
         "nothing",
         "the next instruction's place, and the interrupt",
+    ),
+    (
+        "list",
+        "a place, or a place and a count",
+        "the words from there on, as instructions",
+    ),
+    (
+        "value",
+        "a place, or a place and a count",
+        "the word as octal, decimal, fraction and binary",
     ),
     ("sym", "a name", "the symbol's value"),
     (

@@ -1,11 +1,12 @@
 -- Extended sessions over a small program, replied by the definitions alone.
-use Rattle.std.proofs.Common.{◌≡◌, ℕ, List, [], ◌∷◌, ◌++◌, Some, true, false, ap, ◌∙◌, refl}
+use Rattle.std.proofs.Common.{◌≡◌, ℕ, Bool, List, [], ◌∷◌, ◌++◌, Some, true, false, ap, ◌∙◌, refl}
 use Rattle.std.specs.Prelude.{codes, decimal}
 use Rattle.std.specs.Fmt.{digits}
 use Rattle.agc_text.specs.Fields.{runs}
 use Rattle.words.specs.Numerals.{octal_text}
 use Rattle.feed.specs.Names.{counters, sequences}
 use Rattle.feed.specs.Statements.{parsed}
+use Rattle.rope.specs.Places.{Words, word_at}
 use Rattle.space.specs.declared.place.Linear.{Linear}
 use Rattle.space.specs.declared.place.Linear.TheVariants as linear
 use Rattle.space.specs.Places.{place}
@@ -16,15 +17,22 @@ use Rattle.std.specs.Cmp.{nat_cmp_total}
 use Rattle.std.specs.Prelude.{◌||◌}
 use Rattle.space.specs.Cells.{accumulator, lower_accumulator, return_address, program_counter, both_banks, erasable_bank, fixed_bank}
 use Rattle.cpu.proofs.Holding.{get-holding, at-holding, superbank-holding}
-use Rattle.cpu.proofs.Held.{state}
+use Rattle.cpu.proofs.Held.{state, rope}
+use Rattle.cpu.specs.Codes.{basic_rows, extracode_rows, code_of}
+use Rattle.cpu.specs.Operands.{address_of}
+use Rattle.cpu.specs.Texts.{instruction_text}
+use Rattle.audit.specs.WordLines.{extracode_at}
+use Rattle.names.specs.NamedLines.{named_line, named_instruction, named_text, place_told}
 use Rattle.cpu.specs.State.{State}
-use Rattle.cpu.proofs.FiveRun.{five}
+use Rattle.cpu.proofs.FiveRun.{five, five_words}
 use Rattle.symbols.specs.declared.values.Value.TheVariants.{Num, Erasable, Fixed}
 use Rattle.symbols.specs.Values.{SymbolTable}
 use Rattle.space.specs.Places.{window}
 use Rattle.yayul.specs.Listing.{place_text}
 use Rattle.trace.specs.TraceLines.{symbol_at}
-use Rattle.debugger.specs.Standing.{nearest_symbol, nearest_text, found_text, words_text}
+use Rattle.debugger.specs.Standing.{nearest_symbol, nearest_text, found_text, words_text, rows_text}
+use Rattle.debugger.specs.Rows.{based_text, list_row, numbers_text as numbers_row, row_text}
+use Rattle.debugger.specs.declared.rows.RowKind.TheVariants.{Instruction, Number}
 use Rattle.commands.specs.Commands.{forms}
 use Rattle.commands.specs.Extended.{extended_line, extended_forms}
 use Rattle.commands.specs.NamedPlaces.{registers}
@@ -35,7 +43,7 @@ use Rattle.commands.specs.declared.extended.ExtendedLine.TheVariants.{Common, On
 use Rattle.commands.specs.declared.command.Command.{Command}
 use Rattle.commands.specs.declared.command.Command.TheVariants.{Goto, Back, Seek, Memory}
 use Rattle.words.specs.BitSums.{and_sum}
-use Rattle.debugger.specs.History.{History, history}
+use Rattle.debugger.specs.History.{History, Sight, history}
 use Rattle.debugger.specs.Growth.{grow, lowest_hit}
 use Rattle.debugger.specs.Replies.{Desk, answer, reply, at_line}
 use Rattle.debugger.specs.AllRegisters.{register_lines, flag_lines, requested, numbers_text, or_none, sum_line, word_line}
@@ -182,3 +190,49 @@ words_there : words (history five) (linear.Fixed 2 3) 3 ++ words (history five) 
 unfolding words_text place_text window octal_text
 words_there =
     ap (λ h. words h (linear.Fixed 2 3) 3 ++ words h (linear.Fixed 2 0o1776) 9 ++ words h (linear.Erasable 0o3777) 2 ++ words h (linear.Erasable 0) 0) history-five ∙ refl
+
+-- the row of a word is the line that it has with names: an instruction by the symbol of its place, an extracode where one is in
+-- force, and of erasable memory the word alone
+instruction_is : (memory : Words) (bank offset word : ℕ) (extra : Bool) (text : List ℕ) → extracode_at memory bank offset ≡ extra → word_at memory bank offset ≡ word
+    → named_text symbols bank (code_of extra word) (address_of (code_of extra word)) ≡ text → named_instruction symbols memory bank offset ≡ text
+unfolding named_instruction
+instruction_is memory bank offset word extra text in_force is told =
+    ap (λ code. named_text symbols bank code (address_of code)) (ap (λ x. code_of x (word_at memory bank offset)) in_force ∙ ap (code_of extra) is) ∙ told
+
+ca_five : named_text symbols 2 (code_of false 0o34005) (address_of (code_of false 0o34005)) ≡ codes "CA FIVE"
+unfolding place_told symbol_at octal_text instruction_text basic_rows code_of
+ca_five = refl
+
+write_10 : named_text symbols 2 (code_of true 0o01010) (address_of (code_of true 0o01010)) ≡ codes "WRITE 010"
+unfolding place_told symbol_at octal_text instruction_text extracode_rows code_of
+write_10 = refl
+
+row_by_symbol : (memory : Words) (seen : Sight) → extracode_at memory 2 0 ≡ false → word_at memory 2 0 ≡ 0o34005 → list_row symbols memory seen (linear.Fixed 2 0) ≡ codes "LIST 02,4000 34005 CA FIVE\n"
+unfolding named_line octal_text place_text window
+row_by_symbol memory seen extra first = rw (instruction_is memory 2 0 0o34005 false (codes "CA FIVE") extra first ca_five, first) refl
+
+row_of_extracode : (memory : Words) (seen : Sight) → extracode_at memory 2 3 ≡ true → word_at memory 2 3 ≡ 0o01010 → list_row symbols memory seen (linear.Fixed 2 3) ≡ codes "LIST 02,4003 01010 WRITE 010\n"
+unfolding named_line octal_text place_text window
+row_of_extracode memory seen extra fourth = rw (instruction_is memory 2 3 0o01010 true (codes "WRITE 010") extra fourth write_10, fourth) refl
+
+abbrev row : History → Linear → List ℕ
+row h place = row_text Instruction symbols (rope five_words) h (h.after 7) place
+
+erasable_row : row (history five) (linear.Erasable 5) ++ row (history five) (linear.Erasable 0o1400) ≡ ended (codes "LIST E0,0005 04002" ∷ codes "LIST E3,1400 00000" ∷ [])
+unfolding place_text window octal_text
+erasable_row = ap (λ h. row h (linear.Erasable 5) ++ row h (linear.Erasable 0o1400)) history-five ∙ refl
+
+-- words as numbers: both zeros, one and minus one, the greatest and the least, and a half
+numbers : ended (numbers_row 0 ∷ numbers_row 0o77777 ∷ numbers_row 1 ∷ numbers_row 0o77776 ∷ numbers_row 0o37777 ∷ numbers_row 0o40000 ∷ numbers_row 0o20000 ∷ [])
+    ≡ ended (codes "00000 0 0.00000000000000 000000000000000" ∷ codes "77777 -0 -0.00000000000000 111111111111111" ∷ codes "00001 1 0.00006103515625 000000000000001" ∷ codes "77776 -1 -0.00006103515625 111111111111110" ∷ codes "37777 16383 0.99993896484375 011111111111111" ∷ codes "40000 -16383 -0.99993896484375 100000000000000" ∷ codes "20000 8192 0.50000000000000 010000000000000" ∷ [])
+unfolding based_text octal_text digits
+numbers = refl
+
+-- so many from a place on, up to the last of its bank
+abbrev values : History → Linear → ℕ → List ℕ
+values h place k = rows_text Number symbols (rope five_words) h (h.after 7) place k
+
+values_there : values (history five) (linear.Fixed 2 3) 2 ++ values (history five) (linear.Fixed 2 0o1777) 9 ++ values (history five) (linear.Erasable 0) 1 ++ values (history five) (linear.Erasable 0) 0
+    ≡ ended (codes "VALUE 02,4003 01010 520 0.03173828125000 000001000001000" ∷ codes "VALUE 02,4004 14000 6144 0.37500000000000 001100000000000" ∷ codes "VALUE 02,5777 00000 0 0.00000000000000 000000000000000" ∷ codes "VALUE E0,0000 00012 10 0.00061035156250 000000000001010" ∷ [])
+unfolding rows_text based_text place_text window octal_text digits
+values_there = ap (λ h. values h (linear.Fixed 2 3) 2 ++ values h (linear.Fixed 2 0o1777) 9 ++ values h (linear.Erasable 0) 1 ++ values h (linear.Erasable 0) 0) history-five ∙ refl

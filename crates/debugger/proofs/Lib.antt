@@ -5,6 +5,7 @@ pub mod CellNumbers
 pub mod WhyLines
 pub mod PartByPart
 pub mod Standings
+pub mod Based
 pub mod WholeReplies
 pub mod InputsAdded
 pub mod LineByLine
@@ -23,6 +24,7 @@ pub mod FirstHit
 mod Retraced
 pub mod Travelling
 pub mod Added
+pub mod InputsRead
 mod RoutineRows
 mod InputRows
 pub mod Entered

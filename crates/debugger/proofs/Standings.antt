@@ -8,7 +8,10 @@ use Rattle.space.specs.declared.place.Linear.{Linear}
 use Rattle.symbols.specs.declared.values.Value.{Value}
 use Rattle.symbols.specs.Values.{SymbolTable}
 use Rattle.trace.specs.TraceLines.{symbol_at}
-use Rattle.debugger.specs.History.{Sight, History}
+use Rattle.cpu.specs.State.{State, Scenario}
+use Rattle.debugger.specs.declared.rows.RowKind.{RowKind}
+use Rattle.debugger.specs.History.{Sight, History, history, sight}
+use Rattle.debugger.specs.Rows.{row_text}
 use Rattle.debugger.specs.Replies.{line}
 use Rattle.debugger.specs.Standing.{place_before, nearest, begins_with, found_line, found_from, place_after, word_there, words_from}
 
@@ -56,3 +59,7 @@ words_pushed h seen place k count text new whole below so_far is =
     let later = words_from h seen place (k + 1) (count - k - 1) in
     let one : words_from h seen place k (count - k) ≡ row ++ later = words_more h seen place k (count - k) (omega (arith, below)) in
     rw less (ap (λ (x : List ℕ). x ++ later) is ∙ append_assoc text row later ∙ ap (λ (x : List ℕ). text ++ x) (sym one) ∙ so_far)
+
+-- the row so many places after a place
+abbrev pub row_at : RowKind → SymbolTable → Scenario → State → Linear → ℕ → List ℕ
+row_at kind symbols scenario s place i = row_text kind symbols scenario.rope (history scenario) (sight scenario.rope s) (place_after place i)

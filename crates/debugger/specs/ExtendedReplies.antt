@@ -6,14 +6,15 @@ use Rattle.commands.specs.Usages.{usages, help_lines}
 use Rattle.commands.specs.declared.command.Breakpoint.{Breakpoint}
 use Rattle.commands.specs.declared.command.Breakpoint.TheVariants.{Place, Word, Channel, Bits, Cycles, Returned, Outside, Executed}
 use Rattle.commands.specs.declared.extended.ExtendedLine.{ExtendedLine}
-use Rattle.commands.specs.declared.extended.ExtendedLine.TheVariants.{Plain, Common, Says, Help, Breaks, ClearOne, On, AllRegisters, Until, WhyStep, Why, Words, Where, Find, Trace, Inputs, Over, Out}
+use Rattle.commands.specs.declared.extended.ExtendedLine.TheVariants.{Plain, Common, Says, Help, Breaks, ClearOne, On, AllRegisters, Until, WhyStep, Why, Words, Where, Find, Trace, Inputs, Over, Out, Listed, Values}
 use Rattle.cpu.specs.Run.{run}
 use Rattle.debugger.specs.History.{History, in_manner}
 use Rattle.debugger.specs.declared.manner.Manner.TheVariants as manner
 use Rattle.debugger.specs.AllRegisters.{all_registers}
 use Rattle.debugger.specs.PlaceTexts.{place_text}
 use Rattle.debugger.specs.Whys.{subject_spots, why_text, last_text}
-use Rattle.debugger.specs.Standing.{where_text, found_text, words_text}
+use Rattle.debugger.specs.Standing.{where_text, found_text, words_text, rows_text}
+use Rattle.debugger.specs.declared.rows.RowKind.TheVariants.{Instruction, Number}
 use Rattle.debugger.specs.Retracing.{traced_text}
 use Rattle.debugger.specs.Terms.{Terms}
 use Rattle.debugger.specs.Inputs.{inputs_text}
@@ -105,3 +106,5 @@ extended_reply terms h d (Trace k) = says (traced_text terms.symbols d.scenario 
 extended_reply terms h d Inputs = says (inputs_text terms.first d.scenario) d
 extended_reply terms h d (Over k) = goes_over (further h) d k
 extended_reply terms h d (Out k) = goes_out (further h) d k
+extended_reply terms h d (Listed place k) = says (rows_text Instruction terms.symbols d.scenario.rope h (here h d) place k) d
+extended_reply terms h d (Values place k) = says (rows_text Number terms.symbols d.scenario.rope h (here h d) place k) d

@@ -7,11 +7,13 @@ pub mod Positions
 pub mod PlaceTexts
 pub mod Whys
 pub mod ToldLinks
+pub mod Rows
 pub mod Standing
 pub mod Retracing
 pub mod LeftToWrite
 pub mod Terms
 pub mod Inputs
+pub mod ReadBack
 pub mod Routines
 pub mod ExtendedReplies
 pub mod AllRegisters

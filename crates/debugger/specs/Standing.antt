@@ -1,8 +1,10 @@
 -- Where the next instruction stands; symbols by the beginnings of their names; and words one after another.
 use Rattle.std.specs.Prelude.{ℕ, zero, suc, ◌+◌, ◌-◌, not, Bool, List, [], ◌∷◌, ◌++◌, length, take, min, Option, None, Some, codes, decimal, if◌then◌else◌}
+use Rattle.std.specs.List.{flat_map, range_with_len}
 use Rattle.std.specs.Option.{option_map, option_or}
 use Rattle.agc_text.specs.Tables.{same_name}
 use Rattle.words.specs.Numerals.{octal_text}
+use Rattle.rope.specs.Places.{Words}
 use Rattle.space.specs.declared.place.Linear.{Linear}
 use Rattle.space.specs.declared.place.Linear.TheVariants.{Erasable, Fixed}
 use Rattle.symbols.specs.declared.values.Value.{Value}
@@ -13,8 +15,10 @@ use Rattle.cpu.specs.Effects.{next_address, place_in}
 use Rattle.cpu.specs.Run.{run}
 use Rattle.replay.specs.LastHit.{last_hit}
 use Rattle.trace.specs.TraceLines.{symbol_at, short_octal}
-use Rattle.debugger.specs.History.{Sight, History}
+use Rattle.debugger.specs.declared.rows.RowKind.{RowKind}
+use Rattle.debugger.specs.History.{Sight, History, sight}
 use Rattle.debugger.specs.Replies.{line, memory_word}
+use Rattle.debugger.specs.Rows.{list_row, row_text}
 use Rattle.debugger.specs.Whys.{kind_part}
 
 -- how many places stand before a place, in its bank or in erasable memory; and the place so many before it
@@ -62,9 +66,13 @@ entered_text symbols scenario (Some t) = entered_line symbols scenario t
 abbrev pub inside_text : SymbolTable → Scenario → ℕ → List ℕ
 inside_text symbols scenario p = if (run scenario p).inside then entered_text symbols scenario (last_outside scenario p) else []
 
+-- the row of the next instruction's place
+abbrev pub next_row : SymbolTable → Words → State → List ℕ
+next_row symbols rope s = list_row symbols rope (sight rope s) (place_in s (next_address s))
+
 -- where the next instruction stands after p steps, and the interrupt that is served, if any
 unfoldable pub where_text : SymbolTable → Scenario → ℕ → List ℕ
-where_text symbols scenario p = where_line symbols (run scenario p) ++ inside_text symbols scenario p
+where_text symbols scenario p = where_line symbols (run scenario p) ++ next_row symbols scenario.rope (run scenario p) ++ inside_text symbols scenario p
 
 -- a name begins so
 abbrev pub begins_with : List ℕ → List ℕ → Bool
@@ -104,3 +112,8 @@ words_from h seen place k (suc more) = word_there h seen (place_after place k) +
 -- so many words from a place on, up to the last of its bank or of erasable memory
 unfoldable pub words_text : History → Sight → Linear → ℕ → List ℕ
 words_text h seen place k = words_from h seen place 0 (min k (places_from place))
+
+-- the rows of so many places from one on, up to the last of its bank or of erasable memory
+unfoldable pub rows_text : RowKind → SymbolTable → Words → History → Sight → Linear → ℕ → List ℕ
+rows_text kind symbols rope h seen place k =
+    flat_map (λ i. row_text kind symbols rope h seen (place_after place i)) (range_with_len 0 (min k (places_from place)))

@@ -21,6 +21,7 @@ use crate::desk::Desk;
 use crate::growing::grow;
 use crate::inputs::tell_inputs;
 use crate::manner::Manner;
+use crate::rows::RowKind;
 use crate::standing::find;
 use crate::stops::{Stops, led_to};
 use crate::texts::{Text, hit_and_at_line, number_line, text_line};
@@ -73,6 +74,12 @@ impl Desk {
             ExtendedLine::Inputs => tell_inputs(session, first_added, out),
             ExtendedLine::Over(steps) => self.go_over(session, *steps, out),
             ExtendedLine::Out(steps) => self.go_out(session, *steps, out),
+            ExtendedLine::Listed(place, count) => {
+                self.rows(session, symbols, RowKind::Instruction, place, *count, out)
+            }
+            ExtendedLine::Values(place, count) => {
+                self.rows(session, symbols, RowKind::Number, place, *count, out)
+            }
         }
     }
 

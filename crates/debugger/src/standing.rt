@@ -8,11 +8,12 @@ ghost use Rattle.trace.specs.TraceLines.{octal_digits};
 ghost use Rattle.debugger.specs.History.{history, sight};
 ghost use Rattle.debugger.specs.Replies.{memory_word};
 ghost use Rattle.debugger.specs.Whys.{kind_part};
-ghost use Rattle.debugger.specs.Standing.{places_before, place_before, nearest_symbol, distance_text, nearest_text, where_line, entered_line, entered_text, last_outside, inside_text, where_text, begins_with, found_line, found_text, places_from, place_after, word_there, words_from, words_text};
+ghost use Rattle.debugger.specs.Standing.{places_before, place_before, nearest_symbol, distance_text, nearest_text, where_line, entered_line, entered_text, last_outside, inside_text, where_text, begins_with, found_line, found_text, places_from, place_after, word_there, words_from, words_text, next_row, rows_text};
 ghost use Rattle.debugger.specs.Executions.{HasLooked};
 
 use crate::desk::Desk;
 use crate::link_texts::{Piece, kind_part};
+use crate::rows::{RowKind, list_row, row_text};
 use crate::short::word_at;
 use crate::texts::{Text, number_line};
 use arrayvec::ArrayVec;
@@ -30,40 +31,56 @@ const WORDS_TEXT: usize = 36_864;
 /// The lines of words.
 pub(crate) type WordsText = ArrayVec<u8, WORDS_TEXT>;
 
-/// The line of the next instruction, and whether an interrupt is served.
+/// The most bytes of what `where` tells: its line, a row, and the line of an interrupt.
+const WHERE_TEXT: usize = 192;
+
+/// What `where` tells.
+pub(crate) type WhereText = ArrayVec<u8, WHERE_TEXT>;
+
+/// The line of the next instruction, its row, and whether an interrupt is served.
 #[derive(Drop)]
 struct Standing {
     line: Text,
+    row: Text,
     inside: bool,
 }
 
 impl Desk {
     /// `where`: where the next instruction stands, and the interrupt that is served.
     #[tactic(auto, unfolding(crate::specs::Standing::where_text))]
-    pub(crate) fn where_text<K: Keeper>(&self, session: &mut Session<K>, symbols: &Symbols) -> Text
+    pub(crate) fn where_text<K: Keeper>(
+        &self,
+        session: &mut Session<K>,
+        symbols: &Symbols,
+    ) -> WhereText
         requires { self.now.position ≤ session.old.n }
         ensures text { result.items ≡ where_text symbols.now session.old.scenario self.now.position }
         ensures looked { HasLooked session.old session.new (4 * session.old.n) }
     {
         let standing = self.standing(session, symbols);
-        let mut text = standing.line;
+        let mut text = ArrayVec::new();
+        push_all(&mut text, standing.line.as_slice());
+        push_all(&mut text, standing.row.as_slice());
         if standing.inside {
             push_all(&mut text, self.entered_text(session, symbols).as_slice());
         }
         text
     }
 
-    /// The line of the next instruction.
+    /// The line of the next instruction, and its row.
     fn standing<K: Keeper>(&self, session: &mut Session<K>, symbols: &Symbols) -> Standing
         requires { self.now.position ≤ session.old.n }
         ensures line { result.line.items ≡ where_line symbols.now (run session.old.scenario self.now.position) }
         ensures short { array_vec_len result.line ≤ 40 }
+        ensures row { result.row.items ≡ next_row symbols.now session.old.scenario.rope (run session.old.scenario self.now.position) }
+        ensures short_row { array_vec_len result.row ≤ 53 }
         ensures inside { result.inside ≡ (run session.old.scenario self.now.position).inside }
         ensures looked { HasLooked session.old session.new session.old.n }
     {
-        match session.show(self.position) {
-            Ok(machine) => Standing {
+        match session.with_present(self.position) {
+            Ok((machine, _, processor)) => Standing {
                 line: where_line(symbols, machine),
+                row: list_row(symbols, machine, processor, &machine.next_place()),
                 inside: machine.inside(),
             },
             Err(_) => unreachable!(),
@@ -99,6 +116,61 @@ impl Desk {
             Err(_) => unreachable!(),
         }
     }
+
+    /// `list` and `value`: the rows of so many places from one on.
+    pub(crate) fn rows<K: Keeper, W: Write>(
+        &self,
+        session: &mut Session<K>,
+        symbols: &Symbols,
+        kind: RowKind,
+        place: &Linear,
+        count: u64,
+        out: &mut W,
+    ) -> Result<(), WriteFailed>
+        requires { self.now.position ≤ session.old.n }
+        ensures writes { W.told ≡ true → Writes (W.written out.old) (W.written out.new) (rows_text kind symbols.now session.old.scenario.rope (history session.old.scenario) ((history session.old.scenario).after self.now.position) place.now count) result }
+        ensures looked { HasLooked session.old session.new session.old.n }
+        ensures failures { W.failures out.new ≡ failures_after (W.failures out.old) result }
+    {
+        match session.with_present(self.position) {
+            Ok((machine, _, processor)) => {
+                write_rows(kind, symbols, machine, processor, place, count, out)
+            }
+            Err(_) => unreachable!(),
+        }
+    }
+}
+
+/// How many of so many places from one on there are.
+fn row_count(place: &Linear, count: u64) -> u16
+    ensures value { result ≡ min count (places_from place.now) }
+    ensures within { result ≤ places_from place.now }
+{
+    count.min(u64::from(places_from(place))) as u16
+}
+
+/// Writes the rows of so many places from one on.
+#[tactic(auto, unfolding(crate::specs::Standing::rows_text))]
+fn write_rows<W: Write>(
+    kind: RowKind,
+    symbols: &Symbols,
+    machine: &Machine,
+    processor: &Processor,
+    place: &Linear,
+    count: u64,
+    out: &mut W,
+) -> Result<(), WriteFailed>
+    ensures writes { W.told ≡ true → Writes (W.written out.old) (W.written out.new) (rows_text kind symbols.now processor.now.scenario.rope (history processor.now.scenario) (sight processor.now.scenario.rope machine.now) place.now count) result }
+    ensures failures { W.failures out.new ≡ failures_after (W.failures out.old) result }
+{
+    for index in 0..row_count(place, count) {
+        let there = place_after(place, index);
+        write_all(
+            out,
+            row_text(kind, symbols, machine, processor, &there).as_slice(),
+        )?;
+    }
+    Ok(())
 }
 
 /// The line of the step that entered the interrupt that is served: the one after so many.

@@ -14,7 +14,7 @@ use audit::{bank_of, offset_of};
 use cpu::{disassemble, extracode_after, instruction_name, named_address};
 use rope::Rope;
 use space::{BANK_WORDS, Bank, FIXED_BANKS, Linear, Offset};
-use trace::{PlaceNames, place_text};
+use trace::{Names, PlaceNames, place_text};
 use words::{Write, WriteFailed, push_all, push_octal, write_all};
 
 /// The most bytes of a line: a place of 7, a word of 5 digits, an instruction's name of at most 10, a name of 8 with a distance of
@@ -73,9 +73,9 @@ fn write_bank<W: Write>(
 
 /// The line of a word.
 #[tactic(auto, unfolding(crate::specs::NamedLines::named_line))]
-pub fn named_line(rope: &Rope, names: &PlaceNames, bank: Bank, offset: Offset, extra: bool) -> Line
+pub fn named_line<N: Names>(rope: &Rope, names: &N, bank: Bank, offset: Offset, extra: bool) -> Line
     requires { extra ≡ extracode_at rope.now bank offset }
-    ensures { result.items ≡ named_line names.now rope.now bank offset }
+    ensures { result.items ≡ named_line (N.table names.now) rope.now bank offset }
 {
     let mut line = ArrayVec::new();
     push_all(
@@ -90,19 +90,38 @@ pub fn named_line(rope: &Rope, names: &PlaceNames, bank: Bank, offset: Offset, e
     line
 }
 
+/// The line of a word, which is read as an extracode where the words before it in its bank put extracode in force.
+pub fn line_of_word<N: Names>(rope: &Rope, names: &N, bank: Bank, offset: Offset) -> Line
+    ensures { result.items ≡ named_line (N.table names.now) rope.now bank offset }
+{
+    let extra = extracode_before(rope, bank, offset);
+    named_line(rope, names, bank, offset, extra)
+}
+
+/// Whether the words of a bank before an offset put extracode in force.
+fn extracode_before(rope: &Rope, bank: Bank, offset: Offset) -> bool
+    ensures { result ≡ extracode_at rope.now bank offset }
+{
+    let mut extra = false;
+    for number in 0..offset.number() {
+        extra = extracode_after(rope.word(bank, offset_of(number)), extra);
+    }
+    extra
+}
+
 /// Appends the instruction that a word is.
 #[tactic(auto, unfolding(crate::specs::NamedLines::named_instruction))]
-fn push_instruction(
+fn push_instruction<N: Names>(
     line: &mut Line,
     rope: &Rope,
-    names: &PlaceNames,
+    names: &N,
     bank: Bank,
     offset: Offset,
     extra: bool,
 )
     requires room { array_vec_len line.old ≤ 20 }
     requires extra { extra ≡ extracode_at rope.now bank offset }
-    ensures items { line.new.items ≡ line.old.items ++ named_instruction names.now rope.now bank offset }
+    ensures items { line.new.items ≡ line.old.items ++ named_instruction (N.table names.now) rope.now bank offset }
     ensures len { array_vec_len line.new ≤ array_vec_len line.old + 25 }
 {
     let word = rope.word(bank, offset);

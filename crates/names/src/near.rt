@@ -9,7 +9,7 @@ ghost use Rattle.space.specs.declared.place.Linear.TheVariants.{Fixed};
 use crate::lines::Line;
 use space::{Addr12, Bank, Eras, Linear, Offset};
 use symbols::FixedBank;
-use trace::{Names, PlaceNames, place_name};
+use trace::{Names, place_name};
 use words::{push_all, push_octal};
 
 /// The first address whose place FB selects.
@@ -17,9 +17,9 @@ const FIRST_SWITCHED: u16 = 0o2000;
 
 /// Appends an address of a word of a bank: the name of the place to which it leads, or the nearest before it, or the address.
 #[tactic(auto, unfolding(crate::specs::NamedLines::place_told))]
-pub(crate) fn push_address(line: &mut Line, names: &PlaceNames, bank: Bank, address: Addr12)
+pub(crate) fn push_address<N: Names>(line: &mut Line, names: &N, bank: Bank, address: Addr12)
     requires { array_vec_len line.old ≤ 32 }
-    ensures items { line.new.items ≡ line.old.items ++ named_place names.now address (place_told bank address) }
+    ensures items { line.new.items ≡ line.old.items ++ named_place (N.table names.now) address (place_told bank address) }
     ensures len { array_vec_len line.new ≤ array_vec_len line.old + 14 }
 {
     match place_told(bank, address) {
@@ -29,9 +29,9 @@ pub(crate) fn push_address(line: &mut Line, names: &PlaceNames, bank: Bank, addr
 }
 
 /// Appends an address that leads to a place.
-fn push_place(line: &mut Line, names: &PlaceNames, place: &Linear, address: Addr12)
+fn push_place<N: Names>(line: &mut Line, names: &N, place: &Linear, address: Addr12)
     requires { array_vec_len line.old ≤ 32 }
-    ensures items { line.new.items ≡ line.old.items ++ unwrap_or (place_name names.now place.now) (near_text (nearest_name names.now place.now) address) }
+    ensures items { line.new.items ≡ line.old.items ++ unwrap_or (place_name (N.table names.now) place.now) (near_text (nearest_name (N.table names.now) place.now) address) }
     ensures len { array_vec_len line.new ≤ array_vec_len line.old + 14 }
 {
     match place_name(names, *place) {
@@ -41,9 +41,9 @@ fn push_place(line: &mut Line, names: &PlaceNames, place: &Linear, address: Addr
 }
 
 /// Appends an address by the nearest name before the place to which it leads, or as it is.
-fn push_near(line: &mut Line, names: &PlaceNames, place: &Linear, address: Addr12)
+fn push_near<N: Names>(line: &mut Line, names: &N, place: &Linear, address: Addr12)
     requires { array_vec_len line.old ≤ 32 }
-    ensures items { line.new.items ≡ line.old.items ++ near_text (nearest_name names.now place.now) address }
+    ensures items { line.new.items ≡ line.old.items ++ near_text (nearest_name (N.table names.now) place.now) address }
     ensures len { array_vec_len line.new ≤ array_vec_len line.old + 14 }
 {
     for distance in 0..places_before(place) + 1 {

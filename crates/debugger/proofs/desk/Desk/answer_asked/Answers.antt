@@ -3,10 +3,11 @@ use Rattle.symbols.specs.Values.{SymbolTable}
 use Rattle.debugger.specs.Terms.{Terms}
 use Rattle.debugger.specs.Inputs.{inputs_text}
 use Rattle.debugger.specs.ExtendedReplies.{extended_reply}
-use Rattle.commands.specs.declared.extended.ExtendedLine.TheVariants.{Plain, Common, WhyStep, Why, Words, Where, Find, Trace, Inputs}
+use Rattle.commands.specs.declared.extended.ExtendedLine.TheVariants.{Plain, Common, WhyStep, Why, Words, Where, Find, Trace, Inputs, Listed, Values}
 use Rattle.debugger.specs.Conversation.{to_asked}
 use Rattle.debugger.specs.History.{history}
-use Rattle.debugger.specs.Standing.{words_text, where_text, found_text}
+use Rattle.debugger.specs.Standing.{words_text, where_text, found_text, rows_text}
+use Rattle.debugger.specs.declared.rows.RowKind.TheVariants.{Instruction, Number}
 use Rattle.debugger.specs.Retracing.{traced_text}
 use Rattle.debugger.specs.Whys.{why_text, last_text, subject_spots}
 use Rattle.commands.specs.declared.command.ParsedLine.TheVariants.{Known}
@@ -104,3 +105,19 @@ returns-in-Over-clause-executes g c = λ told. rw c.in-Over.is (c.go_over.ensure
 
 pub returns-in-Out-clause-executes : goal.returns-in-Out-clause-executes
 returns-in-Out-clause-executes g c = λ told. rw c.in-Out.is (c.go_out.ensures.executes told (terms c.args.symbols.now c.args.first_added))
+
+pub returns-in-Listed-clause-executes : goal.returns-in-Listed-clause-executes
+unfolding extended_reply
+returns-in-Listed-clause-executes g c = λ told.
+    let looked = c.rows.ensures.looked in
+    let scenario = c.args.session.now.scenario in
+    let h = history scenario in
+    rw c.in-Listed.is (replies-text g.K.Keeper.may_refuse (to_asked (terms c.args.symbols.now c.args.first_added) (Listed c.in-Listed.place c.in-Listed.count)) _ _ _ _ (rows_text Instruction c.args.symbols.now scenario.rope h (h.after c.args.self.now.position) c.in-Listed.place c.in-Listed.count) _ _ (λ answers additions. rw (looked.scenario, looked.steps) refl) refl (c.rows.ensures.writes told))
+
+pub returns-in-Values-clause-executes : goal.returns-in-Values-clause-executes
+unfolding extended_reply
+returns-in-Values-clause-executes g c = λ told.
+    let looked = c.rows-in-Values.ensures.looked in
+    let scenario = c.args.session.now.scenario in
+    let h = history scenario in
+    rw c.in-Values.is (replies-text g.K.Keeper.may_refuse (to_asked (terms c.args.symbols.now c.args.first_added) (Values c.in-Values.place c.in-Values.count)) _ _ _ _ (rows_text Number c.args.symbols.now scenario.rope h (h.after c.args.self.now.position) c.in-Values.place c.in-Values.count) _ _ (λ answers additions. rw (looked.scenario, looked.steps) refl) refl (c.rows-in-Values.ensures.writes told))

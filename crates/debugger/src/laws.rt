@@ -1,0 +1,11 @@
+//! Laws of sessions. Each is the contract of a call that does nothing.
+
+ghost use Rattle.std.specs.Prelude.{ℕ};
+ghost use Rattle.cpu.specs.State.{Scenario};
+ghost use Rattle.debugger.specs.ReadBack.{ReadsBack};
+
+/// The lines that `inputs` tells are a feed: they give the inputs that stand on a line or after it, in order, and no others.
+#[tactic(auto, using(crate::proofs::InputsRead::reads_back))]
+pub fn inputs_read_back()
+    ensures { (first : ℕ) (scenario : Scenario) → ReadsBack first scenario }
+{}
