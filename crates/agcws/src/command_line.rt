@@ -512,7 +512,8 @@ With --extended there are these besides, and after E50 COMMAND stands why:
   echo TEXT            TEXT, as it stands, so that a reply's end can be told
   help, help COMMAND   what each command takes and does, or one, as HELP lines
 A PLACE is then also as a listing has it, E3,1400 or 02,4013; where no symbol
-has the name, A, L, Q, Z, EB, FB or BB; and any of them moved on, as SUM +3.
+has the name, A, L, Q, Z, EB, FB, BB or a counter, as TIME3; and any of them
+moved on, as SUM +3.
 The AT line has the place where Z leads, as a listing has it, in place of Z.
 
 Exit status:

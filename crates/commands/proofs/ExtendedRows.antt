@@ -182,3 +182,9 @@ not_shown : asked (codes "list" ∷ codes "list FIV 5" ∷ codes "list FIVE 1000
     ∷ [])
 unfolding extended_line extended_forms usages forms runs parsed counters sequences registers window
 not_shown = refl
+
+-- counters by their names, where no symbol has these
+counters_named : asked (codes "mem TIME3" ∷ codes "last PIPAX" ∷ codes "why INLINK 2" ∷ codes "mem TIME1 +1 3" ∷ codes "mem TIME7" ∷ [])
+    ≡ memory 0o26 ∷ Common (Last 0o37) ∷ Why (subject.Place 0o45) 2 ∷ Words (Erasable 0o26) 3 ∷ Says (codes "E50 COMMAND no symbol TIME7\n") ∷ []
+unfolding extended_line extended_forms usages forms runs parsed counters sequences registers window
+counters_named = refl

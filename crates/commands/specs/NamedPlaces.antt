@@ -1,8 +1,11 @@
--- Places as an extended session takes them: as any session, by a register's letters, as a listing has them, and moved on.
+-- Places as an extended session takes them: as any session, by a register's or a counter's name, as a listing has
+-- them, and moved on.
 use Rattle.std.specs.Prelude.{ℕ, ◌+◌, ◌*◌, ◌%◌, ◌==◌, nat_lt, nat_le, Bool, List, [], ◌∷◌, take, drop, Option, None, Some, is_some, codes, if◌then◌else◌, option_and_then}
 use Rattle.std.specs.Option.{option_map, option_or}
 use Rattle.agc_text.specs.Digits.{number_of}
 use Rattle.agc_text.specs.Tables.{same_name, value_in}
+use Rattle.feed.specs.Counters.{counter_place}
+use Rattle.feed.specs.Names.{counters}
 use Rattle.feed.specs.Statements.{passing}
 use Rattle.space.specs.Cells.{accumulator, lower_accumulator, return_address, erasable_bank, fixed_bank, program_counter, both_banks}
 use Rattle.space.specs.Places.{window}
@@ -22,6 +25,10 @@ registers =
     ∷ (codes "Z", program_counter)
     ∷ (codes "BB", both_banks)
     ∷ []
+
+-- an erasable place by a name of its own: a register's letters, or a counter's name
+abbrev pub own_place : List ℕ → Option ℕ
+own_place text = option_or (value_in registers text) (option_map counter_place (value_in counters text))
 
 -- a place, where a program reaches it at an address
 abbrev pub reached_at : ℕ → Linear → Option Linear
@@ -54,9 +61,9 @@ unnamed_place text = option_or (numbered_place text) (option_or (fixed_place_in 
 
 -- what neither any session takes for a place nor a symbol is
 abbrev pub further_place : List ℕ → Option Linear
-further_place text = option_or (option_map (λ p. Erasable p) (value_in registers text)) (listed_place text)
+further_place text = option_or (option_map (λ p. Erasable p) (own_place text)) (listed_place text)
 
--- a place: as any session takes it; where no symbol has the name, a register's letters, or as a listing has it
+-- a place: as any session takes it; where no symbol has the name, a register's or a counter's, or as a listing has it
 abbrev pub named_place : SymbolTable → List ℕ → Option Linear
 named_place symbols text = option_or (place_in symbols text) (if is_some (value_in symbols text) then None else further_place text)
 

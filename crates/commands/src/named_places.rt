@@ -4,11 +4,12 @@ ghost use Rattle.std.specs.Prelude.{◌≡◌, ◌≤◌, ◌==◌, All, IfSome,
 ghost use Rattle.agc_text.specs.Fields.{runs, texts};
 ghost use Rattle.agc_text.specs.Tables.{value_in};
 ghost use Rattle.space.specs.Places.{window};
-ghost use Rattle.commands.specs.NamedPlaces.{registers, in_erasable_bank, in_fixed_bank, erasable_bank_in, place_of_bank, listed_place, unnamed_place, further_place, named_place, moved_on, begins_with_plus, words_on, place_first, after_place};
+ghost use Rattle.commands.specs.NamedPlaces.{registers, in_erasable_bank, in_fixed_bank, erasable_bank_in, place_of_bank, listed_place, unnamed_place, further_place, named_place, own_place, moved_on, begins_with_plus, words_on, place_first, after_place};
 
 use crate::fields::{OCTAL_DIGITS, bank_in};
 use crate::places::{fixed_place_in, numbered_place, place_in};
 use agc_text::{length_before_byte, octal, split_field};
+use feed::counter_of;
 use space::place::Linear;
 use space::{BANK_WORDS, Bank, Eras, Offset, window};
 use symbols::Symbols;
@@ -88,9 +89,22 @@ pub fn unnamed_place(field: &[u8]) -> Option<Linear>
 fn further_place(field: &[u8]) -> Option<Linear>
     ensures { result ≡ further_place field.now }
 {
-    match register_in(field) {
+    match own_place(field) {
         Some(place) => Some(Linear::Erasable(place)),
         None => listed_place(field),
+    }
+}
+
+// The place of a register or of a counter, by its own name.
+fn own_place(field: &[u8]) -> Option<Eras>
+    ensures { result ≡ own_place field.now }
+{
+    if let Some(place) = register_in(field) {
+        return Some(place);
+    }
+    match counter_of(field) {
+        Some(counter) => Some(counter.place()),
+        None => None,
     }
 }
 

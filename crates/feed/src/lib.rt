@@ -21,6 +21,7 @@ pub use input::{Counter, Input, Sequence};
 pub use interrupt::{INTERRUPTS, Interrupt};
 pub use list::{AddFault, Feed};
 pub use merge::MOST_SERIES;
+pub use names::counter_of;
 pub use reading::read;
 pub use statement::{parse_line, word_in};
 pub use words::MOST_BYTES;

@@ -38,7 +38,7 @@ const SEQUENCES: [(&str, Sequence); 7] = [
 
 /// The counter of a name.
 #[tactic(auto, unfolding(crate::specs::Names::counters))]
-pub(crate) fn counter_of(name: &[u8]) -> Option<Counter>
+pub fn counter_of(name: &[u8]) -> Option<Counter>
     ensures { result ≡ value_in counters name.now }
 {
     find_counter(&COUNTERS, name)
