@@ -4,6 +4,7 @@ use Rattle.std.specs.Prelude.{codes, decimal}
 use Rattle.std.specs.Fmt.{digits}
 use Rattle.agc_text.specs.Fields.{runs}
 use Rattle.words.specs.Numerals.{octal_text}
+use Rattle.feed.specs.Merged.{due}
 use Rattle.feed.specs.Names.{counters, sequences}
 use Rattle.feed.specs.Statements.{parsed}
 use Rattle.rope.specs.Places.{Words, word_at}
@@ -101,7 +102,7 @@ on_some_bits = ap (λ h. on h 9 3 1 (Bits 8 0o102 7 ∷ []) ++ on h 9 8 0 (Bits 
 -- the instruction at a place was executed by the step that led there; no step has led to the start
 on_executed : on (history five) 9 8 0 (Executed (linear.Fixed 2 2) ∷ []) ++ on (history five) 9 8 3 (Executed (linear.Fixed 2 2) ∷ []) ++ on (history five) 9 3 2 (Place (linear.Fixed 2 4) ∷ Executed (linear.Fixed 2 3) ∷ []) ++ on (history five) 4 8 0 (Executed (linear.Fixed 2 0) ∷ [])
     ≡ ended (codes "HIT 1" ∷ codes "AT 3 5 02,4003" ∷ codes "HIT 1" ∷ codes "AT 8 13 02,4003" ∷ codes "7 CH 010 00012" ∷ codes "HIT 1" ∷ codes "AT 4 7 02,4004" ∷ codes "HIT 1" ∷ codes "AT 1 2 02,4001" ∷ [])
-unfolding extended_reply grow lowest_hit at_line digits octal_text place channel_lines place_text window
+unfolding extended_reply grow lowest_hit at_line digits octal_text place channel_lines place_text window due
 on_executed = ap (λ h. on h 9 8 0 (Executed (linear.Fixed 2 2) ∷ []) ++ on h 9 8 3 (Executed (linear.Fixed 2 2) ∷ []) ++ on h 9 3 2 (Place (linear.Fixed 2 4) ∷ Executed (linear.Fixed 2 3) ∷ []) ++ on h 4 8 0 (Executed (linear.Fixed 2 0) ∷ [])) history-five ∙ refl
 
 -- the commands of any session tell the bank too, and other words as ever

@@ -17,14 +17,14 @@ use Rattle.debugger.specs.Stopping.{asks, looked, hit_by}
 
 -- a breakpoint that does not ask what the step did holds whatever it did
 unasked : (b : Breakpoint) → asks b ≡ false → (one other : StepSight) (seen : Sight) → holds one seen b ≡ holds other seen b
-unasked (Place place) no one other seen = refl
-unasked (Word p w) no one other seen = refl
-unasked (Channel c w) no one other seen = refl
-unasked (Bits c w mask) no one other seen = refl
-unasked (Cycles cycles) no one other seen = refl
-unasked (Returned place inside) no one other seen = refl
-unasked Outside no one other seen = refl
-unasked (Executed place) no one other seen = absurd (let bad : true ≡ false = no in cc)
+unasked (Place place) n one other seen = refl
+unasked (Word p w) n one other seen = refl
+unasked (Channel c w) n one other seen = refl
+unasked (Bits c w mask) n one other seen = refl
+unasked (Cycles cycles) n one other seen = refl
+unasked (Returned place inside) n one other seen = refl
+unasked Outside n one other seen = refl
+unasked (Executed place) n one other seen = absurd (let bad : true ≡ false = n in cc)
 
 either_parts : (b c : Bool) → (b || c) ≡ false → (b ≡ false) × (c ≡ false)
 either_parts false c e = (refl, e)
@@ -48,7 +48,7 @@ same_position apart p q xs alike none =
 unlooked : (breakpoints : List Breakpoint) → list_any asks breakpoints ≡ false → (one other : StepSight) (seen : Sight) → lowest_hit breakpoints one seen ≡ lowest_hit breakpoints other seen
 unfolding lowest_hit
 unlooked breakpoints none one other seen =
-    ap (option_map (λ (k : ℕ). k + 1)) (same_position asks (holds one seen) (holds other seen) breakpoints (λ b no. unasked b no one other seen) none)
+    ap (option_map (λ (k : ℕ). k + 1)) (same_position asks (holds one seen) (holds other seen) breakpoints (λ b n. unasked b n one other seen) none)
 
 by_looking : (looks : Bool) (breakpoints : List Breakpoint) (scenario : Scenario) (s : State) (seen : Sight) → looks ≡ list_any asks breakpoints → lowest_hit breakpoints (looked looks scenario s) seen ≡ lowest_hit breakpoints (step_from scenario s) seen
 by_looking false breakpoints scenario s seen is = unlooked breakpoints (sym is) (looked false scenario s) (step_from scenario s) seen
@@ -97,7 +97,9 @@ last_led find hit same (suc p) =
 
 pub last_led_by : (find hit : ℕ → Option ℕ) → ((t : ℕ) → find t ≡ hit (t + 1)) → (p : ℕ) (r : ℕ × ℕ) → Some r ≡ last_found find p → Some (r.0 + 1) ≡ last_hit (λ t. is_some (hit t)) (p + 1)
 unfolding with_start
-last_led_by find hit same p r is = sym (last_led find hit same p ∙ rw (← is) refl)
+last_led_by find hit same p r is =
+    let all : last_hit (λ t. is_some (hit t)) (p + 1) ≡ Some (r.0 + 1) = last_led find hit same p ∙ rw (← is) refl in
+    sym all
 
 start_is : (b : Option ℕ) → option_map (λ (r : ℕ × ℕ). r.0) (option_map (λ i. (0, i)) b) ≡ start_hit (is_some b)
 unfolding start_hit
@@ -106,7 +108,10 @@ start_is (Some i) = refl
 
 pub last_led_none : (find hit : ℕ → Option ℕ) → ((t : ℕ) → find t ≡ hit (t + 1)) → (p : ℕ) (start : Option (ℕ × ℕ)) → None ≡ last_found find p → start ≡ option_map (λ i. (0, i)) (hit 0) → option_map (λ (r : ℕ × ℕ). r.0) start ≡ last_hit (λ t. is_some (hit t)) (p + 1)
 unfolding with_start start_hit
-last_led_none find hit same p start is at = rw at (start_is (hit 0)) ∙ sym (last_led find hit same p ∙ rw (← is) refl)
+last_led_none find hit same p start is there =
+    let first : option_map (λ (r : ℕ × ℕ). r.0) start ≡ start_hit (is_some (hit 0)) = ap (option_map (λ (r : ℕ × ℕ). r.0)) there ∙ start_is (hit 0) in
+    let all : last_hit (λ t. is_some (hit t)) (p + 1) ≡ start_hit (is_some (hit 0)) = last_led find hit same p ∙ rw (← is) refl in
+    first ∙ sym all
 
 -- what is found stands
 other_found : (find : ℕ → Option ℕ) (t : ℕ) (b : Option ℕ) (last : Option (ℕ × ℕ)) → b ≡ find t → IfSome last (λ r. Some r.1 ≡ find r.0) → IfSome (or_other t b last) (λ r. Some r.1 ≡ find r.0)
@@ -136,6 +141,10 @@ within_by (Some t) low p q order h = omega (arith, order, h.1)
 pub led_by_within : (r : Option (ℕ × ℕ)) (low p q : ℕ) → p ≤ q → IfSome r (λ t. (low ≤ t.0) × (t.0 < p)) → IfSome (led r) (λ t. t.0 ≤ q)
 led_by_within None low p q order h = tt
 led_by_within (Some t) low p q order h = omega (arith, order, h.1)
+
+pub step_within : (r : Option (ℕ × ℕ)) (low p q : ℕ) → p ≤ q → IfSome r (λ t. (low ≤ t.0) × (t.0 < p)) → IfSome (option_map (λ (t : ℕ × ℕ). t.0) (led r)) (λ t. t ≤ q)
+step_within None low p q order h = tt
+step_within (Some t) low p q order h = omega (arith, order, h.1)
 
 pub led_within : (r : Option (ℕ × ℕ)) (p q : ℕ) → p ≤ q → IfSome r (λ t. t.0 < p) → IfSome (led r) (λ t. t.0 ≤ q)
 led_within None p q order h = tt
@@ -175,8 +184,29 @@ last_led_to scenario breakpoints looks p r right is =
     let same : (t : ℕ) → find t ≡ hit (t + 1) = λ t. found_at scenario breakpoints looks t right in (
       λ some. some_led find hit same p r is some,
       rw is (led_found find hit same (last_found find p) (last_is_found find p)),
-      λ none start at. last_led_none find hit same p start (sym (is_none r none) ∙ is) at,
+      λ none start there. last_led_none find hit same p start (sym (is_none r none) ∙ is) there,
     )
+
+-- the same, of breakpoints that are some others, and of as many steps as are wanted
+pub next_led_on : (scenario : Scenario) (bs own : List Breakpoint) (looks : Bool) (from count wanted : ℕ) (r : Option (ℕ × ℕ)) → bs ≡ own → looks ≡ list_any asks bs → count ≡ wanted → r ≡ first_found (found_by (hit_by bs looks) scenario) from count
+    → (option_map (λ (t : ℕ × ℕ). t.0) (led r) ≡ first_hit (λ t. is_some (hit_at (history scenario) own t)) (from + 1) wanted) × IfSome (led r) (λ t. Some t.1 ≡ hit_at (history scenario) own t.0)
+next_led_on scenario bs own looks from count wanted r same right enough is = rw (same, enough) at (next_led scenario bs looks from count r right is)
+
+pub last_led_on : (scenario : Scenario) (bs own : List Breakpoint) (looks : Bool) (p q : ℕ) (r : Option (ℕ × ℕ)) → bs ≡ own → looks ≡ list_any asks bs → p + 1 ≡ q → r ≡ last_found (found_by (hit_by bs looks) scenario) p
+    → (is_some r ≡ true → option_map (λ (t : ℕ × ℕ). t.0) (led r) ≡ last_hit (λ t. is_some (hit_at (history scenario) own t)) q) × IfSome (led r) (λ t. Some t.1 ≡ hit_at (history scenario) own t.0)
+    × (is_some r ≡ false → (start : Option (ℕ × ℕ)) → start ≡ option_map (λ i. (0, i)) (hit_at (history scenario) own 0) → option_map (λ (t : ℕ × ℕ). t.0) start ≡ last_hit (λ t. is_some (hit_at (history scenario) own t)) q)
+last_led_on scenario bs own looks p q r same right next is = rw (same, next) at (last_led_to scenario bs looks p r right is)
+
+pub some_still : (r : Option (ℕ × ℕ)) (b : Bool) → is_some (led r) ≡ b → is_some r ≡ b
+some_still None b e = e
+some_still (Some t) b e = e
+
+start_by : (h : ℕ → Option ℕ) (b : Option ℕ) → b ≡ h 0 → IfSome (option_map (λ (i : ℕ). (0, i)) b) (λ (t : ℕ × ℕ). Some t.1 ≡ h t.0)
+start_by h None is = tt
+start_by h (Some i) is = is
+
+pub start_found : (h : ℕ → Option ℕ) (start : Option (ℕ × ℕ)) → start ≡ option_map (λ i. (0, i)) (h 0) → IfSome start (λ t. Some t.1 ≡ h t.0)
+start_found h start is = rw is (start_by h (h 0) refl)
 
 -- one breakpoint alone
 alone_by : (b : Bool) → is_some (option_map (λ (k : ℕ). k + 1) (cond (nat_lt (cond (not b) (1 + 0) 0) 1) (Some (cond (not b) (1 + 0) 0)) None)) ≡ b

@@ -141,10 +141,13 @@ grows_refused may_refuse scenario breakpoints more n text some below may = grown
 abbrev pub seen : {W : Type 0} → (W → List ℕ) → (W → ℕ) → Teller W → Telling
 seen written failures t = record { tail = t.tail.now; text = written t.out.now; failures = failures t.out.now }
 
+abbrev stops_of : {W : Type 0} → Teller W → Stops
+stops_of t = record { breakpoints = t.breakpoints; looks = t.looks }
+
 abbrev pub Sees : {W : Type 0} → Bool → (W → List ℕ) → (W → List ℕ) → (W → ℕ) → Teller W → Scenario → State → Bool → Teller W → Type 0
 Sees told written handed_on failures old scenario state ended new =
-    (new.tail.ghost_name ≡ old.tail.ghost_name) × (new.out.ghost_name ≡ old.out.ghost_name) × (new.stops ≡ old.stops)
-    × Tells told (hit_by old.stops.breakpoints.now old.stops.looks scenario state) (next scenario state).1 ended new.hit (seen written failures old) (seen written failures new)
+    (new.tail.ghost_name ≡ old.tail.ghost_name) × (new.out.ghost_name ≡ old.out.ghost_name) × (new.breakpoints ≡ old.breakpoints) × (new.looks ≡ old.looks)
+    × Tells told (hit_by old.breakpoints.now old.looks scenario state) (next scenario state).1 ended new.hit (seen written failures old) (seen written failures new)
     × HandsOn told ended old.until_flush new.until_flush (handed_on new.out.now) (written new.out.now)
 
 -- what no step changes
@@ -156,13 +159,13 @@ same_for sees name keeps scenario n (suc m) ended old new (between, early, late)
 
 -- what is left of it, and how its steps end
 pub teller_ended : {W : Type 0} (told may_refuse : Bool) (written handed_on : W → List ℕ) (failures : W → ℕ) (scenario : Scenario) (more n high : ℕ) (is : Stop) (old new : Teller W) (result : Result Ending WriteFailed)
-    → high ≤ step_limit → HasStopped may_refuse n more high is → old.stops.looks ≡ list_any asks old.stops.breakpoints.now → old.tail.now ≡ last_of tail_length (outs scenario n) → Walked (Sees told written handed_on failures) scenario n high (is_by_watcher is) old new → EndsAs is new.hit result
-    → (new.tail.ghost_name ≡ old.tail.ghost_name) × (new.out.ghost_name ≡ old.out.ghost_name) × HasEnded told may_refuse scenario old.stops.breakpoints.now more n high (seen written failures old) (seen written failures new) result
+    → high ≤ step_limit → HasStopped may_refuse n more high is → old.looks ≡ list_any asks old.breakpoints.now → old.tail.now ≡ last_of tail_length (outs scenario n) → Walked (Sees told written handed_on failures) scenario n high (is_by_watcher is) old new → EndsAs is new.hit result
+    → (new.tail.ghost_name ≡ old.tail.ghost_name) × (new.out.ghost_name ≡ old.out.ghost_name) × HasEnded told may_refuse scenario old.breakpoints.now more n high (seen written failures old) (seen written failures new) result
 teller_ended told may_refuse written handed_on failures scenario more n high is old new result within stopped right tail (m, reached, walked) ends =
     let sees = Sees told written handed_on failures in (
       same_for sees (λ (w : Teller _). w.tail.ghost_name) (λ w p s b w' k. k.0) scenario n m (is_by_watcher is) old new walked,
       same_for sees (λ (w : Teller _). w.out.ghost_name) (λ w p s b w' k. k.1) scenario n m (is_by_watcher is) old new walked,
-      rw reached (has_ended told may_refuse sees (seen written failures) (λ (w : Teller _). w.stops) (λ (w : Teller _). w.hit) (λ w p s b w' k. k.2) (λ w p s b w' k. k.3) scenario more n
+      rw reached (has_ended told may_refuse sees (seen written failures) stops_of (λ (w : Teller _). w.hit) (λ w p s b w' k i. record { breakpoints = k.2 i; looks = k.3 i }) (λ w p s b w' k. k.4) scenario more n
           is m old new new.hit result (rw reached at within) (rw reached at stopped) right tail walked refl ends),
     )
 

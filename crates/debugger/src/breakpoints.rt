@@ -10,8 +10,8 @@ use cpu::Machine;
 use space::Linear;
 
 /// Whether a breakpoint holds after a step that executed the instruction at a place, or at none.
-fn holds(breakpoint: Breakpoint, executed: Option<Linear>, machine: &Machine) -> bool
-    ensures { (rope : Words) → result ≡ holds (record { executed = executed }) (sight rope machine.now) breakpoint }
+fn holds(breakpoint: Breakpoint, executed: &Option<Linear>, machine: &Machine) -> bool
+    ensures { (rope : Words) → result ≡ holds (record { executed = executed.now }) (sight rope machine.now) breakpoint }
 {
     match breakpoint {
         Breakpoint::Place(place) => machine.next_place() == place,
@@ -25,13 +25,13 @@ fn holds(breakpoint: Breakpoint, executed: Option<Linear>, machine: &Machine) ->
             machine.next_place() == place && (inside || !machine.inside())
         }
         Breakpoint::Outside => !machine.inside(),
-        Breakpoint::Executed(place) => is_executed(executed, place),
+        Breakpoint::Executed(place) => is_executed(executed, &place),
     }
 }
 
 /// Whether a place is the one whose instruction was executed.
-fn is_executed(executed: Option<Linear>, place: Linear) -> bool
-    ensures { result ≡ is_executed executed place }
+fn is_executed(executed: &Option<Linear>, place: &Linear) -> bool
+    ensures { result ≡ is_executed executed.now place.now }
 {
     match executed {
         Some(executed) => executed == place,
@@ -43,10 +43,10 @@ fn is_executed(executed: Option<Linear>, place: Linear) -> bool
 /// none.
 pub(crate) fn lowest_hit(
     breakpoints: &[Breakpoint],
-    executed: Option<Linear>,
+    executed: &Option<Linear>,
     machine: &Machine,
 ) -> Option<u64>
-    ensures { (rope : Words) → result ≡ lowest_hit breakpoints.now (record { executed = executed }) (sight rope machine.now) }
+    ensures { (rope : Words) → result ≡ lowest_hit breakpoints.now (record { executed = executed.now }) (sight rope machine.now) }
 {
     let mut number = 1;
     for breakpoint in breakpoints {

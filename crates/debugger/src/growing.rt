@@ -10,8 +10,9 @@ ghost use Rattle.debugger.specs.Executions.{Grows};
 ghost use Rattle.debugger.specs.HandingOn.{steps_left_after};
 ghost use Rattle.debugger.specs.Telling.{EndsAs};
 
+use crate::breakpoints::lowest_hit;
 use crate::ending::Ending;
-use crate::stops::Stops;
+use crate::stops::{look, looks_at};
 use crate::tail::Tail;
 use commands::Breakpoint;
 use cpu::{Machine, Output, Processor, write_channel_line};
@@ -40,7 +41,8 @@ pub(crate) fn grow<K: Keeper, W: Write>(
 {
     let mut teller = Teller {
         tail,
-        stops: Stops::at(breakpoints),
+        breakpoints,
+        looks: looks_at(breakpoints),
         out,
         until_flush: STEPS_BETWEEN_FLUSHES,
         hit: None,
@@ -73,7 +75,11 @@ fn ending_of(stop: Stop, hit: Option<u64>) -> Result<Ending, WriteFailed>
 #[derive(Drop)]
 struct Teller<'a, W: Write> {
     tail: &'a mut Tail,
-    stops: Stops<'a>,
+    breakpoints: &'a [Breakpoint],
+
+    /// Whether one of them asks what a step did. Else nothing is looked at before a step.
+    looks: bool,
+
     out: &'a mut W,
 
     /// The steps that are left before the lines are handed on.
@@ -89,13 +95,13 @@ impl<'a, W: Write> Stepper for Teller<'a, W> {
     ghost use Rattle.debugger.specs.Stopping.{hit_by};
     ghost use Rattle.debugger.specs.Telling.{Tells, Telling};
 
-    ghost sees = { λ old scenario state ended new. (new.tail.ghost_name ≡ old.tail.ghost_name) × (new.out.ghost_name ≡ old.out.ghost_name) × (new.stops ≡ old.stops)
-        × Tells W.told (hit_by old.stops.breakpoints.now old.stops.looks scenario state) (next scenario state).1 ended new.hit (record { tail = old.tail.now; text = W.written old.out.now; failures = W.failures old.out.now }) (record { tail = new.tail.now; text = W.written new.out.now; failures = W.failures new.out.now })
+    ghost sees = { λ old scenario state ended new. (new.tail.ghost_name ≡ old.tail.ghost_name) × (new.out.ghost_name ≡ old.out.ghost_name) × (new.breakpoints ≡ old.breakpoints) × (new.looks ≡ old.looks)
+        × Tells W.told (hit_by old.breakpoints.now old.looks scenario state) (next scenario state).1 ended new.hit (record { tail = old.tail.now; text = W.written old.out.now; failures = W.failures old.out.now }) (record { tail = new.tail.now; text = W.written new.out.now; failures = W.failures new.out.now })
         × HandsOn W.told ended old.until_flush new.until_flush (W.handed_on new.out.now) (W.written new.out.now) };
 
     #[inline(always)]
     fn make_step(&mut self, processor: &mut Processor, machine: &mut Machine) -> bool {
-        let executed = self.stops.executed(processor, machine);
+        let executed = look(self.looks, processor, machine);
         let output = processor.step(machine);
         if tell(self.tail, output, self.out).is_err()
             || hand_on_in_time(&mut self.until_flush, self.out).is_err()
@@ -103,7 +109,7 @@ impl<'a, W: Write> Stepper for Teller<'a, W> {
             self.hit = None;
             return true;
         }
-        match self.stops.hit(executed, machine) {
+        match lowest_hit(self.breakpoints, &executed, machine) {
             Some(number) => {
                 self.hit = Some(number);
                 true

@@ -115,7 +115,7 @@ impl Desk {
     fn stop_at_start(&self) -> Option<(u64, u64)>
         ensures { (scenario : Scenario) → result ≡ option_map (λ i. (0, i)) (hit_at (history scenario) self.now.breakpoints 0) }
     {
-        match lowest_hit(self.breakpoints.as_slice(), None, &Machine::start()) {
+        match lowest_hit(self.breakpoints.as_slice(), &None, &Machine::start()) {
             Some(number) => Some((0, number)),
             None => None,
         }

@@ -3,10 +3,8 @@
 ghost use Rattle.std.specs.Prelude.{◌≡◌, ◌+◌, ◌<◌, ◌^◌, Option, IfSome};
 ghost use Rattle.std.specs.Option.{option_map};
 ghost use Rattle.std.specs.List.{list_any};
-ghost use Rattle.rope.specs.Places.{Words};
 ghost use Rattle.cpu.specs.State.{FitsRun};
-ghost use Rattle.debugger.specs.History.{sight, step_from};
-ghost use Rattle.debugger.specs.Growth.{lowest_hit};
+ghost use Rattle.debugger.specs.History.{step_from};
 ghost use Rattle.debugger.specs.Stopping.{asks, looked};
 
 use crate::breakpoints::lowest_hit;
@@ -32,28 +30,20 @@ impl<'a> Stops<'a> {
     {
         Stops {
             breakpoints,
-            looks: breakpoints.iter().any(|it| asks(it)),
+            looks: looks_at(breakpoints),
         }
     }
+}
 
-    /// The place whose instruction the next step executes, if it is to be looked at.
-    #[inline(always)]
-    pub(crate) fn executed(&self, processor: &Processor, machine: &Machine) -> Option<Linear>
-        ensures { FitsRun processor.now.scenario machine.now → result ≡ (looked self.now.looks processor.now.scenario machine.now).executed }
-    {
-        if !self.looks {
-            return None;
-        }
-        place_executed(processor, machine)
+/// The place whose instruction the next step executes, if it is to be looked at.
+#[inline(always)]
+pub(crate) fn look(looks: bool, processor: &Processor, machine: &Machine) -> Option<Linear>
+    ensures { FitsRun processor.now.scenario machine.now → result ≡ (looked looks processor.now.scenario machine.now).executed }
+{
+    if !looks {
+        return None;
     }
-
-    /// The lowest breakpoint that holds after a step that executed the instruction at a place, or at none.
-    #[inline(always)]
-    pub(crate) fn hit(&self, executed: Option<Linear>, machine: &Machine) -> Option<u64>
-        ensures { (rope : Words) → result ≡ lowest_hit self.now.breakpoints.now (record { executed = executed }) (sight rope machine.now) }
-    {
-        lowest_hit(self.breakpoints, executed, machine)
-    }
+    place_executed(processor, machine)
 }
 
 /// The steps that tested ones lead to, where something was found of one.
@@ -89,6 +79,13 @@ fn place_executed(processor: &Processor, machine: &Machine) -> Option<Linear>
     }
 }
 
+/// Whether one of some breakpoints asks what a step did.
+pub(crate) fn looks_at(breakpoints: &[Breakpoint]) -> bool
+    ensures { result ≡ list_any asks breakpoints.now }
+{
+    breakpoints.iter().any(asks)
+}
+
 /// Whether a breakpoint asks what a step did.
 fn asks(breakpoint: &Breakpoint) -> bool
     ensures { result ≡ asks breakpoint.now }
@@ -102,8 +99,8 @@ impl<'a> StepTest for Stops<'a> {
     ghost finds = { λ stops scenario state. hit_by stops.breakpoints.now stops.looks scenario state };
 
     fn test_step(&self, processor: &mut Processor, machine: &mut Machine) -> Option<u64> {
-        let executed = self.executed(processor, machine);
+        let executed = look(self.looks, processor, machine);
         make_step(processor, machine);
-        self.hit(executed, machine)
+        lowest_hit(self.breakpoints, &executed, machine)
     }
 }

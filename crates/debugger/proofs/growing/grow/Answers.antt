@@ -6,21 +6,21 @@ pub returns-in-Ok-clause-tail : goal.returns-in-Ok-clause-tail
 returns-in-Ok-clause-tail g c =
     let s = c.args.session.now in
     let told = c.in-Ok.ensures in
-    let e = teller_ended g.W.Write.told g.K.Keeper.may_refuse g.W.Write.written g.W.Write.handed_on g.W.Write.failures s.scenario c.args.more s.n c.advance_by.new.self.n c.in-Ok.stop _ c.advance_by.new.stepper c.ending_of.result told.advanced.stands.within told.stopped c.at.ensures.looks c.requires told.walked c.ending_of.ensures in
+    let e = teller_ended g.W.Write.told g.K.Keeper.may_refuse g.W.Write.written g.W.Write.handed_on g.W.Write.failures s.scenario c.args.more s.n c.advance_by.new.self.n c.in-Ok.stop _ c.advance_by.new.stepper c.ending_of.result told.advanced.stands.within told.stopped c.looks_at.ensures c.requires told.walked c.ending_of.ensures in
     rw (c.tail-1.given.1 (sym e.0), told.advanced.scenario) e.2.tail
 
 pub returns-in-Ok-clause-growth : goal.returns-in-Ok-clause-growth
 returns-in-Ok-clause-growth g c =
     let s = c.args.session.now in
     let told = c.in-Ok.ensures in
-    let e = teller_ended g.W.Write.told g.K.Keeper.may_refuse g.W.Write.written g.W.Write.handed_on g.W.Write.failures s.scenario c.args.more s.n c.advance_by.new.self.n c.in-Ok.stop _ c.advance_by.new.stepper c.ending_of.result told.advanced.stands.within told.stopped c.at.ensures.looks c.requires told.walked c.ending_of.ensures in
-    rw (c.out-1.given.1 (sym e.1), ← c.at.ensures.breakpoints) e.2.growth
+    let e = teller_ended g.W.Write.told g.K.Keeper.may_refuse g.W.Write.written g.W.Write.handed_on g.W.Write.failures s.scenario c.args.more s.n c.advance_by.new.self.n c.in-Ok.stop _ c.advance_by.new.stepper c.ending_of.result told.advanced.stands.within told.stopped c.looks_at.ensures c.requires told.walked c.ending_of.ensures in
+    rw (c.out-1.given.1 (sym e.1)) e.2.growth
 
 pub returns-in-Ok-clause-failures : goal.returns-in-Ok-clause-failures
 returns-in-Ok-clause-failures g c =
     let s = c.args.session.now in
     let told = c.in-Ok.ensures in
-    let e = teller_ended g.W.Write.told g.K.Keeper.may_refuse g.W.Write.written g.W.Write.handed_on g.W.Write.failures s.scenario c.args.more s.n c.advance_by.new.self.n c.in-Ok.stop _ c.advance_by.new.stepper c.ending_of.result told.advanced.stands.within told.stopped c.at.ensures.looks c.requires told.walked c.ending_of.ensures in
+    let e = teller_ended g.W.Write.told g.K.Keeper.may_refuse g.W.Write.written g.W.Write.handed_on g.W.Write.failures s.scenario c.args.more s.n c.advance_by.new.self.n c.in-Ok.stop _ c.advance_by.new.stepper c.ending_of.result told.advanced.stands.within told.stopped c.looks_at.ensures c.requires told.walked c.ending_of.ensures in
     rw (c.out-1.given.1 (sym e.1)) e.2.failures
 
 pub returns-in-Err-StepLimit-clause-growth : goal.returns-in-Err-StepLimit-clause-growth
