@@ -7,3 +7,4 @@ pub mod Report
 pub mod Slips
 pub mod FeedReport
 pub mod Kinds
+pub mod Registers

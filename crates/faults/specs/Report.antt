@@ -1,6 +1,7 @@
 -- The faults and the warnings of a source as lines of text.
-use Rattle.std.specs.Prelude.{ℕ, ◌+◌, ◌-◌, ◌==◌, ◌&&◌, List, [], ◌∷◌, ◌++◌, length, map, take, drop, max, min, replicate, codes, decimal, flat_map, nat_le, Bool, Option, Some, is_some, slice_get, unwrap_or, if◌then◌else◌}
+use Rattle.std.specs.Prelude.{ℕ, ◌+◌, ◌-◌, ◌==◌, ◌||◌, List, [], ◌∷◌, ◌++◌, length, map, take, drop, max, min, replicate, codes, decimal, flat_map, nat_le, Bool, Option, Some, None, is_some, slice_get, unwrap_or, if◌then◌else◌}
 use Rattle.std.specs.List.{fold, position_or_len}
+use Rattle.std.specs.Option.{option_map_or}
 use Rattle.agc_text.specs.Bytes.{space, tab}
 use Rattle.agc_text.specs.Lines.{lines}
 use Rattle.agc_text.specs.Tables.{same_name}
@@ -40,7 +41,7 @@ kind_text Warning = codes ": warning W"
 -- why it is one, and how it is mended, on a line with some fields
 abbrev pub cause_of : Severity → Bool → List ℕ → Parts → Finding → Cause
 cause_of Error near text parts f = fault_cause near text parts f
-cause_of Warning near text parts f = warning_cause f.number
+cause_of Warning near text parts f = warning_cause parts f.number
 
 abbrev pub message_text : Parts → List ℕ → Severity → Finding → Cause → List ℕ
 message_text parts label severity f c =
@@ -70,11 +71,20 @@ has_label label text = same_name (text_of (parts_of text).label) label
 abbrev pub first_line : List (List ℕ) → List ℕ → ℕ
 first_line texts label = position_or_len (has_label label) texts + 1
 
+-- a name, where it is a label
+abbrev pub as_label : List (List ℕ) → List ℕ → Option (List ℕ)
+as_label labels name = if is_among labels name then Some name else None
+
+-- the label whose first line a fault is told with: its own where it stands twice, its operand where that is of the wrong kind or out of range
+abbrev pub told_by_line : List (List ℕ) → Parts → ℕ → Option (List ℕ)
+told_by_line labels parts number =
+    if number == 14 then as_label labels (text_of parts.label)
+    else if number == 25 || number == 26 then as_label labels (text_of parts.operand)
+    else None
+
 -- a text from other lines that a fault is told with: the number of the first line that has its label, or the label that is near to its symbol
 abbrev pub beside : List (List ℕ) → List (List ℕ) → Parts → Finding → Option (List ℕ)
-beside labels texts parts f =
-    if f.number == 14 && is_among labels (text_of parts.label) then Some (decimal (first_line texts (text_of parts.label)))
-    else near_label labels parts f
+beside labels texts parts f = option_map_or (λ name. Some (decimal (first_line texts name))) (told_by_line labels parts f.number) (near_label labels parts f)
 
 -- the lines of a finding of a line
 unfoldable pub shown_line : List ℕ → List (List ℕ) → List (List ℕ) → List ℕ → Parts → Severity × Finding → List ℕ

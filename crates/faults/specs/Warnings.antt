@@ -1,16 +1,20 @@
 -- What in a source is likely a mistake, though it is no fault: definitions over its lines, whatever stands before them.
-use Rattle.std.specs.Prelude.{ℕ, ◌+◌, ◌==◌, ◌&&◌, not, Bool, false, nat_le, nat_lt, List, [], ◌∷◌, ◌++◌, length, map, Option, is_some, codes, if◌then◌else◌}
+use Rattle.std.specs.Prelude.{ℕ, ◌+◌, ◌%◌, ◌==◌, ◌&&◌, ◌||◌, not, Bool, true, false, nat_le, nat_lt, List, [], ◌∷◌, ◌++◌, length, map, Option, Some, None, is_some, codes, option_and_then, if◌then◌else◌}
 use Rattle.std.specs.List.{fold, list_any}
 use Rattle.std.specs.Option.{option_map, option_map_or}
-use Rattle.agc_text.specs.Digits.{digits_value}
+use Rattle.agc_text.specs.Digits.{digits_value, sized}
 use Rattle.agc_text.specs.Fields.{Piece, fields, label_of, others_of}
 use Rattle.agc_text.specs.Views.{piece}
+use Rattle.agc_text.specs.declared.digits.Number.{Number}
+use Rattle.agc_text.specs.declared.digits.Number.TheVariants.{Small}
 use Rattle.agc_text.specs.declared.fields.Line.{Line}
-use Rattle.agc_text.specs.Tables.{same_name}
+use Rattle.agc_text.specs.Tables.{same_name, value_in}
 use Rattle.yayul.specs.Operators.{operators}
 use Rattle.yayul.specs.Survey.{field_at, looked_at, span_of}
 use Rattle.yayul.specs.declared.finding.Finding.{Finding}
 use Rattle.yayul.specs.declared.language.Language.{Language}
+use Rattle.faults.specs.Registers.{registers}
+use Rattle.faults.specs.declared.flow.Before.{Before}
 use Rattle.faults.specs.declared.mistakes.Names.{Names}
 
 -- ## Names
@@ -112,30 +116,216 @@ with_single names parts = if reserves_one parts then with_field names parts.labe
 abbrev pub pair_warnings : List (List ℕ) → ℕ → Parts → List Finding
 pair_warnings singles line parts = at_field (λ p. warned_if (has_alone pair_operators parts && is_among singles p.text) line 3 p) parts.operand
 
+-- ## 4: a program that runs on to a constant, or where no word stands
+-- constants and addresses, which are no instructions
+abbrev pub constant_operators : List (List ℕ)
+constant_operators = codes "OCT" ∷ codes "DEC" ∷ codes "ADRES" ∷ codes "ECADR" ∷ codes "CADR" ∷ codes "FCADR" ∷ codes "2CADR" ∷ []
+
+-- operators that move the location and give no word
+abbrev pub moving_operators : List (List ℕ)
+moving_operators = codes "SETLOC" ∷ codes "BANK" ∷ codes "BLOCK" ∷ codes "ERASE" ∷ []
+
+-- operators that do neither
+abbrev pub still_operators : List (List ℕ)
+still_operators = codes "EQUALS" ∷ codes "=" ∷ codes "EBANK=" ∷ []
+
+-- operators that give words
+abbrev pub gives_word : Parts → Bool
+gives_word parts = is_some parts.operator && not (has_operator moving_operators parts || has_operator still_operators parts)
+
+-- instructions
+abbrev pub is_instruction : Parts → Bool
+is_instruction parts = gives_word parts && not (has_operator constant_operators parts)
+
+-- those that never go on to the next word, or leave there what a routine takes
+abbrev pub leaving_operators : List (List ℕ)
+leaving_operators =
+    codes "TC" ∷ codes "TCR" ∷ codes "TCF" ∷ codes "NOOP" ∷ codes "RETURN" ∷ codes "RESUME" ∷ codes "DTCB" ∷ codes "DTCF" ∷ codes "TCAA" ∷ codes "XLQ" ∷ codes "XXALQ" ∷ []
+
+-- those that may write Z, and so go elsewhere
+abbrev pub storing_operators : List (List ℕ)
+storing_operators = codes "TS" ∷ codes "XCH" ∷ codes "LXCH" ∷ codes "QXCH" ∷ codes "DXCH" ∷ []
+
+-- the registers beside Z whose exchange by two words writes it, by name
+abbrev pub jumping_names : List (List ℕ)
+jumping_names = codes "Z" ∷ codes "FB" ∷ codes "FBANK" ∷ codes "BB" ∷ codes "BBANK" ∷ []
+
+-- one of these places, by name or by number
+abbrev pub is_jump_place : Piece → Bool
+is_jump_place p = is_among jumping_names p.text || is_register_number p.text
+
+-- the next word is not reached from this one
+abbrev pub leaves : Parts → Bool
+leaves parts = has_operator leaving_operators parts || (has_operator storing_operators parts && option_map_or is_jump_place parts.operand false)
+
+-- of some lines the first that gives words or moves the location gives an instruction
+abbrev pub goes_on_to_instruction : List (List ℕ) → Bool
+goes_on_to_instruction [] = false
+goes_on_to_instruction (text ∷ texts) =
+    if gives_word (parts_of text) || has_operator moving_operators (parts_of text) then is_instruction (parts_of text) else goes_on_to_instruction texts
+
+-- operators that read a word, an instruction as well as any
+abbrev pub word_readers : List (List ℕ)
+word_readers = readers ++ codes "CAF" ∷ codes "DCA" ∷ codes "DCS" ∷ codes "INDEX" ∷ codes "NDX" ∷ []
+
+-- some names, and the operand of a line that reads it
+abbrev pub with_read : List (List ℕ) → Parts → List (List ℕ)
+with_read names parts = if has_operator word_readers parts then with_field names parts.operand else names
+
+-- an instruction, none that is read as a word, is not left, and the lines after it do not go on with another
+abbrev pub end_warnings : List (List ℕ) → List (List ℕ) → ℕ → Parts → List Finding
+end_warnings read after line parts =
+    at_field (λ p. warned_if (is_among operator_names p.text && is_instruction parts && not (leaves parts) && not (option_map_or (λ l. is_among read l.text) parts.label false)
+    && not (goes_on_to_instruction after)) line 4 p) parts.operator
+
+-- ## 5: a vector's words that run on into the next vector
+-- the place of a vector where an interrupt enters: 4004, 4010 and so on to 4050
+abbrev pub is_vector : ℕ → Bool
+is_vector place = place % 4 == 0 && nat_le 0o4004 place && nat_le place 0o4050
+
+abbrev pub setting_operators : List (List ℕ)
+setting_operators = codes "SETLOC" ∷ []
+
+-- SETLOC and the place of a vector
+abbrev pub sets_vector : Parts → Bool
+sets_vector parts = has_alone setting_operators parts && option_map_or (λ p. option_map_or is_vector (digits_value 8 p.text) false) parts.operand false
+
+-- 2CADR, which gives two words
+abbrev pub double_operators : List (List ℕ)
+double_operators = codes "2CADR" ∷ []
+
+-- how many words a line gives
+abbrev pub word_count : Parts → ℕ
+word_count parts = if has_operator double_operators parts then 2 else if gives_word parts then 1 else 0
+
+-- after the four words of a vector another stands, and the fourth is not left
+abbrev pub is_overrun : Option ℕ → Bool → Bool
+is_overrun filled left = option_map_or (nat_le 4) filled false && not left
+
+abbrev pub vector_warnings : Before → ℕ → Parts → List Finding
+vector_warnings before line parts = at_field (λ p. warned_if (is_overrun before.filled before.left && gives_word parts) line 5 p) parts.operator
+
+-- ## 6: a word of a switched erasable bank, where no line sets EB
+-- the places that EB leads to
+abbrev pub is_switched_place : ℕ → Bool
+is_switched_place place = nat_le 0o1400 place && nat_le place 0o3777
+
+-- operators that go to another place
+abbrev pub placing_operators : List (List ℕ)
+placing_operators = codes "SETLOC" ∷ codes "BANK" ∷ codes "BLOCK" ∷ []
+
+-- whether words are reserved there after a line, by whether they are before it
+abbrev pub switched_after : Bool → Parts → Bool
+switched_after switched parts =
+    if has_operator placing_operators parts
+    then has_alone setting_operators parts && option_map_or (λ p. option_map_or is_switched_place (digits_value 8 p.text) false) parts.operand false
+    else switched
+
+abbrev pub with_switched : Bool → List (List ℕ) → Parts → List (List ℕ)
+with_switched switched names parts = if switched && has_operator erase_operators parts then with_field names parts.label else names
+
+-- some names, and the labels of words that some lines reserve there
+abbrev pub switched_names : Bool → List (List ℕ) → List (List ℕ) → List (List ℕ)
+switched_names switched names [] = names
+switched_names switched names (text ∷ texts) = switched_names (switched_after switched (parts_of text)) (with_switched switched names (parts_of text)) texts
+
+-- EB is 3, and BB, which has it, 6; an exchange of two words has one of them from 2 and 5 too
+abbrev pub is_bank_number : List ℕ → Bool
+is_bank_number text = option_map_or (λ n. n == 2 || n == 3 || n == 5 || n == 6) (digits_value 8 text) false
+
+abbrev pub value_operators : List (List ℕ)
+value_operators = codes "EQUALS" ∷ codes "=" ∷ []
+
+-- some names, and the label of a line that gives it one of these numbers
+abbrev pub with_bank : List (List ℕ) → Parts → List (List ℕ)
+with_bank names parts = if has_alone value_operators parts && option_map_or (λ p. is_bank_number p.text) parts.operand false then with_field names parts.label else names
+
+-- DTCB and DTCF, which set BB and FB
+abbrev pub far_operators : List (List ℕ)
+far_operators = codes "DTCB" ∷ codes "DTCF" ∷ []
+
+-- a line may set EB, by one of these numbers or of some names
+abbrev pub sets_bank : List (List ℕ) → List ℕ → Bool
+sets_bank names text =
+    has_operator far_operators (parts_of text)
+    || (has_operator storing_operators (parts_of text) && option_map_or (λ p. is_bank_number p.text || is_among names p.text) (parts_of text).operand false)
+
+-- the names of words in switched banks, where no line sets EB; none where one may
+abbrev pub unset_names : List (List ℕ) → List (List ℕ)
+unset_names texts = if list_any (sets_bank (fold (λ names text. with_bank names (parts_of text)) [] texts)) texts then [] else switched_names false [] texts
+
+abbrev pub bank_warnings : List (List ℕ) → ℕ → Parts → List Finding
+bank_warnings switched line parts = at_field (λ p. warned_if (is_instruction parts && is_among switched p.text) line 6 p) parts.operand
+
+-- ## 7: a register's name at another place
+-- two numbers in octal are the same
+abbrev pub is_same_small : Option Number → Option Number → Bool
+is_same_small (Some (Small a)) (Some (Small b)) = a == b
+is_same_small _ _ = false
+
+abbrev pub is_same_number : List ℕ → List ℕ → Bool
+is_same_number a b = is_same_small (option_map sized (digits_value 8 a)) (option_map sized (digits_value 8 b))
+
+-- ZERO, which is often a constant
+abbrev pub common_names : List (List ℕ)
+common_names = codes "ZERO" ∷ []
+
+-- a line that stands for a place or has a word; or one that gives another number than this
+abbrev pub is_elsewhere : List ℕ → Parts → Bool
+is_elsewhere place parts =
+    if has_operator value_operators parts
+    then has_alone value_operators parts && option_map_or (λ p. is_some (digits_value 8 p.text) && not (is_same_number p.text place)) parts.operand false
+    else true
+
+abbrev pub register_warnings : ℕ → Parts → List Finding
+register_warnings line parts =
+    at_field (λ p. warned_if (not (is_among common_names p.text) && option_map_or (λ place. is_elsewhere place parts) (value_in registers p.text) false) line 7 p) parts.label
+
 -- ## 8: a label that no operand names
 abbrev pub unused_warnings : List (List ℕ) → ℕ → Parts → List Finding
 unused_warnings operands line parts = at_field (λ p. warned_if (is_short p.text && not (is_among operands p.text)) line 8 p) parts.label
 
+-- ## What stands before a line
+-- how many words a vector has after a line, or nothing where none is filled
+abbrev pub filled_after : Option ℕ → Parts → Option ℕ
+filled_after filled parts =
+    if has_operator moving_operators parts then (if sets_vector parts then Some 0 else None)
+    else option_and_then (λ n. if nat_lt n 4 then Some (n + word_count parts) else if gives_word parts then None else Some n) filled
+
+-- what stands after a line
+abbrev pub before_next : Before → Parts → Before
+before_next before parts = record {
+  indexed = indexed_after before.indexed parts;
+  filled = filled_after before.filled parts;
+  left = if gives_word parts then leaves parts else before.left;
+}
+
+abbrev pub at_start : Before
+at_start = record { indexed = false; filled = None; left = false }
+
 -- ## All
--- the names of a source: those for which one word is reserved, and those that an operand is
+-- the names of a source: those for which one word is reserved, those that an operand is, those that are read, and those of switched erasable banks where no line sets EB
 abbrev pub names_of : List (List ℕ) → Names
 names_of texts = record {
   singles = fold (λ names text. with_single names (parts_of text)) [] texts;
   operands = fold (λ names text. with_field names (parts_of text).operand) [] texts;
+  read = fold (λ names text. with_read names (parts_of text)) [] texts;
+  switched = unset_names texts;
 }
 
--- the warnings of a line, in the order of its fields, after a word that adds to its address or another; those of labels that nothing names where they are asked for
-abbrev pub line_warnings : Bool → Names → Bool → ℕ → Parts → List Finding
-line_warnings unused names indexed line parts =
-    label_warnings line parts ++ (if unused then unused_warnings names.operands line parts else [])
-    ++ number_warnings indexed line parts ++ pair_warnings names.singles line parts
+-- the warnings of a line, in the order of its fields, by what stands before it and the lines after it; those of labels that nothing names where they are asked for
+abbrev pub line_warnings : Bool → Names → Before → List (List ℕ) → ℕ → Parts → List Finding
+line_warnings unused names before after line parts =
+    label_warnings line parts ++ register_warnings line parts ++ (if unused then unused_warnings names.operands line parts else [])
+    ++ end_warnings names.read after line parts ++ vector_warnings before line parts
+    ++ number_warnings before.indexed line parts ++ pair_warnings names.singles line parts ++ bank_warnings names.switched line parts
 
 -- the warnings of some lines, the first of them with a number
-abbrev pub warned_lines : Bool → Names → Bool → ℕ → List (List ℕ) → List Finding
-warned_lines unused names indexed line [] = []
-warned_lines unused names indexed line (text ∷ texts) =
-    line_warnings unused names indexed line (parts_of text) ++ warned_lines unused names (indexed_after indexed (parts_of text)) (line + 1) texts
+abbrev pub warned_lines : Bool → Names → Before → ℕ → List (List ℕ) → List Finding
+warned_lines unused names before line [] = []
+warned_lines unused names before line (text ∷ texts) =
+    line_warnings unused names before texts line (parts_of text) ++ warned_lines unused names (before_next before (parts_of text)) (line + 1) texts
 
 -- the warnings of a source of a language, of as many lines as are looked at for faults
 unfoldable pub warnings : Language → Bool → List ℕ → List Finding
-warnings language unused source = warned_lines unused (names_of (looked_at language source)) false 1 (looked_at language source)
+warnings language unused source = warned_lines unused (names_of (looked_at language source)) at_start 1 (looked_at language source)

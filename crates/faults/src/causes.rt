@@ -1,21 +1,24 @@
 //! What a fault is in words, by its cause.
 
-ghost use Rattle.std.specs.Prelude.{◌≡◌, map, find};
+ghost use Rattle.std.specs.Prelude.{◌≡◌, [], map, find, unwrap_or};
 ghost use Rattle.std.specs.Option.{option_map};
 ghost use Rattle.agc_text.specs.Tables.{value_in};
 ghost use Rattle.agc_text.specs.Views.{piece};
 ghost use Rattle.faults.specs.Warnings.{parts_in, operator_names};
-ghost use Rattle.faults.specs.Causes.{byte_cause, label_cause, operator_cause, digits_cause, place_cause, operand_cause, symbol_cause, undefined_cause, early_cause, bank_cause, room_cause, kind_cause, range_cause, fault_cause, warning_cause, near_label, said, cured, cured_by, text_of, holds, begins, is_signed, is_foreign_comment, has_foreign_comment, is_beyond_octal, near_name, is_close, is_in_capitals, capital, is_near, is_exchanged, foreign_operators, registers, label_refusers, octal_operators, decimal_operators, bank_operators, block_operators, plain_operators, channel_operators, erasable_operators, fixed_operators, jump_operators, writers, erasable_readers};
+ghost use Rattle.faults.specs.Causes.{byte_cause, label_cause, operator_cause, digits_cause, place_cause, operand_cause, symbol_cause, undefined_cause, early_cause, bank_cause, room_cause, kind_cause, range_cause, fault_cause, warning_cause, near_label, said, cured, cured_by, text_of, holds, begins, is_signed, is_foreign_comment, has_foreign_comment, is_beyond_octal, near_name, is_close, is_in_capitals, capital, is_near, is_exchanged, foreign_operators, label_refusers, octal_operators, decimal_operators, bank_operators, block_operators, plain_operators, channel_operators, erasable_operators, fixed_operators, jump_operators, writers, erasable_readers};
+ghost use Rattle.faults.specs.Registers.{registers};
 ghost use Rattle.faults.specs.Views.{cause_in, entries};
 
 use crate::mistakes::{erase_operators, has_operator, is_operator, operator_names};
 use crate::names::{NameSet, is_short};
 use crate::refusals::meaning;
+use crate::registers::registers;
 use agc_text::{Field, Line, decimal_value, octal_value};
 use yayul::Finding;
 
 /// What is wrong, how it is mended or nothing, and a text that stands in either. Marks stand for the fields of the line:
-/// `&` for the label, `%` for the operator, `@` for the operand, `!` for the other text, `~` for a text from other lines.
+/// `&` for the label, `%` for the operator, `@` for the operand, `!` for the other text, `~` for a text from other lines,
+/// `^` for the line that it is the number of.
 #[derive(Clone, Copy, Drop)]
 pub(crate) struct Cause {
     /// What is wrong.
@@ -95,9 +98,9 @@ pub(crate) fn fault_cause(text: &[u8], parts: &Line<'_>, near: bool, finding: &F
     }
 }
 
-/// A warning in words.
-pub(crate) fn warning_cause(number: u8) -> Cause
-    ensures { cause_in result ≡ warning_cause number }
+/// A warning of a line with some fields in words.
+pub(crate) fn warning_cause(parts: &Line<'_>, number: u8) -> Cause
+    ensures { cause_in result ≡ warning_cause (parts_in parts.now) number }
 {
     match number {
         1 => Cause::cured(
@@ -112,12 +115,39 @@ pub(crate) fn warning_cause(number: u8) -> Cause
             b"% takes two words, and ERASE reserves one for @",
             b"@ ERASE +1 reserves two",
         ),
+        4 => Cause::cured(
+            b"after % the program runs on to a constant, or where no word stands",
+            b"TCF or RETURN behind it, and constants elsewhere",
+        ),
+        5 => Cause::cured(
+            b"a vector has four words, and with this one the next vector begins",
+            b"TCF as the fourth, and the routine elsewhere",
+        ),
+        6 => Cause::cured(
+            b"@ stands in a switched erasable bank, and no line sets EB",
+            b"NAME ECADR @ on a line of its own; before this CA NAME, and TS 3, which is EB",
+        ),
+        7 => Cause::cured_by(
+            b"& is a register's name, and stands for another place here",
+            b"& EQUALS ! is the register",
+            place_named(parts),
+        ),
         8 => Cause::said(b"no operand names &"),
         _ => Cause::said(b""),
     }
 }
 
-/// The label that is near to the symbol of a fault which no line, or no earlier one, defines.
+// The place of the register that a label is the name of; none where it is no such name.
+fn place_named(parts: &Line<'_>) -> &'static [u8]
+    ensures { result.now ≡ unwrap_or (value_in registers (text_of (parts_in parts.now).label)) [] }
+{
+    match value_in(registers(), text_of(parts.label)) {
+        Some(place) => place,
+        None => b"",
+    }
+}
+
+/// The label that is near to the symbol of a fault which no line, or no earlier one, defines; none where a later line does.
 pub(crate) fn near_label<'a>(
     labels: &'a NameSet,
     parts: &Line<'_>,
@@ -125,8 +155,9 @@ pub(crate) fn near_label<'a>(
 ) -> Option<&'a [u8]>
     ensures { option_map (λ name. name.now) result ≡ near_label labels.now (parts_in parts.now) finding.now }
 {
+    let symbol = text_of(parts.operand);
     match finding.number {
-        17 | 18 => labels.near(text_of(parts.operand)),
+        17 | 18 if !labels.has(symbol) => labels.near(symbol),
         _ => None,
     }
 }
@@ -368,21 +399,21 @@ fn kind_cause(parts: &Line<'_>) -> Cause
             b"SETLOC and a place below 4000 before it",
         )
     } else if has_operator(channel_operators(), parts) {
-        Cause::said(b"% takes a channel, 0 to 777, and @ is none")
+        Cause::said(b"% takes a channel, 0 to 777, and @^ is none")
     } else if has_operator(erasable_operators(), parts) {
-        Cause::said(b"% takes an erasable place, and @ is none")
+        Cause::said(b"% takes an erasable place, and @^ is none")
     } else if has_operator(fixed_operators(), parts) {
-        Cause::said(b"% takes a fixed place, and @ is none")
+        Cause::said(b"% takes a fixed place, and @^ is none")
     } else if has_operator(jump_operators(), parts) {
-        Cause::said(b"% leads to fixed memory, 2000 and up, and @ is not there")
+        Cause::said(b"% leads to fixed memory, 2000 and up, and @^ is not there")
     } else if has_operator(writers(), parts) {
         Cause::cured(
-            b"% writes to erasable memory, and @ is not there",
+            b"% writes to erasable memory, and @^ is not there",
             b"reserve the word there: SETLOC and a place below 4000, and ERASE",
         )
     } else if has_operator(erasable_readers(), parts) {
         Cause::cured(
-            b"% takes a word of erasable memory, and @ is not there",
+            b"% takes a word of erasable memory, and @^ is not there",
             b"copy the word to erasable memory first",
         )
     } else {
@@ -629,45 +660,6 @@ const FOREIGN_OPERATORS: [(&str, &str); 27] = [
     ("2OCT", "two words: an OCT for each"),
 ];
 
-const REGISTERS: [(&str, &str); 36] = [
-    ("A", "0"),
-    ("L", "1"),
-    ("Q", "2"),
-    ("EBANK", "3"),
-    ("EB", "3"),
-    ("FBANK", "4"),
-    ("FB", "4"),
-    ("Z", "5"),
-    ("BBANK", "6"),
-    ("BB", "6"),
-    ("ZERO", "7"),
-    ("ARUPT", "10"),
-    ("LRUPT", "11"),
-    ("QRUPT", "12"),
-    ("ZRUPT", "15"),
-    ("BBRUPT", "16"),
-    ("BRUPT", "17"),
-    ("CYR", "20"),
-    ("SR", "21"),
-    ("CYL", "22"),
-    ("EDOP", "23"),
-    ("TIME2", "24"),
-    ("TIME1", "25"),
-    ("TIME3", "26"),
-    ("TIME4", "27"),
-    ("TIME5", "30"),
-    ("TIME6", "31"),
-    ("CDUX", "32"),
-    ("CDUY", "33"),
-    ("CDUZ", "34"),
-    ("OPTY", "35"),
-    ("OPTX", "36"),
-    ("PIPAX", "37"),
-    ("PIPAY", "40"),
-    ("PIPAZ", "41"),
-    ("INLINK", "45"),
-];
-
 fn label_refusers() -> &'static [&'static str]
     ensures { map (λ name. name.now) result.now ≡ label_refusers }
 {
@@ -744,10 +736,4 @@ fn foreign_operators() -> &'static [(&'static str, &'static str)]
     ensures { entries result.now ≡ foreign_operators }
 {
     &FOREIGN_OPERATORS
-}
-
-fn registers() -> &'static [(&'static str, &'static str)]
-    ensures { entries result.now ≡ registers }
-{
-    &REGISTERS
 }

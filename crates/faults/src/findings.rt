@@ -7,9 +7,9 @@ ghost use Rattle.agc_text.specs.Bytes.{space};
 ghost use Rattle.faults.specs.Kinds.{kind_of_source};
 ghost use Rattle.faults.specs.Warnings.{parts_in};
 ghost use Rattle.faults.specs.Shown.{shown_byte};
-ghost use Rattle.faults.specs.Causes.{filled, filled_byte};
+ghost use Rattle.faults.specs.Causes.{filled, filled_byte, of_line};
 ghost use Rattle.faults.specs.Views.{cause_in};
-ghost use Rattle.faults.specs.Report.{margin_byte, numbered, row_text, marks_text, place_text, kind_text, cause_of, caused_text, message_text, cure_text, finding_text, text_at, shown_finding, shown_line, labels_of, sought_labels, has_label, first_line, count_before, as_error, as_warning, merged, counted, count_text, report};
+ghost use Rattle.faults.specs.Report.{margin_byte, numbered, row_text, marks_text, place_text, kind_text, cause_of, caused_text, message_text, cure_text, finding_text, text_at, shown_finding, shown_line, as_label, told_by_line, labels_of, sought_labels, has_label, first_line, count_before, as_error, as_warning, merged, counted, count_text, report};
 
 use crate::causes::{Cause, fault_cause, near_label, text_of, warning_cause};
 use crate::kinds::push_kind_of_source;
@@ -23,9 +23,6 @@ use yayul::{Finding, Span};
 
 /// How many digits a number has at most.
 pub(crate) const DIGITS: usize = 20;
-
-/// The number of the fault that a label stands twice.
-const TWICE_DEFINED: u8 = 14;
 
 /// The most faults of a source that are told with labels of other lines.
 const MOST_FAULTS: usize = 100;
@@ -212,23 +209,36 @@ fn push_shown_line(
 ) -> Result<(), AllocError>
     ensures { OnOk result (out.new.items ≡ out.old.items ++ shown_line name.now labels.now (map (λ t. t.now) texts.now) text.now (parts_in parts.now) (severity, finding.now)) }
 {
-    let label = text_of(parts.label);
-    if finding.number == TWICE_DEFINED && labels.has(label) {
-        let mut digits = ArrayVec::<u8, DIGITS>::new();
-        push_decimal(&mut digits, first_line(texts, label));
-        push_finding(
-            out,
-            name,
-            text,
-            parts,
-            Some(digits.as_slice()),
-            severity,
-            finding,
-        )
-    } else {
-        let near = near_label(labels, parts, finding);
-        push_finding(out, name, text, parts, near, severity, finding)
+    match told_by_line(labels, parts, finding.number) {
+        Some(label) => {
+            let mut digits = ArrayVec::<u8, DIGITS>::new();
+            push_decimal(&mut digits, first_line(texts, label));
+            let line = Some(digits.as_slice());
+            push_finding(out, name, text, parts, line, severity, finding)
+        }
+        None => {
+            let near = near_label(labels, parts, finding);
+            push_finding(out, name, text, parts, near, severity, finding)
+        }
     }
+}
+
+// The label whose first line a fault is told with.
+fn told_by_line<'a>(labels: &NameSet, parts: &Line<'a>, number: u8) -> Option<&'a [u8]>
+    ensures { option_map (λ label. label.now) result ≡ told_by_line labels.now (parts_in parts.now) number }
+{
+    match number {
+        14 => as_label(labels, text_of(parts.label)),
+        25 | 26 => as_label(labels, text_of(parts.operand)),
+        _ => None,
+    }
+}
+
+// A name, where it is a label.
+fn as_label<'a>(labels: &NameSet, name: &'a [u8]) -> Option<&'a [u8]>
+    ensures { option_map (λ label. label.now) result ≡ as_label labels.now name.now }
+{
+    if labels.has(name) { Some(name) } else { None }
 }
 
 // The number of the first line that has a label.
@@ -299,7 +309,7 @@ fn cause_of(
 {
     match severity {
         Severity::Error => fault_cause(text, parts, near, finding),
-        Severity::Warning => warning_cause(finding.number),
+        Severity::Warning => warning_cause(parts, finding.number),
     }
 }
 
@@ -371,7 +381,20 @@ fn push_filled_byte(
         b'@' => push_shown(out, text_of(parts.operand))?,
         b'!' => out.extend_from_slice(other)?,
         b'~' => out.extend_from_slice(label)?,
+        b'^' => push_of_line(out, label)?,
         _ => out.push(byte)?,
+    }
+    Ok(())
+}
+
+// Appends where another line stands, in words, by the digits of its number; nothing without them.
+fn push_of_line(out: &mut Vec<u8>, digits: &[u8]) -> Result<(), AllocError>
+    ensures { OnOk result (out.new.items ≡ out.old.items ++ of_line digits.now) }
+{
+    if !digits.is_empty() {
+        out.extend_from_slice(b", of line ")?;
+        out.extend_from_slice(digits)?;
+        out.extend_from_slice(b",")?;
     }
     Ok(())
 }

@@ -5,11 +5,14 @@ mod causes;
 mod explaining;
 mod feeds;
 mod findings;
+mod flow;
 mod kinds;
 mod mistakes;
 mod names;
 mod refusals;
+mod registers;
 mod slips;
+mod switched;
 
 pub use explaining::{all_headings, explanation};
 pub use feeds::feed_report;

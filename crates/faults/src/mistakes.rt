@@ -1,15 +1,18 @@
 //! What in a source is likely a mistake, though it is no fault.
 
-ghost use Rattle.std.specs.Prelude.{◌≡◌, ◌≤◌, ◌++◌, map, length, take, false, IfOk, OnOk};
+ghost use Rattle.std.specs.Prelude.{◌≡◌, ◌≤◌, ◌++◌, [], map, length, if◌then◌else◌, IfOk, OnOk};
 ghost use Rattle.std.specs.List.{fold};
 ghost use Rattle.std.specs.Option.{option_map};
 ghost use Rattle.agc_text.specs.Fields.{fields, label_of};
 ghost use Rattle.agc_text.specs.Views.{piece};
 ghost use Rattle.yayul.specs.Survey.{field_at, looked_at, span_of};
-ghost use Rattle.faults.specs.Warnings.{parts_of, parts_in, is_among, has_operator, has_alone, warned_if, at_field, operator_names, label_warnings, readers, is_register_number, index_operators, indexed_after, number_warnings, pair_operators, erase_operators, reserves_one, with_field, with_single, pair_warnings, unused_warnings, names_of, line_warnings, warned_lines, warnings};
+ghost use Rattle.faults.specs.Warnings.{parts_of, parts_in, is_among, has_operator, has_alone, warned_if, at_field, operator_names, label_warnings, readers, is_register_number, index_operators, indexed_after, number_warnings, pair_operators, erase_operators, reserves_one, with_field, with_single, pair_warnings, unused_warnings, register_warnings, word_readers, with_read, names_of, at_start, line_warnings, warned_lines, warnings};
 
 use crate::findings::line_texts;
+use crate::flow::{Before, warn_of_end, warn_of_vector};
 use crate::names::{NameSet, is_among, is_short};
+use crate::registers::warn_of_register;
+use crate::switched::{unset_names, warn_of_bank};
 use agc_text::{Field, Line, Number, octal_value};
 use std::alloc::{AllocError, Global};
 use yayul::{Finding, Language, Span, most_lines};
@@ -51,6 +54,10 @@ struct Names {
     singles: NameSet,
     /// Those that an operand is.
     operands: NameSet,
+    /// Those that are read.
+    read: NameSet,
+    /// Those of switched erasable banks, where no line sets EB.
+    switched: NameSet,
 }
 
 impl Names {
@@ -61,6 +68,8 @@ impl Names {
         let mut names = Names {
             singles: NameSet::new(alloc),
             operands: NameSet::new(alloc),
+            read: NameSet::new(alloc),
+            switched: unset_names(alloc, lines)?,
         };
         for text in lines {
             names.note(&parts_of(text))?;
@@ -72,9 +81,14 @@ impl Names {
     fn note(&mut self, parts: &Line<'_>) -> Result<(), AllocError>
         ensures singles { OnOk result (self.new.singles ≡ with_single self.old.singles (parts_in parts.now)) }
         ensures operands { OnOk result (self.new.operands ≡ with_field self.old.operands (option_map piece parts.now.operand)) }
+        ensures read { OnOk result (self.new.read ≡ with_read self.old.read (parts_in parts.now)) }
+        ensures switched { self.new.switched ≡ self.old.switched }
     {
         if reserves_one(parts) {
             add_field(&mut self.singles, parts.label)?;
+        }
+        if reads_word(parts) {
+            add_field(&mut self.read, parts.operand)?;
         }
         add_field(&mut self.operands, parts.operand)
     }
@@ -87,13 +101,14 @@ impl Names {
         found: &mut Vec<Finding>,
     ) -> Result<(), AllocError>
         requires { length lines.now ≤ LINES }
-        ensures { OnOk result (found.new.items ≡ found.old.items ++ warned_lines unused self.now false 1 (map (λ text. text.now) lines.now)) }
+        ensures { OnOk result (found.new.items ≡ found.old.items ++ warned_lines unused self.now at_start 1 (map (λ text. text.now) lines.now)) }
     {
-        let mut indexed = false;
+        let mut before = Before::at_start();
         for (index, text) in lines.iter().enumerate() {
             let parts = parts_of(text);
-            self.warn_of(unused, indexed, index as u32 + 1, &parts, found)?;
-            indexed = indexed_after(indexed, &parts);
+            let after = &lines[index + 1..];
+            self.warn_of(unused, before, after, index as u32 + 1, &parts, found)?;
+            before = before.next(&parts);
         }
         Ok(())
     }
@@ -102,19 +117,39 @@ impl Names {
     fn warn_of(
         &self,
         unused: bool,
-        indexed: bool,
+        before: Before,
+        after: &[&[u8]],
         line: u32,
         parts: &Line<'_>,
         found: &mut Vec<Finding>,
     ) -> Result<(), AllocError>
-        ensures { OnOk result (found.new.items ≡ found.old.items ++ line_warnings unused self.now indexed line (parts_in parts.now)) }
+        ensures { OnOk result (found.new.items ≡ found.old.items ++ line_warnings unused self.now before (map (λ text. text.now) after.now) line (parts_in parts.now)) }
+    {
+        self.warn_of_names(unused, line, parts, found)?;
+        warn_of_end(&self.read, after, line, parts, found)?;
+        warn_of_vector(before, line, parts, found)?;
+        warn_of_number(before.indexed, line, parts, found)?;
+        warn_of_pair(&self.singles, line, parts, found)?;
+        warn_of_bank(&self.switched, line, parts, found)
+    }
+
+    // Appends those of its label.
+    fn warn_of_names(
+        &self,
+        unused: bool,
+        line: u32,
+        parts: &Line<'_>,
+        found: &mut Vec<Finding>,
+    ) -> Result<(), AllocError>
+        ensures { OnOk result (found.new.items ≡ found.old.items ++ label_warnings line (parts_in parts.now) ++ register_warnings line (parts_in parts.now)
+            ++ (if unused then unused_warnings self.now.operands line (parts_in parts.now) else [])) }
     {
         warn_of_label(line, parts, found)?;
+        warn_of_register(line, parts, found)?;
         if unused {
             warn_of_unused(&self.operands, line, parts, found)?;
         }
-        warn_of_number(indexed, line, parts, found)?;
-        warn_of_pair(&self.singles, line, parts, found)
+        Ok(())
     }
 }
 
@@ -135,8 +170,8 @@ pub(crate) fn add_field(names: &mut NameSet, field: Option<Field<'_>>) -> Result
     }
 }
 
-// Appends a warning of a number at a field of a line, where a condition holds.
-fn warn_if(
+/// Appends a warning of a number at a field of a line, where a condition holds.
+pub(crate) fn warn_if(
     condition: bool,
     line: u32,
     number: u8,
@@ -165,11 +200,18 @@ pub(crate) fn has_operator(names: &[&str], parts: &Line<'_>) -> bool
     }
 }
 
-// Whether the operator is one of some, and no offset stands.
-fn has_alone(names: &[&str], parts: &Line<'_>) -> bool
+/// Whether the operator is one of some, and no offset stands.
+pub(crate) fn has_alone(names: &[&str], parts: &Line<'_>) -> bool
     ensures { result ≡ has_alone (map (λ name. name.now) names.now) (parts_in parts.now) }
 {
     has_operator(names, parts) && parts.offset.is_none()
+}
+
+// Operators that read a word.
+fn reads_word(parts: &Line<'_>) -> bool
+    ensures { result ≡ has_operator word_readers (parts_in parts.now) }
+{
+    has_operator(word_readers(), parts)
 }
 
 // An operator's name as a label.
@@ -200,8 +242,8 @@ fn warn_of_unused(
     }
 }
 
-// Whether a word that adds to the next address stands last before what follows a line.
-fn indexed_after(indexed: bool, parts: &Line<'_>) -> bool
+/// Whether a word that adds to the next address stands last before what follows a line.
+pub(crate) fn indexed_after(indexed: bool, parts: &Line<'_>) -> bool
     ensures { result ≡ indexed_after indexed (parts_in parts.now) }
 {
     if parts.operator.is_some() {
@@ -254,8 +296,8 @@ fn reserves_one(parts: &Line<'_>) -> bool
     has_operator(erase_operators(), parts) && parts.operand.is_none()
 }
 
-// Octal digits of a place that a register or a counter has.
-fn is_register_number(text: &[u8]) -> bool
+/// Octal digits of a place that a register or a counter has.
+pub(crate) fn is_register_number(text: &[u8]) -> bool
     ensures { result ≡ is_register_number text.now }
 {
     matches!(octal_value(text), Some(Number::Small(number)) if number < 0o61)
@@ -270,6 +312,11 @@ pub(crate) fn is_operator(text: &[u8]) -> bool
 
 const READERS: [&str; 10] = [
     "CA", "CAE", "CS", "AD", "MASK", "MSK", "CCS", "MP", "DV", "SU",
+];
+
+const WORD_READERS: [&str; 15] = [
+    "CA", "CAE", "CS", "AD", "MASK", "MSK", "CCS", "MP", "DV", "SU", "CAF", "DCA", "DCS", "INDEX",
+    "NDX",
 ];
 
 const INDEX_OPERATORS: [&str; 2] = ["INDEX", "NDX"];
@@ -291,6 +338,12 @@ fn readers() -> &'static [&'static str]
     ensures { map (λ name. name.now) result.now ≡ readers }
 {
     &READERS
+}
+
+fn word_readers() -> &'static [&'static str]
+    ensures { map (λ name. name.now) result.now ≡ word_readers }
+{
+    &WORD_READERS
 }
 
 fn index_operators() -> &'static [&'static str]
