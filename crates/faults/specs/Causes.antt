@@ -11,7 +11,7 @@ use Rattle.faults.specs.Registers.{registers}
 use Rattle.faults.specs.declared.causes.Closeness.{Closeness}
 use Rattle.faults.specs.declared.causes.Closeness.TheVariants.{AsLong, InCapitals, Near}
 use Rattle.faults.specs.Shown.{shown_byte}
-use Rattle.faults.specs.Warnings.{Parts, erase_operators, has_operator, is_among, is_short, operator_names}
+use Rattle.faults.specs.Warnings.{Parts, bank_operators, erase_operators, has_operator, is_among, is_short, operator_names}
 
 -- what is wrong, how it is mended or nothing, and a text that stands in either
 pub record Cause : Type 0 where
@@ -165,11 +165,6 @@ octal_operators =
 abbrev pub decimal_operators : List (List ℕ)
 decimal_operators =
     codes "DEC" ∷ []
-
--- those that take a bank
-abbrev pub bank_operators : List (List ℕ)
-bank_operators =
-    codes "BANK" ∷ codes "BLOCK" ∷ []
 
 -- BLOCK
 abbrev pub block_operators : List (List ℕ)
@@ -361,4 +356,5 @@ warning_cause parts number =
     else if number == 6 then cured (codes "@ stands in a switched erasable bank, and no line sets EB") (codes "NAME ECADR @ on a line of its own; before this CA NAME, and TS 3, which is EB")
     else if number == 7 then cured_by (codes "& is a register's name, and stands for another place here") (codes "& EQUALS ! is the register") (unwrap_or (value_in registers (text_of parts.label)) [])
     else if number == 8 then said (codes "no operand names &")
+    else if number == 9 then cured (codes "@ stands in a switched bank of fixed memory, and no line sets FB") (codes "NAME FCADR @ on a line of its own; before this CA NAME, and TS 4, which is FB")
     else said []

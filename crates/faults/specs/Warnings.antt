@@ -13,9 +13,15 @@ use Rattle.yayul.specs.Operators.{operators}
 use Rattle.yayul.specs.Survey.{field_at, looked_at, span_of}
 use Rattle.yayul.specs.declared.finding.Finding.{Finding}
 use Rattle.yayul.specs.declared.language.Language.{Language}
+use Rattle.yayul.specs.declared.language.Language.TheVariants.{Flight, Standard}
 use Rattle.faults.specs.Registers.{registers}
 use Rattle.faults.specs.declared.flow.Before.{Before}
 use Rattle.faults.specs.declared.mistakes.Names.{Names}
+use Rattle.faults.specs.declared.switched.BankRegister.{BankRegister}
+use Rattle.faults.specs.declared.switched.BankRegister.TheVariants.{Eb, Fb}
+use Rattle.faults.specs.declared.switched.Banks.{Banks}
+use Rattle.faults.specs.declared.switched.Region.{Region}
+use Rattle.faults.specs.declared.switched.Region.TheVariants.{Common, Elsewhere, SwitchedErasable, SwitchedFixed}
 
 -- ## Names
 -- a text is one of some names
@@ -140,7 +146,7 @@ is_instruction parts = gives_word parts && not (has_operator constant_operators 
 -- those that never go on to the next word, or leave there what a routine takes
 abbrev pub leaving_operators : List (List ℕ)
 leaving_operators =
-    codes "TC" ∷ codes "TCR" ∷ codes "TCF" ∷ codes "NOOP" ∷ codes "RETURN" ∷ codes "RESUME" ∷ codes "DTCB" ∷ codes "DTCF" ∷ codes "TCAA" ∷ codes "XLQ" ∷ codes "XXALQ" ∷ []
+    codes "TC" ∷ codes "TCR" ∷ codes "TCF" ∷ codes "RETURN" ∷ codes "RESUME" ∷ codes "DTCB" ∷ codes "DTCF" ∷ codes "TCAA" ∷ codes "XLQ" ∷ codes "XXALQ" ∷ []
 
 -- those that may write Z, and so go elsewhere
 abbrev pub storing_operators : List (List ℕ)
@@ -205,57 +211,119 @@ is_overrun filled left = option_map_or (nat_le 4) filled false && not left
 abbrev pub vector_warnings : Before → ℕ → Parts → List Finding
 vector_warnings before line parts = at_field (λ p. warned_if (is_overrun before.filled before.left && gives_word parts) line 5 p) parts.operator
 
--- ## 6: a word of a switched erasable bank, where no line sets EB
--- the places that EB leads to
-abbrev pub is_switched_place : ℕ → Bool
-is_switched_place place = nat_le 0o1400 place && nat_le place 0o3777
+-- ## 6 and 9: a word of a switched bank, where no line sets EB or FB
+-- the region of a place as SETLOC takes it: EB leads to those of erasable memory from 1400 on, and banks 2 and 3 are reached whatever FB holds
+abbrev pub region_of_place : ℕ → Region
+region_of_place place = if nat_lt place 0o1400 then Elsewhere else if nat_lt place 0o4000 then SwitchedErasable else if nat_lt place 0o10000 then Common else Elsewhere
 
--- operators that go to another place
-abbrev pub placing_operators : List (List ℕ)
-placing_operators = codes "SETLOC" ∷ codes "BANK" ∷ codes "BLOCK" ∷ []
+-- the region of a bank of fixed memory; a machine starts with FB at bank 0
+abbrev pub region_of_bank : ℕ → Region
+region_of_bank bank = if bank == 2 || bank == 3 then Common else if nat_lt 0 bank && nat_lt bank 0o44 then SwitchedFixed else Elsewhere
 
--- whether words are reserved there after a line, by whether they are before it
-abbrev pub switched_after : Bool → Parts → Bool
-switched_after switched parts =
-    if has_operator placing_operators parts
-    then has_alone setting_operators parts && option_map_or (λ p. option_map_or is_switched_place (digits_value 8 p.text) false) parts.operand false
-    else switched
+-- the region of a number in octal, and elsewhere by any other field
+abbrev pub region_at : (ℕ → Region) → Option Piece → Region
+region_at region_of field = option_map_or (λ p. option_map_or region_of (digits_value 8 p.text) Elsewhere) field Elsewhere
 
-abbrev pub with_switched : Bool → List (List ℕ) → Parts → List (List ℕ)
-with_switched switched names parts = if switched && has_operator erase_operators parts then with_field names parts.label else names
+abbrev pub bank_operators : List (List ℕ)
+bank_operators = codes "BANK" ∷ codes "BLOCK" ∷ []
 
--- some names, and the labels of words that some lines reserve there
-abbrev pub switched_names : Bool → List (List ℕ) → List (List ℕ) → List (List ℕ)
-switched_names switched names [] = names
-switched_names switched names (text ∷ texts) = switched_names (switched_after switched (parts_of text)) (with_switched switched names (parts_of text)) texts
+-- where words stand after a line, by where they do before it
+abbrev pub region_after : Region → Parts → Region
+region_after region parts =
+    if has_alone setting_operators parts then region_at region_of_place parts.operand
+    else if has_operator setting_operators parts then Elsewhere
+    else if has_operator bank_operators parts then region_at region_of_bank parts.operand
+    else region
 
--- EB is 3, and BB, which has it, 6; an exchange of two words has one of them from 2 and 5 too
-abbrev pub is_bank_number : List ℕ → Bool
-is_bank_number text = option_map_or (λ n. n == 2 || n == 3 || n == 5 || n == 6) (digits_value 8 text) false
+abbrev pub is_common : Region → Bool
+is_common Common = true
+is_common SwitchedErasable = false
+is_common SwitchedFixed = false
+is_common Elsewhere = false
+
+abbrev pub is_switched_erasable : Region → Bool
+is_switched_erasable SwitchedErasable = true
+is_switched_erasable Common = false
+is_switched_erasable SwitchedFixed = false
+is_switched_erasable Elsewhere = false
+
+abbrev pub is_switched_fixed : Region → Bool
+is_switched_fixed SwitchedFixed = true
+is_switched_fixed Common = false
+is_switched_fixed SwitchedErasable = false
+is_switched_fixed Elsewhere = false
 
 abbrev pub value_operators : List (List ℕ)
 value_operators = codes "EQUALS" ∷ codes "=" ∷ []
 
--- some names, and the label of a line that gives it one of these numbers
-abbrev pub with_bank : List (List ℕ) → Parts → List (List ℕ)
-with_bank names parts = if has_alone value_operators parts && option_map_or (λ p. is_bank_number p.text) parts.operand false then with_field names parts.label else names
+-- some names, and the label of a word that a line reserves in a switched erasable bank
+abbrev pub with_erasable : Region → List (List ℕ) → Parts → List (List ℕ)
+with_erasable region names parts = if is_switched_erasable region && has_operator erase_operators parts then with_field names parts.label else names
+
+-- some names, and a label that stands for a place of a switched bank of fixed memory
+abbrev pub with_fixed : Region → List (List ℕ) → Parts → List (List ℕ)
+with_fixed region names parts = if is_switched_fixed region && not (has_operator value_operators parts) then with_field names parts.label else names
+
+-- EB is 3, FB 4 and BB, which has both, 6; an exchange of two words has one of them from the place before it too, and Z, 5, before BB
+abbrev pub is_bank_place : BankRegister → ℕ → Bool
+is_bank_place Eb n = n == 2 || n == 3 || n == 5 || n == 6
+is_bank_place Fb n = nat_le 3 n && nat_le n 6
+
+-- octal digits of one of these places
+abbrev pub is_bank_number : BankRegister → List ℕ → Bool
+is_bank_number register text = option_map_or (is_bank_place register) (digits_value 8 text) false
+
+-- some names, and the label of a line that gives it one of these places
+abbrev pub with_bank_name : BankRegister → List (List ℕ) → Parts → List (List ℕ)
+with_bank_name register names parts =
+    if has_alone value_operators parts && option_map_or (λ p. is_bank_number register p.text) parts.operand false then with_field names parts.label else names
 
 -- DTCB and DTCF, which set BB and FB
 abbrev pub far_operators : List (List ℕ)
 far_operators = codes "DTCB" ∷ codes "DTCF" ∷ []
 
--- a line may set EB, by one of these numbers or of some names
-abbrev pub sets_bank : List (List ℕ) → List ℕ → Bool
-sets_bank names text =
-    has_operator far_operators (parts_of text)
-    || (has_operator storing_operators (parts_of text) && option_map_or (λ p. is_bank_number p.text || is_among names p.text) (parts_of text).operand false)
+-- some names, and where a line stores
+abbrev pub with_stored : List (List ℕ) → Parts → List (List ℕ)
+with_stored names parts = if has_operator storing_operators parts then with_field names parts.operand else names
 
--- the names of words in switched banks, where no line sets EB; none where one may
-abbrev pub unset_names : List (List ℕ) → List (List ℕ)
-unset_names texts = if list_any (sets_bank (fold (λ names text. with_bank names (parts_of text)) [] texts)) texts then [] else switched_names false [] texts
+-- what is known of banks after a line
+abbrev pub banks_after : Banks → Parts → Banks
+banks_after banks parts = record {
+  region = region_after banks.region parts;
+  erasable = with_erasable banks.region banks.erasable parts;
+  fixed = with_fixed banks.region banks.fixed parts;
+  erasable_registers = with_bank_name Eb banks.erasable_registers parts;
+  fixed_registers = with_bank_name Fb banks.fixed_registers parts;
+  stored = with_stored banks.stored parts;
+  far = banks.far || has_operator far_operators parts;
+}
 
-abbrev pub bank_warnings : List (List ℕ) → ℕ → Parts → List Finding
-bank_warnings switched line parts = at_field (λ p. warned_if (is_instruction parts && is_among switched p.text) line 6 p) parts.operand
+-- a source begins at 4000
+abbrev pub no_banks : Banks
+no_banks = record { region = Common; erasable = []; fixed = []; erasable_registers = []; fixed_registers = []; stored = []; far = false }
+
+abbrev pub banks_of : List (List ℕ) → Banks
+banks_of texts = fold (λ banks text. banks_after banks (parts_of text)) no_banks texts
+
+-- some line may set a register: by DTCB or DTCF, or by a store at one of its places, by number or by one of some names
+abbrev pub may_set : BankRegister → List (List ℕ) → Banks → Bool
+may_set register names banks = banks.far || list_any (λ text. is_bank_number register text || is_among names text) banks.stored
+
+abbrev pub may_set_erasable : Banks → Bool
+may_set_erasable banks = may_set Eb banks.erasable_registers banks
+
+abbrev pub may_set_fixed : Banks → Bool
+may_set_fixed banks = may_set Fb banks.fixed_registers banks
+
+-- an instruction on a word of a switched erasable bank, where no line sets EB
+abbrev pub erasable_warnings : Names → ℕ → Parts → List Finding
+erasable_warnings names line parts =
+    at_field (λ p. warned_if (not names.sets_erasable && is_instruction parts && is_among names.banks.erasable p.text) line 6 p) parts.operand
+
+-- an instruction of banks 2 and 3 on a place of a switched bank of fixed memory, where no line sets FB
+abbrev pub fixed_warnings : Names → Region → ℕ → Parts → List Finding
+fixed_warnings names region line parts =
+    at_field (λ p. warned_if (not names.sets_fixed && is_common region && is_instruction parts && is_among names.banks.fixed p.text) line 9 p) parts.operand
 
 -- ## 7: a register's name at another place
 -- two numbers in octal are the same
@@ -298,34 +366,53 @@ before_next before parts = record {
   indexed = indexed_after before.indexed parts;
   filled = filled_after before.filled parts;
   left = if gives_word parts then leaves parts else before.left;
+  region = region_after before.region parts;
 }
 
 abbrev pub at_start : Before
-at_start = record { indexed = false; filled = None; left = false }
+at_start = record { indexed = false; filled = None; left = false; region = Common }
 
 -- ## All
--- the names of a source: those for which one word is reserved, those that an operand is, those that are read, and those of switched erasable banks where no line sets EB
+-- the names of a source: those for which one word is reserved, those that an operand is and those that are read; and what is known of banks
 abbrev pub names_of : List (List ℕ) → Names
 names_of texts = record {
   singles = fold (λ names text. with_single names (parts_of text)) [] texts;
   operands = fold (λ names text. with_field names (parts_of text).operand) [] texts;
   read = fold (λ names text. with_read names (parts_of text)) [] texts;
-  switched = unset_names texts;
+  banks = banks_of texts;
+  sets_erasable = may_set_erasable (banks_of texts);
+  sets_fixed = may_set_fixed (banks_of texts);
 }
 
--- the warnings of a line, in the order of its fields, by what stands before it and the lines after it; those of labels that nothing names where they are asked for
-abbrev pub line_warnings : Bool → Names → Before → List (List ℕ) → ℕ → Parts → List Finding
-line_warnings unused names before after line parts =
-    label_warnings line parts ++ register_warnings line parts ++ (if unused then unused_warnings names.operands line parts else [])
-    ++ end_warnings names.read after line parts ++ vector_warnings before line parts
-    ++ number_warnings before.indexed line parts ++ pair_warnings names.singles line parts ++ bank_warnings names.switched line parts
+-- a source without forms of flight programs, whose words of other kinds are not told from instructions
+abbrev pub is_standard : Language → Bool
+is_standard Standard = true
+is_standard Flight = false
+
+-- the warnings of a line's label; of one that nothing names where they are asked for
+abbrev pub name_warnings : Bool → Names → ℕ → Parts → List Finding
+name_warnings unused names line parts = label_warnings line parts ++ register_warnings line parts ++ (if unused then unused_warnings names.operands line parts else [])
+
+-- the warnings of its operator, by what stands before it and the lines after it
+abbrev pub flow_warnings : Language → Names → Before → List (List ℕ) → ℕ → Parts → List Finding
+flow_warnings language names before after line parts = (if is_standard language then end_warnings names.read after line parts else []) ++ vector_warnings before line parts
+
+-- the warnings of its operand
+abbrev pub operand_warnings : Names → Before → ℕ → Parts → List Finding
+operand_warnings names before line parts =
+    number_warnings before.indexed line parts ++ pair_warnings names.singles line parts ++ erasable_warnings names line parts ++ fixed_warnings names before.region line parts
+
+-- the warnings of a line, in the order of its fields
+abbrev pub line_warnings : Language → Bool → Names → Before → List (List ℕ) → ℕ → Parts → List Finding
+line_warnings language unused names before after line parts =
+    name_warnings unused names line parts ++ flow_warnings language names before after line parts ++ operand_warnings names before line parts
 
 -- the warnings of some lines, the first of them with a number
-abbrev pub warned_lines : Bool → Names → Before → ℕ → List (List ℕ) → List Finding
-warned_lines unused names before line [] = []
-warned_lines unused names before line (text ∷ texts) =
-    line_warnings unused names before texts line (parts_of text) ++ warned_lines unused names (before_next before (parts_of text)) (line + 1) texts
+abbrev pub warned_lines : Language → Bool → Names → Before → ℕ → List (List ℕ) → List Finding
+warned_lines language unused names before line [] = []
+warned_lines language unused names before line (text ∷ texts) =
+    line_warnings language unused names before texts line (parts_of text) ++ warned_lines language unused names (before_next before (parts_of text)) (line + 1) texts
 
 -- the warnings of a source of a language, of as many lines as are looked at for faults
 unfoldable pub warnings : Language → Bool → List ℕ → List Finding
-warnings language unused source = warned_lines unused (names_of (looked_at language source)) at_start 1 (looked_at language source)
+warnings language unused source = warned_lines language unused (names_of (looked_at language source)) at_start 1 (looked_at language source)

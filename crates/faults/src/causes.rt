@@ -4,8 +4,8 @@ ghost use Rattle.std.specs.Prelude.{◌≡◌, [], map, find, unwrap_or};
 ghost use Rattle.std.specs.Option.{option_map};
 ghost use Rattle.agc_text.specs.Tables.{value_in};
 ghost use Rattle.agc_text.specs.Views.{piece};
-ghost use Rattle.faults.specs.Warnings.{parts_in, operator_names};
-ghost use Rattle.faults.specs.Causes.{byte_cause, label_cause, operator_cause, digits_cause, place_cause, operand_cause, symbol_cause, undefined_cause, early_cause, bank_cause, room_cause, kind_cause, range_cause, fault_cause, warning_cause, near_label, said, cured, cured_by, text_of, holds, begins, is_signed, is_foreign_comment, has_foreign_comment, is_beyond_octal, near_name, is_close, is_in_capitals, capital, is_near, is_exchanged, foreign_operators, label_refusers, octal_operators, decimal_operators, bank_operators, block_operators, plain_operators, channel_operators, erasable_operators, fixed_operators, jump_operators, writers, erasable_readers};
+ghost use Rattle.faults.specs.Warnings.{parts_in, operator_names, bank_operators};
+ghost use Rattle.faults.specs.Causes.{byte_cause, label_cause, operator_cause, digits_cause, place_cause, operand_cause, symbol_cause, undefined_cause, early_cause, bank_cause, room_cause, kind_cause, range_cause, fault_cause, warning_cause, near_label, said, cured, cured_by, text_of, holds, begins, is_signed, is_foreign_comment, has_foreign_comment, is_beyond_octal, near_name, is_close, is_in_capitals, capital, is_near, is_exchanged, foreign_operators, label_refusers, octal_operators, decimal_operators, block_operators, plain_operators, channel_operators, erasable_operators, fixed_operators, jump_operators, writers, erasable_readers};
 ghost use Rattle.faults.specs.Registers.{registers};
 ghost use Rattle.faults.specs.Views.{cause_in, entries};
 
@@ -133,6 +133,10 @@ pub(crate) fn warning_cause(parts: &Line<'_>, number: u8) -> Cause
             place_named(parts),
         ),
         8 => Cause::said(b"no operand names &"),
+        9 => Cause::cured(
+            b"@ stands in a switched bank of fixed memory, and no line sets FB",
+            b"NAME FCADR @ on a line of its own; before this CA NAME, and TS 4, which is FB",
+        ),
         _ => Cause::said(b""),
     }
 }
@@ -678,7 +682,7 @@ fn decimal_operators() -> &'static [&'static str]
     &DECIMAL_OPERATORS
 }
 
-fn bank_operators() -> &'static [&'static str]
+pub(crate) fn bank_operators() -> &'static [&'static str]
     ensures { map (λ name. name.now) result.now ≡ bank_operators }
 {
     &BANK_OPERATORS

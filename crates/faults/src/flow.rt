@@ -11,6 +11,7 @@ use crate::mistakes::{
     has_alone, has_operator, indexed_after, is_operator, is_register_number, parts_of, warn_if,
 };
 use crate::names::{NameSet, is_among};
+use crate::switched::{Region, region_after};
 use agc_text::{Field, Line, Number, octal_value};
 use std::alloc::AllocError;
 use yayul::Finding;
@@ -27,6 +28,8 @@ pub(crate) struct Before {
     pub(crate) filled: Option<u8>,
     /// Whether the last word is left for another place.
     pub(crate) left: bool,
+    /// Where words stand.
+    pub(crate) region: Region,
 }
 
 impl Before {
@@ -38,6 +41,7 @@ impl Before {
             indexed: false,
             filled: None,
             left: false,
+            region: Region::Common,
         }
     }
 
@@ -53,6 +57,7 @@ impl Before {
             } else {
                 self.left
             },
+            region: region_after(self.region, parts),
         }
     }
 }
@@ -211,8 +216,8 @@ const MOVING_OPERATORS: [&str; 4] = ["SETLOC", "BANK", "BLOCK", "ERASE"];
 
 const STILL_OPERATORS: [&str; 3] = ["EQUALS", "=", "EBANK="];
 
-const LEAVING_OPERATORS: [&str; 11] = [
-    "TC", "TCR", "TCF", "NOOP", "RETURN", "RESUME", "DTCB", "DTCF", "TCAA", "XLQ", "XXALQ",
+const LEAVING_OPERATORS: [&str; 10] = [
+    "TC", "TCR", "TCF", "RETURN", "RESUME", "DTCB", "DTCF", "TCAA", "XLQ", "XXALQ",
 ];
 
 const STORING_OPERATORS: [&str; 5] = ["TS", "XCH", "LXCH", "QXCH", "DXCH"];

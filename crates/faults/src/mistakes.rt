@@ -1,18 +1,18 @@
 //! What in a source is likely a mistake, though it is no fault.
 
-ghost use Rattle.std.specs.Prelude.{◌≡◌, ◌≤◌, ◌++◌, [], map, length, if◌then◌else◌, IfOk, OnOk};
+ghost use Rattle.std.specs.Prelude.{◌≡◌, ◌≤◌, ◌++◌, [], map, length, IfOk, OnOk};
 ghost use Rattle.std.specs.List.{fold};
 ghost use Rattle.std.specs.Option.{option_map};
 ghost use Rattle.agc_text.specs.Fields.{fields, label_of};
 ghost use Rattle.agc_text.specs.Views.{piece};
 ghost use Rattle.yayul.specs.Survey.{field_at, looked_at, span_of};
-ghost use Rattle.faults.specs.Warnings.{parts_of, parts_in, is_among, has_operator, has_alone, warned_if, at_field, operator_names, label_warnings, readers, is_register_number, index_operators, indexed_after, number_warnings, pair_operators, erase_operators, reserves_one, with_field, with_single, pair_warnings, unused_warnings, register_warnings, word_readers, with_read, names_of, at_start, line_warnings, warned_lines, warnings};
+ghost use Rattle.faults.specs.Warnings.{parts_of, parts_in, is_among, has_operator, has_alone, warned_if, at_field, operator_names, label_warnings, readers, is_register_number, index_operators, indexed_after, number_warnings, pair_operators, erase_operators, reserves_one, with_field, with_single, pair_warnings, unused_warnings, name_warnings, flow_warnings, operand_warnings, erasable_warnings, fixed_warnings, word_readers, with_read, banks_after, names_of, at_start, line_warnings, warned_lines, warnings};
 
 use crate::findings::line_texts;
-use crate::flow::{Before, warn_of_end, warn_of_vector};
+use crate::flow::{Before, is_instruction, warn_of_end, warn_of_vector};
 use crate::names::{NameSet, is_among, is_short};
 use crate::registers::warn_of_register;
-use crate::switched::{unset_names, warn_of_bank};
+use crate::switched::{Banks, Region, is_common};
 use agc_text::{Field, Line, Number, octal_value};
 use std::alloc::{AllocError, Global};
 use yayul::{Finding, Language, Span, most_lines};
@@ -33,7 +33,7 @@ pub fn warnings(
     let lines = looked_at(alloc, language, source)?;
     let names = Names::of(alloc, &lines)?;
     let mut found = Vec::new(alloc);
-    names.warn(unused, &lines, &mut found)?;
+    names.warn(language, unused, &lines, &mut found)?;
     Ok(found)
 }
 
@@ -56,8 +56,12 @@ struct Names {
     operands: NameSet,
     /// Those that are read.
     read: NameSet,
-    /// Those of switched erasable banks, where no line sets EB.
-    switched: NameSet,
+    /// What is known of banks.
+    banks: Banks,
+    /// Whether some line may set EB.
+    sets_erasable: bool,
+    /// Whether some line may set FB.
+    sets_fixed: bool,
 }
 
 impl Names {
@@ -69,11 +73,15 @@ impl Names {
             singles: NameSet::new(alloc),
             operands: NameSet::new(alloc),
             read: NameSet::new(alloc),
-            switched: unset_names(alloc, lines)?,
+            banks: Banks::new(alloc),
+            sets_erasable: false,
+            sets_fixed: false,
         };
         for text in lines {
             names.note(&parts_of(text))?;
         }
+        names.sets_erasable = names.banks.may_set_erasable();
+        names.sets_fixed = names.banks.may_set_fixed();
         Ok(names)
     }
 
@@ -82,7 +90,7 @@ impl Names {
         ensures singles { OnOk result (self.new.singles ≡ with_single self.old.singles (parts_in parts.now)) }
         ensures operands { OnOk result (self.new.operands ≡ with_field self.old.operands (option_map piece parts.now.operand)) }
         ensures read { OnOk result (self.new.read ≡ with_read self.old.read (parts_in parts.now)) }
-        ensures switched { self.new.switched ≡ self.old.switched }
+        ensures banks { OnOk result (self.new.banks ≡ banks_after self.old.banks (parts_in parts.now)) }
     {
         if reserves_one(parts) {
             add_field(&mut self.singles, parts.label)?;
@@ -90,24 +98,34 @@ impl Names {
         if reads_word(parts) {
             add_field(&mut self.read, parts.operand)?;
         }
-        add_field(&mut self.operands, parts.operand)
+        add_field(&mut self.operands, parts.operand)?;
+        self.banks.note(parts)
     }
 
     // Appends the warnings of the lines.
     fn warn(
         &self,
+        language: Language,
         unused: bool,
         lines: &[&[u8]],
         found: &mut Vec<Finding>,
     ) -> Result<(), AllocError>
         requires { length lines.now ≤ LINES }
-        ensures { OnOk result (found.new.items ≡ found.old.items ++ warned_lines unused self.now at_start 1 (map (λ text. text.now) lines.now)) }
+        ensures { OnOk result (found.new.items ≡ found.old.items ++ warned_lines language unused self.now at_start 1 (map (λ text. text.now) lines.now)) }
     {
         let mut before = Before::at_start();
         for (index, text) in lines.iter().enumerate() {
             let parts = parts_of(text);
             let after = &lines[index + 1..];
-            self.warn_of(unused, before, after, index as u32 + 1, &parts, found)?;
+            self.warn_of(
+                language,
+                unused,
+                before,
+                after,
+                index as u32 + 1,
+                &parts,
+                found,
+            )?;
             before = before.next(&parts);
         }
         Ok(())
@@ -116,6 +134,7 @@ impl Names {
     // Appends the warnings of a line.
     fn warn_of(
         &self,
+        language: Language,
         unused: bool,
         before: Before,
         after: &[&[u8]],
@@ -123,14 +142,11 @@ impl Names {
         parts: &Line<'_>,
         found: &mut Vec<Finding>,
     ) -> Result<(), AllocError>
-        ensures { OnOk result (found.new.items ≡ found.old.items ++ line_warnings unused self.now before (map (λ text. text.now) after.now) line (parts_in parts.now)) }
+        ensures { OnOk result (found.new.items ≡ found.old.items ++ line_warnings language unused self.now before (map (λ text. text.now) after.now) line (parts_in parts.now)) }
     {
         self.warn_of_names(unused, line, parts, found)?;
-        warn_of_end(&self.read, after, line, parts, found)?;
-        warn_of_vector(before, line, parts, found)?;
-        warn_of_number(before.indexed, line, parts, found)?;
-        warn_of_pair(&self.singles, line, parts, found)?;
-        warn_of_bank(&self.switched, line, parts, found)
+        self.warn_of_flow(language, before, after, line, parts, found)?;
+        self.warn_of_operand(before, line, parts, found)
     }
 
     // Appends those of its label.
@@ -141,8 +157,7 @@ impl Names {
         parts: &Line<'_>,
         found: &mut Vec<Finding>,
     ) -> Result<(), AllocError>
-        ensures { OnOk result (found.new.items ≡ found.old.items ++ label_warnings line (parts_in parts.now) ++ register_warnings line (parts_in parts.now)
-            ++ (if unused then unused_warnings self.now.operands line (parts_in parts.now) else [])) }
+        ensures { OnOk result (found.new.items ≡ found.old.items ++ name_warnings unused self.now line (parts_in parts.now)) }
     {
         warn_of_label(line, parts, found)?;
         warn_of_register(line, parts, found)?;
@@ -150,6 +165,82 @@ impl Names {
             warn_of_unused(&self.operands, line, parts, found)?;
         }
         Ok(())
+    }
+
+    // Appends those of its operator.
+    fn warn_of_flow(
+        &self,
+        language: Language,
+        before: Before,
+        after: &[&[u8]],
+        line: u32,
+        parts: &Line<'_>,
+        found: &mut Vec<Finding>,
+    ) -> Result<(), AllocError>
+        ensures { OnOk result (found.new.items ≡ found.old.items ++ flow_warnings language self.now before (map (λ text. text.now) after.now) line (parts_in parts.now)) }
+    {
+        if matches!(language, Language::Standard) {
+            warn_of_end(&self.read, after, line, parts, found)?;
+        }
+        warn_of_vector(before, line, parts, found)
+    }
+
+    // Appends those of its operand.
+    fn warn_of_operand(
+        &self,
+        before: Before,
+        line: u32,
+        parts: &Line<'_>,
+        found: &mut Vec<Finding>,
+    ) -> Result<(), AllocError>
+        ensures { OnOk result (found.new.items ≡ found.old.items ++ operand_warnings self.now before line (parts_in parts.now)) }
+    {
+        warn_of_number(before.indexed, line, parts, found)?;
+        warn_of_pair(&self.singles, line, parts, found)?;
+        self.warn_of_erasable(line, parts, found)?;
+        self.warn_of_fixed(before.region, line, parts, found)
+    }
+
+    // Appends that of a word in a switched erasable bank, where no line sets EB.
+    fn warn_of_erasable(
+        &self,
+        line: u32,
+        parts: &Line<'_>,
+        found: &mut Vec<Finding>,
+    ) -> Result<(), AllocError>
+        ensures { OnOk result (found.new.items ≡ found.old.items ++ erasable_warnings self.now line (parts_in parts.now)) }
+    {
+        match parts.operand {
+            Some(operand) => {
+                let reached = !self.sets_erasable
+                    && is_instruction(parts)
+                    && self.banks.erasable.has(operand.text);
+                warn_if(reached, line, 6, operand, found)
+            }
+            None => Ok(()),
+        }
+    }
+
+    // Appends that of a place in a switched bank of fixed memory, where no line sets FB.
+    fn warn_of_fixed(
+        &self,
+        region: Region,
+        line: u32,
+        parts: &Line<'_>,
+        found: &mut Vec<Finding>,
+    ) -> Result<(), AllocError>
+        ensures { OnOk result (found.new.items ≡ found.old.items ++ fixed_warnings self.now region line (parts_in parts.now)) }
+    {
+        match parts.operand {
+            Some(operand) => {
+                let reached = !self.sets_fixed
+                    && is_common(region)
+                    && is_instruction(parts)
+                    && self.banks.fixed.has(operand.text);
+                warn_if(reached, line, 9, operand, found)
+            }
+            None => Ok(()),
+        }
     }
 }
 

@@ -1,162 +1,290 @@
-//! Words of switched erasable banks that are reached while no line sets EB.
+//! Words of switched banks that are reached while no line sets the register of these banks.
 
-ghost use Rattle.std.specs.Prelude.{◌≡◌, ◌++◌, [], map, false, IfOk, OnOk};
-ghost use Rattle.std.specs.List.{fold, list_any};
-ghost use Rattle.std.specs.Option.{option_map_or};
+ghost use Rattle.std.specs.Prelude.{◌≡◌, ◌||◌, ◌++◌, map, OnOk};
+ghost use Rattle.std.specs.List.{list_any};
+ghost use Rattle.std.specs.Option.{option_map, option_map_or};
 ghost use Rattle.agc_text.specs.Digits.{digits_value};
-ghost use Rattle.faults.specs.Warnings.{parts_in, parts_of, is_switched_place, placing_operators, switched_after, with_switched, switched_names, is_bank_number, value_operators, with_bank, far_operators, sets_bank, unset_names, bank_warnings};
+ghost use Rattle.agc_text.specs.Views.{piece};
+ghost use Rattle.faults.specs.Warnings.{parts_in, is_among, region_of_place, region_of_bank, region_at, region_after, is_common, is_switched_erasable, is_switched_fixed, value_operators, with_erasable, with_fixed, is_bank_place, is_bank_number, with_bank_name, far_operators, with_stored, banks_after, no_banks, may_set_erasable, may_set_fixed};
 
-use crate::flow::{is_instruction, setting_operators, storing_operators};
-use crate::mistakes::{add_field, erase_operators, has_alone, has_operator, parts_of, warn_if};
+use crate::causes::bank_operators;
+use crate::flow::{setting_operators, storing_operators};
+use crate::mistakes::{add_field, erase_operators, has_alone, has_operator};
 use crate::names::NameSet;
-use agc_text::{Line, Number, octal_value};
+use agc_text::{Field, Line, Number, octal_value};
 use std::alloc::{AllocError, Global};
-use yayul::Finding;
 
-/// The names of words in switched erasable banks, where no line sets EB.
-pub(crate) fn unset_names(alloc: Global, lines: &[&[u8]]) -> Result<NameSet, AllocError>
-    ensures { IfOk result (λ names. names ≡ unset_names (map (λ text. text.now) lines.now)) }
-{
-    let banks = bank_names(alloc, lines)?;
-    if some_sets_bank(&banks, lines) {
-        Ok(NameSet::new(alloc))
-    } else {
-        switched_names(alloc, lines)
-    }
+/// Where words stand.
+#[derive(Clone, Copy, Drop)]
+pub(crate) enum Region {
+    /// Banks 2 and 3 of fixed memory, which are reached whatever FB holds.
+    Common,
+    /// A bank of fixed memory that FB leads to, but bank 0.
+    SwitchedFixed,
+    /// A bank of erasable memory that EB leads to.
+    SwitchedErasable,
+    /// Another place, or one that the line does not tell.
+    Elsewhere,
 }
 
-// The names of the registers that have EB.
-fn bank_names(alloc: Global, lines: &[&[u8]]) -> Result<NameSet, AllocError>
-    ensures { IfOk result (λ names. names ≡ fold (λ names text. with_bank names (parts_of text)) [] (map (λ text. text.now) lines.now)) }
-{
-    let mut names = NameSet::new(alloc);
-    for text in lines {
-        add_bank(&mut names, &parts_of(text))?;
-    }
-    Ok(names)
+/// A register that holds a bank.
+#[derive(Clone, Copy, Drop)]
+pub(crate) enum BankRegister {
+    /// That of erasable memory.
+    Eb,
+    /// That of fixed memory.
+    Fb,
 }
 
-// Adds the label of a line that gives it the number of one.
-fn add_bank(names: &mut NameSet, parts: &Line<'_>) -> Result<(), AllocError>
-    ensures { OnOk result (names.new ≡ with_bank names.old (parts_in parts.now)) }
-{
-    match parts.operand {
-        Some(operand) if has_alone(value_operators(), parts) && is_bank_number(operand.text) => {
-            add_field(names, parts.label)
+/// What the lines so far say of banks.
+#[derive(Drop)]
+pub(crate) struct Banks {
+    /// Where words stand.
+    pub(crate) region: Region,
+    /// The labels of words that are reserved in switched erasable banks.
+    pub(crate) erasable: NameSet,
+    /// The labels in switched banks of fixed memory.
+    pub(crate) fixed: NameSet,
+    /// The names of places by which EB is set.
+    pub(crate) erasable_registers: NameSet,
+    /// The names of places by which FB is set.
+    pub(crate) fixed_registers: NameSet,
+    /// Where lines store.
+    pub(crate) stored: NameSet,
+    /// Whether DTCB or DTCF stands.
+    pub(crate) far: bool,
+}
+
+impl Banks {
+    /// What is known before the first line.
+    pub(crate) fn new(alloc: Global) -> Banks
+        ensures { result ≡ no_banks }
+    {
+        Banks {
+            region: Region::Common,
+            erasable: NameSet::new(alloc),
+            fixed: NameSet::new(alloc),
+            erasable_registers: NameSet::new(alloc),
+            fixed_registers: NameSet::new(alloc),
+            stored: NameSet::new(alloc),
+            far: false,
         }
-        Some(_) => Ok(()),
-        None => Ok(()),
+    }
+
+    /// Adds what a line says.
+    pub(crate) fn note(&mut self, parts: &Line<'_>) -> Result<(), AllocError>
+        ensures { OnOk result (self.new ≡ banks_after self.old (parts_in parts.now)) }
+    {
+        self.note_places(parts)?;
+        add_bank_name(BankRegister::Eb, &mut self.erasable_registers, parts)?;
+        add_bank_name(BankRegister::Fb, &mut self.fixed_registers, parts)?;
+        add_stored(&mut self.stored, parts)?;
+        self.far = self.far || has_operator(far_operators(), parts);
+        self.region = region_after(self.region, parts);
+        Ok(())
+    }
+
+    // Adds the label of a line in a switched bank.
+    fn note_places(&mut self, parts: &Line<'_>) -> Result<(), AllocError>
+        ensures { OnOk result (self.new ≡ record self.old {
+          erasable = with_erasable self.old.region self.old.erasable (parts_in parts.now);
+          fixed = with_fixed self.old.region self.old.fixed (parts_in parts.now);
+        }) }
+    {
+        add_erasable(self.region, &mut self.erasable, parts)?;
+        add_fixed(self.region, &mut self.fixed, parts)
+    }
+
+    /// Whether some line may set EB.
+    pub(crate) fn may_set_erasable(&self) -> bool
+        ensures { result ≡ may_set_erasable self.now }
+    {
+        self.far || some_sets(BankRegister::Eb, &self.erasable_registers, &self.stored)
+    }
+
+    /// Whether some line may set FB.
+    pub(crate) fn may_set_fixed(&self) -> bool
+        ensures { result ≡ may_set_fixed self.now }
+    {
+        self.far || some_sets(BankRegister::Fb, &self.fixed_registers, &self.stored)
     }
 }
 
-fn some_sets_bank(names: &NameSet, lines: &[&[u8]]) -> bool
-    ensures { result ≡ list_any (sets_bank names.now) (map (λ text. text.now) lines.now) }
+// Whether a register is set where lines store, by number or by one of some names.
+#[tactic(auto, using(crate::proofs::GrowingTexts::any_here, crate::proofs::GrowingTexts::any_on))]
+fn some_sets(register: BankRegister, names: &NameSet, stored: &NameSet) -> bool
+    ensures { result ≡ list_any (λ text. is_bank_number register text || is_among names.now text) stored.now }
 {
-    for text in lines {
-        if sets_bank(names, text) {
+    for index in 0..stored.len() {
+        let text = stored.name_at(index);
+        if is_bank_number(register, text) || names.has(text) {
             return true;
         }
     }
     false
 }
 
-// Whether a line may set EB.
-fn sets_bank(names: &NameSet, text: &[u8]) -> bool
-    ensures { result ≡ sets_bank names.now text.now }
+fn add_erasable(region: Region, names: &mut NameSet, parts: &Line<'_>) -> Result<(), AllocError>
+    ensures { OnOk result (names.new ≡ with_erasable region names.old (parts_in parts.now)) }
 {
-    let parts = &parts_of(text);
-    if has_operator(far_operators(), parts) {
-        return true;
-    }
-    match parts.operand {
-        Some(operand) => {
-            has_operator(storing_operators(), parts)
-                && (is_bank_number(operand.text) || names.has(operand.text))
-        }
-        None => false,
-    }
-}
-
-// The labels of words that some lines reserve in switched banks.
-fn switched_names(alloc: Global, lines: &[&[u8]]) -> Result<NameSet, AllocError>
-    ensures { IfOk result (λ names. names ≡ switched_names false [] (map (λ text. text.now) lines.now)) }
-{
-    let mut names = NameSet::new(alloc);
-    let mut switched = false;
-    for text in lines {
-        let parts = &parts_of(text);
-        add_switched(switched, &mut names, parts)?;
-        switched = switched_after(switched, parts);
-    }
-    Ok(names)
-}
-
-fn add_switched(switched: bool, names: &mut NameSet, parts: &Line<'_>) -> Result<(), AllocError>
-    ensures { OnOk result (names.new ≡ with_switched switched names.old (parts_in parts.now)) }
-{
-    if switched && has_operator(erase_operators(), parts) {
+    if is_switched_erasable(region) && has_operator(erase_operators(), parts) {
         add_field(names, parts.label)
     } else {
         Ok(())
     }
 }
 
-// Whether words are reserved in switched banks after a line.
-fn switched_after(switched: bool, parts: &Line<'_>) -> bool
-    ensures { result ≡ switched_after switched (parts_in parts.now) }
+fn add_fixed(region: Region, names: &mut NameSet, parts: &Line<'_>) -> Result<(), AllocError>
+    ensures { OnOk result (names.new ≡ with_fixed region names.old (parts_in parts.now)) }
 {
-    if !has_operator(placing_operators(), parts) {
-        return switched;
+    if is_switched_fixed(region) && !has_operator(value_operators(), parts) {
+        add_field(names, parts.label)
+    } else {
+        Ok(())
     }
-    match parts.operand {
-        Some(operand) => has_alone(setting_operators(), parts) && is_switched_place(operand.text),
+}
+
+// Adds the label of a line that gives it a place by which a register is set.
+fn add_bank_name(
+    register: BankRegister,
+    names: &mut NameSet,
+    parts: &Line<'_>,
+) -> Result<(), AllocError>
+    ensures { OnOk result (names.new ≡ with_bank_name register names.old (parts_in parts.now)) }
+{
+    if has_alone(value_operators(), parts) && names_bank_place(register, parts.operand) {
+        add_field(names, parts.label)
+    } else {
+        Ok(())
+    }
+}
+
+// Adds where a line stores.
+fn add_stored(names: &mut NameSet, parts: &Line<'_>) -> Result<(), AllocError>
+    ensures { OnOk result (names.new ≡ with_stored names.old (parts_in parts.now)) }
+{
+    if has_operator(storing_operators(), parts) {
+        add_field(names, parts.operand)
+    } else {
+        Ok(())
+    }
+}
+
+// Whether a field is the number of a place by which a register is set.
+fn names_bank_place(register: BankRegister, field: Option<Field<'_>>) -> bool
+    ensures { result ≡ option_map_or (λ p. is_bank_number register p.text) (option_map piece field.entry) false }
+{
+    match field {
+        Some(field) => is_bank_number(register, field.text),
         None => false,
     }
 }
 
-// A place that EB leads to.
-fn is_switched_place(text: &[u8]) -> bool
-    ensures { result ≡ option_map_or is_switched_place (digits_value 8 text.now) false }
+// Octal digits of a place by which a register is set.
+fn is_bank_number(register: BankRegister, text: &[u8]) -> bool
+    ensures { result ≡ is_bank_number register text.now }
 {
-    matches!(octal_value(text), Some(Number::Small(place)) if (0o1400..=0o3777).contains(&place))
-}
-
-// The number of a register that has EB, or whose exchange by two words changes one.
-fn is_bank_number(text: &[u8]) -> bool
-    ensures { result ≡ is_bank_number text.now }
-{
-    matches!(octal_value(text), Some(Number::Small(number)) if number == 2 || number == 3 || number == 5 || number == 6)
-}
-
-/// A word of a switched erasable bank, where no line sets EB.
-pub(crate) fn warn_of_bank(
-    switched: &NameSet,
-    line: u32,
-    parts: &Line<'_>,
-    found: &mut Vec<Finding>,
-) -> Result<(), AllocError>
-    ensures { OnOk result (found.new.items ≡ found.old.items ++ bank_warnings switched.now line (parts_in parts.now)) }
-{
-    match parts.operand {
-        Some(operand) => {
-            let reached = is_instruction(parts) && switched.has(operand.text);
-            warn_if(reached, line, 6, operand, found)
-        }
-        None => Ok(()),
+    match octal_value(text) {
+        Some(Number::Small(number)) => is_bank_place(register, number),
+        _ => false,
     }
 }
 
-const PLACING_OPERATORS: [&str; 3] = ["SETLOC", "BANK", "BLOCK"];
+// A store at a place sets a register; where it exchanges two words, the one after it too.
+fn is_bank_place(register: BankRegister, number: u32) -> bool
+    ensures { result ≡ is_bank_place register number }
+{
+    match register {
+        BankRegister::Eb => number == 2 || number == 3 || number == 5 || number == 6,
+        BankRegister::Fb => (3..=6).contains(&number),
+    }
+}
+
+/// Where words stand after a line.
+pub(crate) fn region_after(region: Region, parts: &Line<'_>) -> Region
+    ensures { result ≡ region_after region (parts_in parts.now) }
+{
+    if has_alone(setting_operators(), parts) {
+        region_at_place(parts.operand)
+    } else if has_operator(setting_operators(), parts) {
+        Region::Elsewhere
+    } else if has_operator(bank_operators(), parts) {
+        region_at_bank(parts.operand)
+    } else {
+        region
+    }
+}
+
+// The region of a field that is a place as SETLOC takes it.
+fn region_at_place(field: Option<Field<'_>>) -> Region
+    ensures { result ≡ region_at region_of_place (option_map piece field.entry) }
+{
+    match field {
+        Some(field) => match octal_value(field.text) {
+            Some(Number::Small(place)) => region_of_place(place),
+            _ => Region::Elsewhere,
+        },
+        None => Region::Elsewhere,
+    }
+}
+
+// The region of a place.
+fn region_of_place(place: u32) -> Region
+    ensures { result ≡ region_of_place place }
+{
+    match place {
+        0o1400..=0o3777 => Region::SwitchedErasable,
+        0o4000..=0o7777 => Region::Common,
+        _ => Region::Elsewhere,
+    }
+}
+
+// The region of a field that is a bank of fixed memory.
+fn region_at_bank(field: Option<Field<'_>>) -> Region
+    ensures { result ≡ region_at region_of_bank (option_map piece field.entry) }
+{
+    match field {
+        Some(field) => match octal_value(field.text) {
+            Some(Number::Small(bank)) => region_of_bank(bank),
+            _ => Region::Elsewhere,
+        },
+        None => Region::Elsewhere,
+    }
+}
+
+// The region of a bank of fixed memory.
+fn region_of_bank(bank: u32) -> Region
+    ensures { result ≡ region_of_bank bank }
+{
+    match bank {
+        2 | 3 => Region::Common,
+        1..=0o43 => Region::SwitchedFixed,
+        _ => Region::Elsewhere,
+    }
+}
+
+/// Of banks 2 and 3.
+pub(crate) fn is_common(region: Region) -> bool
+    ensures { result ≡ is_common region }
+{
+    matches!(region, Region::Common)
+}
+
+fn is_switched_erasable(region: Region) -> bool
+    ensures { result ≡ is_switched_erasable region }
+{
+    matches!(region, Region::SwitchedErasable)
+}
+
+fn is_switched_fixed(region: Region) -> bool
+    ensures { result ≡ is_switched_fixed region }
+{
+    matches!(region, Region::SwitchedFixed)
+}
 
 const VALUE_OPERATORS: [&str; 2] = ["EQUALS", "="];
 
 const FAR_OPERATORS: [&str; 2] = ["DTCB", "DTCF"];
-
-fn placing_operators() -> &'static [&'static str]
-    ensures { map (λ name. name.now) result.now ≡ placing_operators }
-{
-    &PLACING_OPERATORS
-}
 
 pub(crate) fn value_operators() -> &'static [&'static str]
     ensures { map (λ name. name.now) result.now ≡ value_operators }

@@ -1,6 +1,6 @@
 use Rattle.std.proofs.Common.{◌≡◌, [], drop, map}
 use Rattle.std.specs.List.{fold}
-use Rattle.faults.specs.Warnings.{parts_of, unset_names, with_field, with_read, with_single}
+use Rattle.faults.specs.Warnings.{banks_after, banks_of, parts_of, with_field, with_read, with_single}
 use Rattle.faults.proofs.mistakes.Names.of.Given as goal
 
 abbrev pub invariant-loop-text : goal.invariant-loop-text
@@ -11,5 +11,6 @@ invariant-loop-text l = record {
       ≡ fold (λ names text. with_field names (parts_of text).operand) [] (map (λ text. text.now) l.lines);
   read : fold (λ names text. with_read names (parts_of text)) l.names.read (map (λ text. text.now) (drop l.text-index l.lines))
       ≡ fold (λ names text. with_read names (parts_of text)) [] (map (λ text. text.now) l.lines);
-  switched : l.names.switched ≡ unset_names (map (λ text. text.now) l.lines);
+  banks : fold (λ banks text. banks_after banks (parts_of text)) l.names.banks (map (λ text. text.now) (drop l.text-index l.lines))
+      ≡ banks_of (map (λ text. text.now) l.lines);
 }
