@@ -216,11 +216,11 @@ def said_by(program, path, *before, kind="error"):
     ran = subprocess.run([program, "check", *before, path], capture_output=True, timeout=60)
     found = []
     for row in ran.stdout.decode("latin-1").split("\n"):
-        if fault := re.match(re.escape(path) + rf":(\d+):(\d+): {kind} (\w\d+: .+)$", row):
-            found.append((int(fault[1]), int(fault[2]), fault[3], ""))
+        if said := re.match(re.escape(path) + r":(\d+):(\d+): (\w+) (\w\d+: .+)$", row):
+            found.append((said[3], int(said[1]), int(said[2]), said[4], ""))
         elif row.startswith("      = "):
-            found[-1] = *found[-1][:3], row[8:]
-    return found
+            found[-1] = *found[-1][:4], row[8:]
+    return [it[1:] for it in found if it[0] == kind]
 
 
 def check_said(program, room, told):
@@ -261,9 +261,9 @@ def check_feeds(program, room, told):
 
 def check_files(program, room, told):
     """What is told of several files, what stays told where a file cannot be read, and files of another kind."""
-    source, good, bad = written(f"{room}/a.agc", b" CA FIV\n"), written(f"{room}/good.feed", b"5 RUPT 1\n"), written(f"{room}/bad.feed", b"5 RUPT 11\n")
+    source, good, bad = written(f"{room}/a.agc", b" TC FIV\n"), written(f"{room}/good.feed", b"5 RUPT 1\n"), written(f"{room}/bad.feed", b"5 RUPT 11\n")
     ran = lambda *files: subprocess.run([program, "check", *files], capture_output=True, timeout=60)
-    of_source = f"{source}:1:5: error E17: no line defines FIV\n    1 |  CA FIV\n      |     ^^^\n"
+    of_source = f"{source}:1:5: error E17: no line defines FIV\n    1 |  TC FIV\n      |     ^^^\n"
     of_feed = f"{bad}:1:8: error E30: 11 is no interrupt, which are 1 to 10\n    1 | 5 RUPT 11\n      |        ^^\n"
     got = ran(source, bad, good, bad)
     told("check of a source and three feeds", (got.returncode, got.stdout.decode(), got.stderr) == (1, of_source + of_feed + of_feed + "3 errors, 0 warnings\n", b""), f"{got}")
@@ -292,12 +292,12 @@ def check_files(program, room, told):
 def check_excerpt(program, room, told):
     path = f"{room}/excerpt.agc"
     with open(path, "wb") as file:
-        file.write(b"X OCT 1\n\tCA\tFIV # \xb5\n CA FIV +1\n")
+        file.write(b"X OCT 1\n\tTC\tFIV # \xb5\n TC FIV +1\n")
     wanted = f"""{path}:2:11: error E10: this byte is not ASCII, and a line holds ASCII alone, its comment too
-    2 | \tCA\tFIV # ?
+    2 | \tTC\tFIV # ?
       | \t  \t      ^
 {path}:3:5: error E17: no line defines FIV
-    3 |  CA FIV +1
+    3 |  TC FIV +1
       |     ^^^
 2 errors, 0 warnings
 """.encode()
