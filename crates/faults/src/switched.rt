@@ -1,9 +1,8 @@
 //! Words of switched banks that are reached while no line sets the register of these banks.
 
-ghost use Rattle.std.specs.Prelude.{◌≡◌, ◌||◌, ◌++◌, map, false, OnOk};
+ghost use Rattle.std.specs.Prelude.{◌≡◌, ◌||◌, map, false, OnOk};
 ghost use Rattle.std.specs.List.{list_any};
 ghost use Rattle.std.specs.Option.{option_map, option_map_or};
-ghost use Rattle.agc_text.specs.Digits.{digits_value};
 ghost use Rattle.agc_text.specs.Views.{piece};
 ghost use Rattle.faults.specs.Warnings.{parts_in, is_among, region_of_place, region_of_bank, region_at, region_after, is_common, is_switched_erasable, is_switched_fixed, value_operators, with_erasable, with_fixed, is_bank_place, is_bank_number, with_bank_name, far_operators, with_stored, banks_after, no_banks, may_set_erasable, may_set_fixed};
 
@@ -75,24 +74,14 @@ impl Banks {
     pub(crate) fn note(&mut self, parts: &Line<'_>) -> Result<(), AllocError>
         ensures { OnOk result (self.new ≡ banks_after self.old (parts_in parts.now)) }
     {
-        self.note_places(parts)?;
+        add_erasable(self.region, &mut self.erasable, parts)?;
+        add_fixed(self.region, &mut self.fixed, parts)?;
         add_bank_name(BankRegister::Eb, &mut self.erasable_registers, parts)?;
         add_bank_name(BankRegister::Fb, &mut self.fixed_registers, parts)?;
         add_stored(&mut self.stored, parts)?;
         self.far = self.far || has_operator(far_operators(), parts);
         self.region = region_after(self.region, parts);
         Ok(())
-    }
-
-    // Adds the label of a line in a switched bank.
-    fn note_places(&mut self, parts: &Line<'_>) -> Result<(), AllocError>
-        ensures { OnOk result (self.new ≡ record self.old {
-          erasable = with_erasable self.old.region self.old.erasable (parts_in parts.now);
-          fixed = with_fixed self.old.region self.old.fixed (parts_in parts.now);
-        }) }
-    {
-        add_erasable(self.region, &mut self.erasable, parts)?;
-        add_fixed(self.region, &mut self.fixed, parts)
     }
 
     /// Whether some line may set EB.
