@@ -5,10 +5,11 @@ use Rattle.agc_text.specs.Bytes.{space, tab}
 use Rattle.agc_text.specs.Lines.{lines}
 use Rattle.agc_text.specs.Tables.{same_name}
 use Rattle.yayul.specs.declared.finding.Finding.{Finding}
+use Rattle.yayul.specs.declared.language.Language.{Language}
 use Rattle.faults.specs.Causes.{Cause, fault_cause, filled, near_label, text_of, warning_cause}
 use Rattle.faults.specs.Kinds.{kind_of_source}
 use Rattle.faults.specs.Shown.{shown_byte}
-use Rattle.faults.specs.Warnings.{Parts, is_among, parts_of, with_field}
+use Rattle.faults.specs.Warnings.{Parts, is_among, parts_for, with_field}
 use Rattle.faults.specs.declared.findings.Severity.{Severity}
 use Rattle.faults.specs.declared.findings.Severity.TheVariants.{Error, Warning}
 
@@ -63,34 +64,34 @@ abbrev pub text_at : List (List ℕ) → ℕ → List ℕ
 text_at texts line = unwrap_or (slice_get texts (line - 1)) []
 
 -- a line has a label
-abbrev pub has_label : List ℕ → List ℕ → Bool
-has_label label text = same_name (text_of (parts_of text).label) label
+abbrev pub has_label : Language → List ℕ → List ℕ → Bool
+has_label language label text = same_name (text_of (parts_for language text).label) label
 
 -- the number of the first line that has a label
-abbrev pub first_line : List (List ℕ) → List ℕ → ℕ
-first_line texts label = position_or_len (has_label label) texts + 1
+abbrev pub first_line : Language → List (List ℕ) → List ℕ → ℕ
+first_line language texts label = position_or_len (has_label language label) texts + 1
 
 -- a text from other lines that a fault is told with: the number of the first line that has its label, or the label that is near to its symbol
-abbrev pub beside : List (List ℕ) → List (List ℕ) → Parts → Finding → Option (List ℕ)
-beside labels texts parts f =
-    if f.number == 14 && is_among labels (text_of parts.label) then Some (decimal (first_line texts (text_of parts.label)))
+abbrev pub beside : Language → List (List ℕ) → List (List ℕ) → Parts → Finding → Option (List ℕ)
+beside language labels texts parts f =
+    if f.number == 14 && is_among labels (text_of parts.label) then Some (decimal (first_line language texts (text_of parts.label)))
     else near_label labels parts f
 
 -- the lines of a finding of a line
-unfoldable pub shown_line : List ℕ → List (List ℕ) → List (List ℕ) → List ℕ → Parts → Severity × Finding → List ℕ
-shown_line name labels texts text parts f = finding_text name text parts (beside labels texts parts f.1) f.0 f.1
+unfoldable pub shown_line : Language → List ℕ → List (List ℕ) → List (List ℕ) → List ℕ → Parts → Severity × Finding → List ℕ
+shown_line language name labels texts text parts f = finding_text name text parts (beside language labels texts parts f.1) f.0 f.1
 
--- the lines of a finding of a source
-abbrev pub shown_finding : List ℕ → List (List ℕ) → List (List ℕ) → Severity × Finding → List ℕ
-shown_finding name labels texts f = shown_line name labels texts (text_at texts f.1.line) (parts_of (text_at texts f.1.line)) f
+-- the lines of a finding of a source of a language
+abbrev pub shown_finding : Language → List ℕ → List (List ℕ) → List (List ℕ) → Severity × Finding → List ℕ
+shown_finding language name labels texts f = shown_line language name labels texts (text_at texts f.1.line) (parts_for language (text_at texts f.1.line)) f
 
 -- the labels of some lines, each once
-abbrev pub labels_of : List (List ℕ) → List (List ℕ)
-labels_of texts = fold (λ labels text. with_field labels (parts_of text).label) [] texts
+abbrev pub labels_of : Language → List (List ℕ) → List (List ℕ)
+labels_of language texts = fold (λ labels text. with_field labels (parts_for language text).label) [] texts
 
 -- the labels that faults are told with: those of all lines, where at most 100 faults are told
-abbrev pub sought_labels : List (List ℕ) → List Finding → List (List ℕ)
-sought_labels texts faults = if nat_le (length faults) 100 then labels_of texts else []
+abbrev pub sought_labels : Language → List (List ℕ) → List Finding → List (List ℕ)
+sought_labels language texts faults = if nat_le (length faults) 100 then labels_of language texts else []
 
 -- how many of some findings in order stand before a line
 abbrev pub count_before : ℕ → List Finding → ℕ
@@ -118,8 +119,8 @@ counted count noun = decimal count ++ codes " " ++ noun ++ (if count == 1 then [
 abbrev pub count_text : ℕ → ℕ → List ℕ
 count_text errors warnings = counted errors (codes "error") ++ codes ", " ++ counted warnings (codes "warning") ++ codes "\n"
 
--- the lines of the faults and the warnings of a source, and what is said where it has faults and is a file of another kind
-unfoldable pub report : List ℕ → List ℕ → List Finding → List Finding → List ℕ
-report name source faults warnings =
-    flat_map (shown_finding name (sought_labels (lines source) faults) (lines source)) (merged faults warnings)
+-- the lines of the faults and the warnings of a source of a language, and what is said where it has faults and is a file of another kind
+unfoldable pub report : Language → List ℕ → List ℕ → List Finding → List Finding → List ℕ
+report language name source faults warnings =
+    flat_map (shown_finding language name (sought_labels language (lines source) faults) (lines source)) (merged faults warnings)
     ++ (if length faults == 0 then [] else kind_of_source name source)

@@ -1,5 +1,5 @@
 -- What in a source is likely a mistake, though it is no fault: definitions over its lines, whatever stands before them.
-use Rattle.std.specs.Prelude.{ℕ, ◌+◌, ◌==◌, ◌&&◌, not, Bool, false, nat_le, nat_lt, List, [], ◌∷◌, ◌++◌, length, map, Option, is_some, codes, if◌then◌else◌}
+use Rattle.std.specs.Prelude.{ℕ, ◌+◌, ◌-◌, ◌==◌, ◌&&◌, not, Bool, false, nat_le, nat_lt, List, [], ◌∷◌, ◌++◌, length, map, Option, is_some, codes, if◌then◌else◌}
 use Rattle.std.specs.List.{fold, list_any}
 use Rattle.std.specs.Option.{option_map, option_map_or}
 use Rattle.agc_text.specs.Digits.{digits_value}
@@ -7,10 +7,12 @@ use Rattle.agc_text.specs.Fields.{Piece, fields, label_of, others_of}
 use Rattle.agc_text.specs.Views.{piece}
 use Rattle.agc_text.specs.declared.fields.Line.{Line}
 use Rattle.agc_text.specs.Tables.{same_name}
+use Rattle.yayul.specs.Flight.{uncounted}
 use Rattle.yayul.specs.Operators.{operators}
 use Rattle.yayul.specs.Survey.{field_at, looked_at, span_of}
 use Rattle.yayul.specs.declared.finding.Finding.{Finding}
 use Rattle.yayul.specs.declared.language.Language.{Language}
+use Rattle.yayul.specs.declared.language.Language.TheVariants.{Flight, Standard}
 use Rattle.faults.specs.declared.mistakes.Names.{Names}
 
 -- ## Names
@@ -41,6 +43,25 @@ goes_on text = nat_lt 3 (length (others_of (fields text)))
 
 abbrev pub parts_of : List ℕ → Parts
 parts_of text = record { label = label_of (fields text); operator = field_at text 0; operand = field_at text 1; offset = field_at text 2; more = goes_on text }
+
+-- a field so many bytes later
+abbrev pub later_field : ℕ → Piece → Piece
+later_field count p = record { start = p.start + count; text = p.text }
+
+-- fields so many bytes later
+abbrev pub later_parts : ℕ → Parts → Parts
+later_parts count parts = record {
+  label = option_map (later_field count) parts.label;
+  operator = option_map (later_field count) parts.operator;
+  operand = option_map (later_field count) parts.operand;
+  offset = option_map (later_field count) parts.offset;
+  more = parts.more;
+}
+
+-- the fields of a line of a language: in that of flight programs those after a count
+abbrev pub parts_for : Language → List ℕ → Parts
+parts_for Standard text = parts_of text
+parts_for Flight text = later_parts (length text - length (uncounted text)) (parts_of (uncounted text))
 
 -- a line that was taken apart
 abbrev pub parts_in : Line → Parts
@@ -117,11 +138,11 @@ abbrev pub unused_warnings : List (List ℕ) → ℕ → Parts → List Finding
 unused_warnings operands line parts = at_field (λ p. warned_if (is_short p.text && not (is_among operands p.text)) line 8 p) parts.label
 
 -- ## All
--- the names of a source: those for which one word is reserved, and those that an operand is
-abbrev pub names_of : List (List ℕ) → Names
-names_of texts = record {
-  singles = fold (λ names text. with_single names (parts_of text)) [] texts;
-  operands = fold (λ names text. with_field names (parts_of text).operand) [] texts;
+-- the names of a source of a language: those for which one word is reserved, and those that an operand is
+abbrev pub names_of : Language → List (List ℕ) → Names
+names_of language texts = record {
+  singles = fold (λ names text. with_single names (parts_for language text)) [] texts;
+  operands = fold (λ names text. with_field names (parts_for language text).operand) [] texts;
 }
 
 -- the warnings of a line, in the order of its fields, after a word that adds to its address or another; those of labels that nothing names where they are asked for
@@ -130,12 +151,13 @@ line_warnings unused names indexed line parts =
     label_warnings line parts ++ (if unused then unused_warnings names.operands line parts else [])
     ++ number_warnings indexed line parts ++ pair_warnings names.singles line parts
 
--- the warnings of some lines, the first of them with a number
-abbrev pub warned_lines : Bool → Names → Bool → ℕ → List (List ℕ) → List Finding
-warned_lines unused names indexed line [] = []
-warned_lines unused names indexed line (text ∷ texts) =
-    line_warnings unused names indexed line (parts_of text) ++ warned_lines unused names (indexed_after indexed (parts_of text)) (line + 1) texts
+-- the warnings of some lines of a language, the first of them with a number
+abbrev pub warned_lines : Language → Bool → Names → Bool → ℕ → List (List ℕ) → List Finding
+warned_lines language unused names indexed line [] = []
+warned_lines language unused names indexed line (text ∷ texts) =
+    line_warnings unused names indexed line (parts_for language text)
+    ++ warned_lines language unused names (indexed_after indexed (parts_for language text)) (line + 1) texts
 
 -- the warnings of a source of a language, of as many lines as are looked at for faults
 unfoldable pub warnings : Language → Bool → List ℕ → List Finding
-warnings language unused source = warned_lines unused (names_of (looked_at language source)) false 1 (looked_at language source)
+warnings language unused source = warned_lines language unused (names_of language (looked_at language source)) false 1 (looked_at language source)

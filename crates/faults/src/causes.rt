@@ -436,8 +436,8 @@ fn begins(byte: u8, text: &[u8]) -> bool
     }
 }
 
-// Whether a plus or a minus sign stands first.
-fn is_signed(text: &[u8]) -> bool
+/// Whether a plus or a minus sign stands first.
+pub(crate) fn is_signed(text: &[u8]) -> bool
     ensures { result ≡ is_signed text.now }
 {
     begins(b'+', text) || begins(b'-', text)

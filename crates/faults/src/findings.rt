@@ -12,14 +12,15 @@ ghost use Rattle.faults.specs.Views.{cause_in};
 ghost use Rattle.faults.specs.Report.{margin_byte, numbered, row_text, marks_text, place_text, kind_text, cause_of, caused_text, message_text, cure_text, finding_text, text_at, shown_finding, shown_line, labels_of, sought_labels, has_label, first_line, count_before, as_error, as_warning, merged, counted, count_text, report};
 
 use crate::causes::{Cause, fault_cause, near_label, text_of, warning_cause};
+use crate::counts::parts_for;
 use crate::kinds::push_kind_of_source;
-use crate::mistakes::{add_field, parts_of};
+use crate::mistakes::add_field;
 use crate::names::NameSet;
 use agc_text::{Line, is_text, next_line};
 use arrayvec::ArrayVec;
 use std::alloc::{AllocError, Global};
 use words::push_decimal;
-use yayul::{Finding, Span};
+use yayul::{Finding, Language, Span};
 
 /// How many digits a number has at most.
 pub(crate) const DIGITS: usize = 20;
@@ -42,22 +43,23 @@ pub enum Severity {
     Warning,
 }
 
-/// The lines of the faults and the warnings of a source, which has this name, in the order of lines, and what is said where it has faults and is a
+/// The lines of the faults and the warnings of a source of a language, which has this name, in the order of lines, and what is said where it has faults and is a
 /// file of another kind.
 #[tactic(auto, unfolding(crate::specs::Report::report))]
 pub fn report(
     alloc: Global,
+    language: Language,
     name: &[u8],
     source: &[u8],
     faults: &[Finding],
     warnings: &[Finding],
 ) -> Result<Vec<u8>, AllocError>
-    ensures { IfOk result (λ text. text.items ≡ report name.now source.now faults.now warnings.now) }
+    ensures { IfOk result (λ text. text.items ≡ report language name.now source.now faults.now warnings.now) }
 {
     let texts = line_texts(alloc, source)?;
-    let labels = sought_labels(alloc, &texts, faults)?;
+    let labels = sought_labels(alloc, language, &texts, faults)?;
     let mut out = Vec::new(alloc);
-    push_merged(&mut out, name, &labels, &texts, faults, warnings)?;
+    push_merged(&mut out, language, name, &labels, &texts, faults, warnings)?;
     push_kind(&mut out, name, source, &texts, faults)?;
     Ok(out)
 }
@@ -90,23 +92,28 @@ pub fn counts(alloc: Global, faults: usize, warnings: usize) -> Result<Vec<u8>, 
 }
 
 // The labels that faults are told with: those of all lines, where few faults are told.
-fn sought_labels(alloc: Global, texts: &[&[u8]], faults: &[Finding]) -> Result<NameSet, AllocError>
-    ensures { IfOk result (λ labels. labels ≡ sought_labels (map (λ t. t.now) texts.now) faults.now) }
+fn sought_labels(
+    alloc: Global,
+    language: Language,
+    texts: &[&[u8]],
+    faults: &[Finding],
+) -> Result<NameSet, AllocError>
+    ensures { IfOk result (λ labels. labels ≡ sought_labels language (map (λ t. t.now) texts.now) faults.now) }
 {
     if faults.len() <= MOST_FAULTS {
-        labels_of(alloc, texts)
+        labels_of(alloc, language, texts)
     } else {
         Ok(NameSet::new(alloc))
     }
 }
 
 // The labels of some lines, each once.
-fn labels_of(alloc: Global, texts: &[&[u8]]) -> Result<NameSet, AllocError>
-    ensures { IfOk result (λ labels. labels ≡ labels_of (map (λ t. t.now) texts.now)) }
+fn labels_of(alloc: Global, language: Language, texts: &[&[u8]]) -> Result<NameSet, AllocError>
+    ensures { IfOk result (λ labels. labels ≡ labels_of language (map (λ t. t.now) texts.now)) }
 {
     let mut labels = NameSet::new(alloc);
     for text in texts {
-        add_field(&mut labels, parts_of(text).label)?;
+        add_field(&mut labels, parts_for(language, text).label)?;
     }
     Ok(labels)
 }
@@ -127,22 +134,23 @@ pub(crate) fn line_texts(alloc: Global, source: &[u8]) -> Result<Vec<&[u8]>, All
 // Appends the lines of faults and warnings, in the order of lines.
 fn push_merged(
     out: &mut Vec<u8>,
+    language: Language,
     name: &[u8],
     labels: &NameSet,
     texts: &[&[u8]],
     faults: &[Finding],
     warnings: &[Finding],
 ) -> Result<(), AllocError>
-    ensures { OnOk result (out.new.items ≡ out.old.items ++ flat_map (shown_finding name.now labels.now (map (λ t. t.now) texts.now)) (merged faults.now warnings.now)) }
+    ensures { OnOk result (out.new.items ≡ out.old.items ++ flat_map (shown_finding language name.now labels.now (map (λ t. t.now) texts.now)) (merged faults.now warnings.now)) }
 {
     let mut rest = warnings;
     for fault in faults {
         let (earlier, later) = rest.split_at(count_before(fault.line, rest));
-        push_warnings(out, name, labels, texts, earlier)?;
-        push_shown_finding(out, name, labels, texts, Severity::Error, fault)?;
+        push_warnings(out, language, name, labels, texts, earlier)?;
+        push_shown_finding(out, language, name, labels, texts, Severity::Error, fault)?;
         rest = later;
     }
-    push_warnings(out, name, labels, texts, rest)
+    push_warnings(out, language, name, labels, texts, rest)
 }
 
 // How many of some findings in order stand before a line.
@@ -161,15 +169,16 @@ fn count_before(line: u32, findings: &[Finding]) -> usize
 // Appends the lines of some warnings.
 fn push_warnings(
     out: &mut Vec<u8>,
+    language: Language,
     name: &[u8],
     labels: &NameSet,
     texts: &[&[u8]],
     warnings: &[Finding],
 ) -> Result<(), AllocError>
-    ensures { OnOk result (out.new.items ≡ out.old.items ++ flat_map (shown_finding name.now labels.now (map (λ t. t.now) texts.now)) (map as_warning warnings.now)) }
+    ensures { OnOk result (out.new.items ≡ out.old.items ++ flat_map (shown_finding language name.now labels.now (map (λ t. t.now) texts.now)) (map as_warning warnings.now)) }
 {
     for warning in warnings {
-        push_shown_finding(out, name, labels, texts, Severity::Warning, warning)?;
+        push_shown_finding(out, language, name, labels, texts, Severity::Warning, warning)?;
     }
     Ok(())
 }
@@ -177,22 +186,24 @@ fn push_warnings(
 // Appends the lines of a finding.
 fn push_shown_finding(
     out: &mut Vec<u8>,
+    language: Language,
     name: &[u8],
     labels: &NameSet,
     texts: &[&[u8]],
     severity: Severity,
     finding: &Finding,
 ) -> Result<(), AllocError>
-    ensures { OnOk result (out.new.items ≡ out.old.items ++ shown_finding name.now labels.now (map (λ t. t.now) texts.now) (severity, finding.now)) }
+    ensures { OnOk result (out.new.items ≡ out.old.items ++ shown_finding language name.now labels.now (map (λ t. t.now) texts.now) (severity, finding.now)) }
 {
     let text = text_at(texts, finding.line);
     push_shown_line(
         out,
+        language,
         name,
         labels,
         texts,
         text,
-        &parts_of(text),
+        &parts_for(language, text),
         severity,
         finding,
     )
@@ -202,6 +213,7 @@ fn push_shown_finding(
 #[tactic(auto, using(words::proofs::Digits::short_decimal), unfolding(crate::specs::Report::shown_line))]
 fn push_shown_line(
     out: &mut Vec<u8>,
+    language: Language,
     name: &[u8],
     labels: &NameSet,
     texts: &[&[u8]],
@@ -210,12 +222,12 @@ fn push_shown_line(
     severity: Severity,
     finding: &Finding,
 ) -> Result<(), AllocError>
-    ensures { OnOk result (out.new.items ≡ out.old.items ++ shown_line name.now labels.now (map (λ t. t.now) texts.now) text.now (parts_in parts.now) (severity, finding.now)) }
+    ensures { OnOk result (out.new.items ≡ out.old.items ++ shown_line language name.now labels.now (map (λ t. t.now) texts.now) text.now (parts_in parts.now) (severity, finding.now)) }
 {
     let label = text_of(parts.label);
     if finding.number == TWICE_DEFINED && labels.has(label) {
         let mut digits = ArrayVec::<u8, DIGITS>::new();
-        push_decimal(&mut digits, first_line(texts, label));
+        push_decimal(&mut digits, first_line(language, texts, label));
         push_finding(
             out,
             name,
@@ -232,11 +244,11 @@ fn push_shown_line(
 }
 
 // The number of the first line that has a label.
-fn first_line(texts: &[&[u8]], label: &[u8]) -> u64
-    ensures { result ≡ first_line (map (λ t. t.now) texts.now) label.now }
+fn first_line(language: Language, texts: &[&[u8]], label: &[u8]) -> u64
+    ensures { result ≡ first_line language (map (λ t. t.now) texts.now) label.now }
 {
     for (index, text) in texts.iter().enumerate() {
-        if has_label(text, label) {
+        if has_label(language, text, label) {
             return index as u64 + 1;
         }
     }
@@ -244,10 +256,10 @@ fn first_line(texts: &[&[u8]], label: &[u8]) -> u64
 }
 
 // Whether a line has a label.
-fn has_label(text: &[u8], label: &[u8]) -> bool
-    ensures { result ≡ has_label label.now text.now }
+fn has_label(language: Language, text: &[u8], label: &[u8]) -> bool
+    ensures { result ≡ has_label language label.now text.now }
 {
-    text_of(parts_of(text).label) == label
+    text_of(parts_for(language, text).label) == label
 }
 
 /// The line of a number; one that does not stand is empty.

@@ -2,6 +2,7 @@
 #![tactic(auto)]
 
 mod causes;
+mod counts;
 mod explaining;
 mod feeds;
 mod findings;

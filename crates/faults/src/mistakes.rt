@@ -8,6 +8,7 @@ ghost use Rattle.agc_text.specs.Views.{piece};
 ghost use Rattle.yayul.specs.Survey.{field_at, looked_at, span_of};
 ghost use Rattle.faults.specs.Warnings.{parts_of, parts_in, is_among, has_operator, has_alone, warned_if, at_field, operator_names, label_warnings, readers, is_register_number, index_operators, indexed_after, number_warnings, pair_operators, erase_operators, reserves_one, with_field, with_single, pair_warnings, unused_warnings, names_of, line_warnings, warned_lines, warnings};
 
+use crate::counts::parts_for;
 use crate::findings::line_texts;
 use crate::names::{NameSet, is_among, is_short};
 use agc_text::{Field, Line, Number, octal_value};
@@ -28,9 +29,9 @@ pub fn warnings(
     ensures { IfOk result (λ found. found.items ≡ warnings language unused source.now) }
 {
     let lines = looked_at(alloc, language, source)?;
-    let names = Names::of(alloc, &lines)?;
+    let names = Names::of(alloc, language, &lines)?;
     let mut found = Vec::new(alloc);
-    names.warn(unused, &lines, &mut found)?;
+    names.warn(language, unused, &lines, &mut found)?;
     Ok(found)
 }
 
@@ -54,16 +55,16 @@ struct Names {
 }
 
 impl Names {
-    // The names of some lines.
-    fn of(alloc: Global, lines: &[&[u8]]) -> Result<Names, AllocError>
-        ensures { IfOk result (λ names. names ≡ names_of (map (λ text. text.now) lines.now)) }
+    // The names of some lines of a language.
+    fn of(alloc: Global, language: Language, lines: &[&[u8]]) -> Result<Names, AllocError>
+        ensures { IfOk result (λ names. names ≡ names_of language (map (λ text. text.now) lines.now)) }
     {
         let mut names = Names {
             singles: NameSet::new(alloc),
             operands: NameSet::new(alloc),
         };
         for text in lines {
-            names.note(&parts_of(text))?;
+            names.note(&parts_for(language, text))?;
         }
         Ok(names)
     }
@@ -82,16 +83,17 @@ impl Names {
     // Appends the warnings of the lines.
     fn warn(
         &self,
+        language: Language,
         unused: bool,
         lines: &[&[u8]],
         found: &mut Vec<Finding>,
     ) -> Result<(), AllocError>
         requires { length lines.now ≤ LINES }
-        ensures { OnOk result (found.new.items ≡ found.old.items ++ warned_lines unused self.now false 1 (map (λ text. text.now) lines.now)) }
+        ensures { OnOk result (found.new.items ≡ found.old.items ++ warned_lines language unused self.now false 1 (map (λ text. text.now) lines.now)) }
     {
         let mut indexed = false;
         for (index, text) in lines.iter().enumerate() {
-            let parts = parts_of(text);
+            let parts = parts_for(language, text);
             self.warn_of(unused, indexed, index as u32 + 1, &parts, found)?;
             indexed = indexed_after(indexed, &parts);
         }

@@ -4,5 +4,5 @@ use Rattle.faults.proofs.mistakes.Names.warn.Given as goal
 
 abbrev pub invariant-loop-index : goal.invariant-loop-index
 invariant-loop-index l =
-    l.found.items ++ warned_lines l.unused l.self l.indexed (l.index + 1) (map (λ text. text.now) (drop l.index l.lines))
-    ≡ l.initial.found.items ++ warned_lines l.unused l.self false 1 (map (λ text. text.now) l.lines)
+    l.found.items ++ warned_lines l.language l.unused l.self l.indexed (l.index + 1) (map (λ text. text.now) (drop l.index l.lines))
+    ≡ l.initial.found.items ++ warned_lines l.language l.unused l.self false 1 (map (λ text. text.now) l.lines)
