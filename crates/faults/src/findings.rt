@@ -12,7 +12,7 @@ ghost use Rattle.faults.specs.Views.{cause_in};
 ghost use Rattle.faults.specs.Report.{margin_byte, numbered, row_text, marks_text, place_text, kind_text, cause_of, caused_text, message_text, cure_text, finding_text, text_at, shown_finding, shown_line, labels_of, sought_labels, has_label, first_line, count_before, as_error, as_warning, merged, counted, count_text, report};
 
 use crate::causes::{Cause, fault_cause, near_label, text_of, warning_cause};
-use crate::counts::parts_for;
+use crate::parts::parts_for;
 use crate::kinds::push_kind_of_source;
 use crate::mistakes::add_field;
 use crate::names::NameSet;

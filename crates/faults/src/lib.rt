@@ -2,13 +2,14 @@
 #![tactic(auto)]
 
 mod causes;
-mod counts;
+
 mod explaining;
 mod feeds;
 mod findings;
 mod kinds;
 mod mistakes;
 mod names;
+mod parts;
 mod refusals;
 mod slips;
 
