@@ -8,7 +8,9 @@ use Rattle.yayul.specs.declared.finding.Finding.{Finding}
 use Rattle.yayul.specs.declared.language.Language.{Language}
 use Rattle.faults.specs.Causes.{Cause, fault_cause, filled, near_label, text_of, warning_cause}
 use Rattle.faults.specs.Kinds.{kind_of_source}
+use Rattle.faults.specs.Interpretive.{count_before_first, interpretive_cause, told_faults}
 use Rattle.faults.specs.Shown.{shown_byte}
+pub use Rattle.faults.specs.Shown.{text_at}
 use Rattle.faults.specs.Warnings.{Parts, is_among, parts_for, with_field}
 use Rattle.faults.specs.declared.findings.Severity.{Severity}
 use Rattle.faults.specs.declared.findings.Severity.TheVariants.{Error, Warning}
@@ -58,10 +60,6 @@ caused_text name text parts label severity f c = place_text name text f ++ messa
 -- a finding, with a text from other lines or none
 abbrev pub finding_text : List ℕ → List ℕ → Parts → Option (List ℕ) → Severity → Finding → List ℕ
 finding_text name text parts near severity f = caused_text name text parts (unwrap_or near []) severity f (cause_of severity (is_some near) text parts f)
-
--- the line of a number, of some lines
-abbrev pub text_at : List (List ℕ) → ℕ → List ℕ
-text_at texts line = unwrap_or (slice_get texts (line - 1)) []
 
 -- a line has a label
 abbrev pub has_label : Language → List ℕ → List ℕ → Bool
@@ -119,8 +117,40 @@ counted count noun = decimal count ++ codes " " ++ noun ++ (if count == 1 then [
 abbrev pub count_text : ℕ → ℕ → List ℕ
 count_text errors warnings = counted errors (codes "error") ++ codes ", " ++ counted warnings (codes "warning") ++ codes "\n"
 
+-- ## All
+-- the lines of some faults and warnings
+abbrev pub listed : Language → List ℕ → List (List ℕ) → List (List ℕ) → List Finding → List Finding → List ℕ
+listed language name labels texts faults warnings = flat_map (shown_finding language name labels texts) (merged faults warnings)
+
+-- the lines of the first fault of the interpretive language, which stands for so many, where there is one
+abbrev pub interpretive_text : Language → List ℕ → List (List ℕ) → ℕ → Option Finding → List ℕ
+interpretive_text language name texts count None = []
+interpretive_text language name texts count (Some f) =
+    caused_text name (text_at texts f.line) (parts_for language (text_at texts f.line)) (counted count (codes "line")) Error f interpretive_cause
+
+-- how many of some warnings stand before the line of a fault, all where there is none
+abbrev pub warned_before : Option Finding → List Finding → ℕ
+warned_before None warnings = length warnings
+warned_before (Some f) warnings = count_before f.line warnings
+
+-- the lines of faults and warnings, of which the fault after so many is the first of the interpretive language, and stands for so many
+abbrev pub listed_around : Language → List ℕ → List (List ℕ) → List (List ℕ) → ℕ → ℕ → List Finding → List Finding → List ℕ
+listed_around language name labels texts n count faults warnings =
+    listed language name labels texts (take n faults) (take (warned_before (slice_get faults n) warnings) warnings)
+    ++ interpretive_text language name texts count (slice_get faults n)
+    ++ listed language name labels texts (drop (n + 1) faults) (drop (warned_before (slice_get faults n) warnings) warnings)
+
+-- how many faults the first of the interpretive language stands for, of so many, where so many are told
+abbrev pub stands_for : ℕ → ℕ → ℕ
+stands_for all told = all - told + 1
+
+-- the lines of the faults that are told and of the warnings
+abbrev pub told_text : Language → List ℕ → List (List ℕ) → List Finding → List Finding → List ℕ
+told_text language name texts faults warnings =
+    listed_around language name (sought_labels language texts (told_faults language texts faults)) texts (count_before_first language texts faults)
+    (stands_for (length faults) (length (told_faults language texts faults))) (told_faults language texts faults) warnings
+
 -- the lines of the faults and the warnings of a source of a language, and what is said where it has faults and is a file of another kind
 unfoldable pub report : Language → List ℕ → List ℕ → List Finding → List Finding → List ℕ
 report language name source faults warnings =
-    flat_map (shown_finding language name (sought_labels language (lines source) faults) (lines source)) (merged faults warnings)
-    ++ (if length faults == 0 then [] else kind_of_source name source)
+    told_text language name (lines source) faults warnings ++ (if length faults == 0 then [] else kind_of_source name source)

@@ -1,6 +1,6 @@
 //! The faults and the warnings of a source as lines of text.
 
-ghost use Rattle.std.specs.Prelude.{◌≡◌, ◌<◌, ◌≤◌, ◌++◌, ◌+◌, ◌-◌, ◌==◌, map, take, length, replicate, codes, decimal, flat_map, max, unwrap_or, [], if◌then◌else◌, OnOk, IfOk};
+ghost use Rattle.std.specs.Prelude.{◌≡◌, ◌<◌, ◌≤◌, ◌++◌, ◌+◌, ◌-◌, ◌==◌, map, take, length, replicate, codes, decimal, flat_map, max, unwrap_or, [], Some, if◌then◌else◌, OnOk, IfOk};
 ghost use Rattle.std.specs.Option.{option_map};
 ghost use Rattle.agc_text.specs.Lines.{lines};
 ghost use Rattle.agc_text.specs.Bytes.{space};
@@ -9,13 +9,14 @@ ghost use Rattle.faults.specs.Warnings.{parts_in};
 ghost use Rattle.faults.specs.Shown.{shown_byte};
 ghost use Rattle.faults.specs.Causes.{filled, filled_byte};
 ghost use Rattle.faults.specs.Views.{cause_in};
-ghost use Rattle.faults.specs.Report.{margin_byte, numbered, row_text, marks_text, place_text, kind_text, cause_of, caused_text, message_text, cure_text, finding_text, text_at, shown_finding, shown_line, labels_of, sought_labels, has_label, first_line, count_before, as_error, as_warning, merged, counted, count_text, report};
+ghost use Rattle.faults.specs.Report.{margin_byte, numbered, row_text, marks_text, place_text, kind_text, cause_of, caused_text, message_text, cure_text, finding_text, text_at, shown_finding, shown_line, labels_of, sought_labels, has_label, first_line, count_before, as_error, as_warning, merged, counted, count_text, interpretive_text, listed_around, told_text, report};
 
 use crate::causes::{Cause, fault_cause, near_label, text_of, warning_cause};
-use crate::parts::parts_for;
+use crate::interpretive::{count_before_first, interpretive_cause, told_faults};
 use crate::kinds::push_kind_of_source;
 use crate::mistakes::add_field;
 use crate::names::NameSet;
+use crate::parts::parts_for;
 use agc_text::{Line, is_text, next_line};
 use arrayvec::ArrayVec;
 use std::alloc::{AllocError, Global};
@@ -57,11 +58,98 @@ pub fn report(
     ensures { IfOk result (λ text. text.items ≡ report language name.now source.now faults.now warnings.now) }
 {
     let texts = line_texts(alloc, source)?;
-    let labels = sought_labels(alloc, language, &texts, faults)?;
     let mut out = Vec::new(alloc);
-    push_merged(&mut out, language, name, &labels, &texts, faults, warnings)?;
+    push_told(alloc, &mut out, language, name, &texts, faults, warnings)?;
     push_kind(&mut out, name, source, &texts, faults)?;
     Ok(out)
+}
+
+// Appends the lines of the faults that are told and of the warnings.
+fn push_told(
+    alloc: Global,
+    out: &mut Vec<u8>,
+    language: Language,
+    name: &[u8],
+    texts: &[&[u8]],
+    faults: &[Finding],
+    warnings: &[Finding],
+) -> Result<(), AllocError>
+    ensures { OnOk result (out.new.items ≡ out.old.items ++ told_text language name.now (map (λ t. t.now) texts.now) faults.now warnings.now) }
+{
+    let told = told_faults(alloc, language, texts, faults)?;
+    let labels = sought_labels(alloc, language, texts, &told)?;
+    let before = count_before_first(language, texts, faults);
+    let count = faults.len().saturating_sub(told.len()).saturating_add(1);
+    push_around(
+        alloc, out, language, name, &labels, texts, before, count, &told, warnings,
+    )
+}
+
+// Appends the lines of faults and warnings, of which the fault after so many is the first of the interpretive language, and stands for so many.
+fn push_around(
+    alloc: Global,
+    out: &mut Vec<u8>,
+    language: Language,
+    name: &[u8],
+    labels: &NameSet,
+    texts: &[&[u8]],
+    before: usize,
+    count: usize,
+    faults: &[Finding],
+    warnings: &[Finding],
+) -> Result<(), AllocError>
+    ensures { OnOk result (out.new.items ≡ out.old.items ++ listed_around language name.now labels.now (map (λ t. t.now) texts.now) before count faults.now warnings.now) }
+{
+    let Some(first) = faults.get(before) else {
+        return push_merged(out, language, name, labels, texts, faults, warnings);
+    };
+    let (earlier, later) = warnings.split_at(count_before(first.line, warnings));
+    push_merged(
+        out,
+        language,
+        name,
+        labels,
+        texts,
+        &faults[..before],
+        earlier,
+    )?;
+    push_interpretive(alloc, out, language, name, texts, count, first)?;
+    push_merged(
+        out,
+        language,
+        name,
+        labels,
+        texts,
+        &faults[before + 1..],
+        later,
+    )
+}
+
+// Appends the lines of the first fault of the interpretive language, which stands for so many.
+fn push_interpretive(
+    alloc: Global,
+    out: &mut Vec<u8>,
+    language: Language,
+    name: &[u8],
+    texts: &[&[u8]],
+    count: usize,
+    first: &Finding,
+) -> Result<(), AllocError>
+    ensures { OnOk result (out.new.items ≡ out.old.items ++ interpretive_text language name.now (map (λ t. t.now) texts.now) count (Some first.now)) }
+{
+    let text = text_at(texts, first.line);
+    let mut lines = Vec::new(alloc);
+    push_counted(&mut lines, count, b"line")?;
+    push_caused(
+        out,
+        name,
+        text,
+        &parts_for(language, text),
+        &lines,
+        Severity::Error,
+        first,
+        &interpretive_cause(),
+    )
 }
 
 // Appends what is said of a source with faults that is a file of another kind.
@@ -178,7 +266,15 @@ fn push_warnings(
     ensures { OnOk result (out.new.items ≡ out.old.items ++ flat_map (shown_finding language name.now labels.now (map (λ t. t.now) texts.now)) (map as_warning warnings.now)) }
 {
     for warning in warnings {
-        push_shown_finding(out, language, name, labels, texts, Severity::Warning, warning)?;
+        push_shown_finding(
+            out,
+            language,
+            name,
+            labels,
+            texts,
+            Severity::Warning,
+            warning,
+        )?;
     }
     Ok(())
 }

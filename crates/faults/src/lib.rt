@@ -2,10 +2,10 @@
 #![tactic(auto)]
 
 mod causes;
-
 mod explaining;
 mod feeds;
 mod findings;
+mod interpretive;
 mod kinds;
 mod mistakes;
 mod names;

@@ -8,9 +8,9 @@ ghost use Rattle.agc_text.specs.Views.{piece};
 ghost use Rattle.yayul.specs.Survey.{field_at, looked_at, span_of};
 ghost use Rattle.faults.specs.Warnings.{parts_of, parts_in, is_among, has_operator, has_alone, warned_if, at_field, operator_names, label_warnings, readers, is_register_number, index_operators, indexed_after, number_warnings, pair_operators, erase_operators, reserves_one, with_field, with_single, pair_warnings, unused_warnings, names_of, line_warnings, warned_lines, warnings};
 
-use crate::parts::parts_for;
 use crate::findings::line_texts;
 use crate::names::{NameSet, is_among, is_short};
+use crate::parts::parts_for;
 use agc_text::{Field, Line, Number, octal_value};
 use std::alloc::{AllocError, Global};
 use yayul::{Finding, Language, Span, most_lines};

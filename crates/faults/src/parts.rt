@@ -80,8 +80,8 @@ fn without_count<'a>(text: &'a [u8], first: Field<'a>) -> &'a [u8]
     }
 }
 
-// A sign and digits, which may end in `D`.
-fn is_count(text: &[u8]) -> bool
+/// A sign and digits, which may end in `D`.
+pub(crate) fn is_count(text: &[u8]) -> bool
     ensures { result ≡ is_count text.now }
 {
     is_signed(text) && is_digits(text.get(1..).unwrap_or(&[]))
