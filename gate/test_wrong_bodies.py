@@ -127,8 +127,9 @@ class WholeRuns(unittest.TestCase):
         with tempfile.TemporaryDirectory() as room:
             repository(room, EDITS)
             ran = run(room, "--read")
-        said = [f"wrong-bodies small/{it}: {EDITS[it][2]}, and not once" for it in ("text_is_not_there", "text_is_there_twice")]
-        self.assertEqual(ran.stdout, "\n".join([*said, "wrong-bodies to be tried: 13 of small", "12 passed, 2 failed", ""]))
+        beside = f"wrong-bodies small/stands_beside_harmless: {runner.BESIDE}"
+        said = [beside, *(f"wrong-bodies small/{it}: {EDITS[it][2]}, and not once" for it in ("text_is_not_there", "text_is_there_twice"))]
+        self.assertEqual(ran.stdout, "\n".join([*said, "wrong-bodies to be tried: 13 of small", "11 passed, 3 failed", ""]))
 
     def test_names_that_stand_twice_and_edits_of_must_fail_are_read(self):
         with tempfile.TemporaryDirectory() as room:

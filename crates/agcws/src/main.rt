@@ -59,6 +59,9 @@ const NO_FEED_OF_SESSION: &[u8] =
 /// What is said of a number that no refusal has.
 const NO_REFUSAL: &[u8] = b"error: no refusal has this number; agcws explain lists them\n";
 
+/// What is said of a trace whose first step is after its last.
+const NO_STEPS: &[u8] = b"error: --from names a later step than --to\n";
+
 /// The exit status where not even a fault's line can be written.
 const NOT_REPORTED: u8 = 3;
 
@@ -419,7 +422,11 @@ fn trace(rt: &HostRuntime, matches: &ArgMatches<'_>) -> Result<u8, WorkshopFault
         return Ok(WRONG_ARGUMENTS);
     };
     let first = matches.get_one::<u64>(FROM).unwrap_or(1);
-    let last = matches.get_one::<u64>(TO).unwrap_or(steps).min(steps);
+    let end = matches.get_one::<u64>(TO);
+    if end.is_some_and(|end| first > end) {
+        return refuse_arguments(rt, NO_STEPS);
+    }
+    let last = end.unwrap_or(steps).min(steps);
     if !may_run(last) {
         return Ok(WRONG_ARGUMENTS);
     }
@@ -430,17 +437,7 @@ fn trace(rt: &HostRuntime, matches: &ArgMatches<'_>) -> Result<u8, WorkshopFault
     let tells = matches.get_flag(PROGRESS);
     with_stdout(rt, |out| {
         if tells {
-            let mut progress = Std::new(rt.stderr());
-            trace_and_tell(
-                rt.alloc(),
-                origin,
-                &mut program,
-                &mut feed,
-                first,
-                last,
-                out,
-                &mut progress,
-            )
+            trace_telling(rt, origin, &mut program, &mut feed, first, last, out)
         } else {
             trace_program(
                 rt.alloc(),
@@ -454,6 +451,31 @@ fn trace(rt: &HostRuntime, matches: &ArgMatches<'_>) -> Result<u8, WorkshopFault
         }
     })?;
     Ok(DONE)
+}
+
+/// Traces a program, and tells on standard error how far it has come.
+fn trace_telling<P: Read, F: Read, W: Write>(
+    rt: &HostRuntime,
+    origin: Origin,
+    program: &mut P,
+    feed: &mut F,
+    first: u64,
+    last: u64,
+    out: &mut W,
+) -> Result<(), WorkshopFault>
+    requires { last ≤ 2 ^ 40 - 2 }
+{
+    let mut progress = Std::new(rt.stderr());
+    trace_and_tell(
+        rt.alloc(),
+        origin,
+        program,
+        feed,
+        first,
+        last,
+        out,
+        &mut progress,
+    )
 }
 
 /// `agcws cover [--progress] [--flight] [--image] [--rope VERSION] [--parity ignore] [--form FORM] [--symbols FILE] SRC FEED N`. All files are opened before anything is read, and the table is read first.

@@ -13,7 +13,7 @@ use crate::command::{Breakpoint, Command, ParsedLine};
 use crate::fields::{channel_in, count_in};
 use crate::line::CommandLine;
 use crate::named_places::{after_place, named_place, place_first};
-use crate::parsed_line::parsed_in;
+use crate::parsing::parsed_in;
 use crate::phrase::Phrase;
 use crate::places::erasable_number;
 use crate::subject::{Subject, channel_subject, erasable_first, place_subject};

@@ -12,7 +12,7 @@ use Rattle.feed.specs.CountsTaken as from
 use Rattle.feed.specs.Feed.{most_series}
 use Rattle.feed.specs.CountsTaken.{CountsTaken}
 use Rattle.feed.specs.Merged.{due}
-use Rattle.feed.proofs.FitLaws.{fits-start, fits-due}
+use Rattle.feed.proofs.CountLaws.{fits-start, fits-due}
 use Rattle.cpu.specs.declared.output.Output.{Output}
 use Rattle.cpu.specs.State.{State, Scenario, FitsRun, start}
 use Rattle.cpu.specs.Effects.{Change, change, changes, after, dxch}

@@ -3,7 +3,7 @@ use Rattle.agc_text.specs.Fields.{runs, texts}
 use Rattle.agc_text.specs.Tables.{value_in}
 use Rattle.commands.specs.Commands.{Form, forms}
 use Rattle.commands.proofs.ParsedLaws.{too-many}
-use Rattle.commands.proofs.parsed_line.command_in.Goals as goal
+use Rattle.commands.proofs.parsing.command_in.Goals as goal
 
 pub returns-in-Some-split_field-3 : goal.returns-in-Some-split_field-3
 returns-in-Some-split_field-3 c =
