@@ -6,8 +6,9 @@ use Rattle.agc_text.specs.Lines.{lines}
 use Rattle.agc_text.specs.Tables.{same_name}
 use Rattle.yayul.specs.declared.finding.Finding.{Finding}
 use Rattle.yayul.specs.declared.language.Language.{Language}
-use Rattle.faults.specs.Causes.{Cause, fault_cause, filled, near_label, text_of, warning_cause}
+use Rattle.faults.specs.Causes.{Cause, filled, near_label, text_of, warning_cause}
 use Rattle.faults.specs.Kinds.{kind_of_source}
+use Rattle.faults.specs.FlightCauses.{told_cause}
 use Rattle.faults.specs.Interpretive.{count_before_first, interpretive_cause, told_faults}
 use Rattle.faults.specs.Shown.{shown_byte}
 pub use Rattle.faults.specs.Shown.{text_at}
@@ -41,9 +42,9 @@ kind_text Error = codes ": error E"
 kind_text Warning = codes ": warning W"
 
 -- why it is one, and how it is mended, on a line with some fields
-abbrev pub cause_of : Severity → Bool → List ℕ → Parts → Finding → Cause
-cause_of Error near text parts f = fault_cause near text parts f
-cause_of Warning near text parts f = warning_cause f.number
+abbrev pub cause_of : Language → Severity → Bool → List ℕ → Parts → Finding → Cause
+cause_of language Error near text parts f = told_cause language near text parts f
+cause_of language Warning near text parts f = warning_cause f.number
 
 abbrev pub message_text : Parts → List ℕ → Severity → Finding → Cause → List ℕ
 message_text parts label severity f c =
@@ -58,8 +59,8 @@ abbrev pub caused_text : List ℕ → List ℕ → Parts → List ℕ → Severi
 caused_text name text parts label severity f c = place_text name text f ++ message_text parts label severity f c ++ row_text text f ++ marks_text text f ++ cure_text parts label c
 
 -- a finding, with a text from other lines or none
-abbrev pub finding_text : List ℕ → List ℕ → Parts → Option (List ℕ) → Severity → Finding → List ℕ
-finding_text name text parts near severity f = caused_text name text parts (unwrap_or near []) severity f (cause_of severity (is_some near) text parts f)
+abbrev pub finding_text : Language → List ℕ → List ℕ → Parts → Option (List ℕ) → Severity → Finding → List ℕ
+finding_text language name text parts near severity f = caused_text name text parts (unwrap_or near []) severity f (cause_of language severity (is_some near) text parts f)
 
 -- a line has a label
 abbrev pub has_label : Language → List ℕ → List ℕ → Bool
@@ -77,7 +78,7 @@ beside language labels texts parts f =
 
 -- the lines of a finding of a line
 unfoldable pub shown_line : Language → List ℕ → List (List ℕ) → List (List ℕ) → List ℕ → Parts → Severity × Finding → List ℕ
-shown_line language name labels texts text parts f = finding_text name text parts (beside language labels texts parts f.1) f.0 f.1
+shown_line language name labels texts text parts f = finding_text language name text parts (beside language labels texts parts f.1) f.0 f.1
 
 -- the lines of a finding of a source of a language
 abbrev pub shown_finding : Language → List ℕ → List (List ℕ) → List (List ℕ) → Severity × Finding → List ℕ

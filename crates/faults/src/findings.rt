@@ -11,7 +11,8 @@ ghost use Rattle.faults.specs.Causes.{filled, filled_byte};
 ghost use Rattle.faults.specs.Views.{cause_in};
 ghost use Rattle.faults.specs.Report.{margin_byte, numbered, row_text, marks_text, place_text, kind_text, cause_of, caused_text, message_text, cure_text, finding_text, text_at, shown_finding, shown_line, labels_of, sought_labels, has_label, first_line, count_before, as_error, as_warning, merged, counted, count_text, interpretive_text, listed_around, told_text, report};
 
-use crate::causes::{Cause, fault_cause, near_label, text_of, warning_cause};
+use crate::causes::{Cause, near_label, text_of, warning_cause};
+use crate::flight_causes::told_cause;
 use crate::interpretive::{count_before_first, interpretive_cause, told_faults};
 use crate::kinds::push_kind_of_source;
 use crate::mistakes::add_field;
@@ -326,6 +327,7 @@ fn push_shown_line(
         push_decimal(&mut digits, first_line(language, texts, label));
         push_finding(
             out,
+            language,
             name,
             text,
             parts,
@@ -335,7 +337,7 @@ fn push_shown_line(
         )
     } else {
         let near = near_label(labels, parts, finding);
-        push_finding(out, name, text, parts, near, severity, finding)
+        push_finding(out, language, name, text, parts, near, severity, finding)
     }
 }
 
@@ -397,16 +399,17 @@ fn kind_text(severity: Severity) -> &'static [u8]
 
 // Why it is one, and how it is mended.
 fn cause_of(
+    language: Language,
     severity: Severity,
     near: bool,
     text: &[u8],
     parts: &Line<'_>,
     finding: &Finding,
 ) -> Cause
-    ensures { cause_in result ≡ cause_of severity near text.now (parts_in parts.now) finding.now }
+    ensures { cause_in result ≡ cause_of language severity near text.now (parts_in parts.now) finding.now }
 {
     match severity {
-        Severity::Error => fault_cause(text, parts, near, finding),
+        Severity::Error => told_cause(language, near, text, parts, finding),
         Severity::Warning => warning_cause(finding.number),
     }
 }
@@ -510,6 +513,7 @@ fn push_marks(out: &mut Vec<u8>, text: &[u8], finding: &Finding) -> Result<(), A
 // Appends the lines of a fault.
 fn push_finding(
     out: &mut Vec<u8>,
+    language: Language,
     name: &[u8],
     text: &[u8],
     parts: &Line<'_>,
@@ -517,9 +521,9 @@ fn push_finding(
     severity: Severity,
     finding: &Finding,
 ) -> Result<(), AllocError>
-    ensures { OnOk result (out.new.items ≡ out.old.items ++ finding_text name.now text.now (parts_in parts.now) (option_map (λ label. label.now) near.entry) severity finding.now) }
+    ensures { OnOk result (out.new.items ≡ out.old.items ++ finding_text language name.now text.now (parts_in parts.now) (option_map (λ label. label.now) near.entry) severity finding.now) }
 {
-    let cause = cause_of(severity, near.is_some(), text, parts, finding);
+    let cause = cause_of(language, severity, near.is_some(), text, parts, finding);
     push_caused(
         out,
         name,

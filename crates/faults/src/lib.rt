@@ -5,6 +5,7 @@ mod causes;
 mod explaining;
 mod feeds;
 mod findings;
+mod flight_causes;
 mod interpretive;
 mod kinds;
 mod mistakes;
