@@ -1,6 +1,6 @@
 -- What replies are told by, besides what runs and where a session stands.
 use Rattle.std.specs.Prelude.{ℕ, List, filter, None}
-use Rattle.feed.specs.Fits.{is_from}
+use Rattle.feed.specs.CountsTaken.{is_from}
 use Rattle.feed.specs.declared.entry.Entry.{Entry}
 use Rattle.symbols.specs.Values.{SymbolTable}
 use Rattle.cpu.specs.State.{Scenario}

@@ -192,7 +192,9 @@ fn flight_range_cause(near: bool, text: &[u8], parts: &Line<'_>, finding: &Findi
     } else if has_operator(octal_words(), parts) {
         Cause::said(b"a word holds 77777 at most, and @ is more")
     } else if is_moved_back(parts) {
-        Cause::said(b"an address below 0 is not taken: what yaYUL makes of it is not known for sure")
+        Cause::said(
+            b"an address below 0 is not taken: what yaYUL makes of it is not known for sure",
+        )
     } else if is_between_banks(parts) {
         Cause::said(
             b"@ names no place: from 14000 to 17777 the order of the banks is not known for sure",
@@ -220,7 +222,9 @@ fn is_between_banks(parts: &Line<'_>) -> bool
     is_between && parts.offset.is_none()
 }
 
-const UNSURE_WORDS: [&str; 9] = ["MM", "EDRUPT", "DNPTR", "-DNPTR", "2FCADR", "2BCADR", "BBCON*", "DEC*", "2DEC*"];
+const UNSURE_WORDS: [&str; 9] = [
+    "MM", "EDRUPT", "DNPTR", "-DNPTR", "2FCADR", "2BCADR", "BBCON*", "DEC*", "2DEC*",
+];
 
 const UNSURE_VALUES: [&str; 3] = ["=ECADR", "=MINUS", "=PLUS"];
 
@@ -242,7 +246,10 @@ const FIXED_CONSTANTS: [&str; 1] = ["CAF"];
 
 const BANK_WORDS: [&str; 2] = ["BBCON", "-2CADR"];
 
-const DOWNLIST_WORDS: [&str; 12] = ["1DNADR", "2DNADR", "3DNADR", "4DNADR", "5DNADR", "6DNADR", "-1DNADR", "-2DNADR", "-3DNADR", "-4DNADR", "-5DNADR", "-6DNADR"];
+const DOWNLIST_WORDS: [&str; 12] = [
+    "1DNADR", "2DNADR", "3DNADR", "4DNADR", "5DNADR", "6DNADR", "-1DNADR", "-2DNADR", "-3DNADR",
+    "-4DNADR", "-5DNADR", "-6DNADR",
+];
 
 const CHANNEL_WORDS: [&str; 1] = ["DNCHAN"];
 
