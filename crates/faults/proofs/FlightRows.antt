@@ -11,7 +11,7 @@ use Rattle.yayul.specs.Operators.{operators}
 use Rattle.yayul.specs.declared.finding.Finding.{Finding}
 use Rattle.yayul.specs.declared.language.Language.TheVariants.{Flight, Standard}
 use Rattle.faults.specs.Causes.{Cause, filled}
-use Rattle.faults.specs.FlightCauses.{downlist_words, bank_words, channel_words, count_words, decimals, double_octals, fixed_words, octal_words, told_cause, unsure_effects, unsure_values, unsure_words, verb_nouns}
+use Rattle.faults.specs.FlightCauses.{downlist_words, bank_words, comparisons, channel_words, count_words, decimals, double_octals, fixed_words, octal_words, told_cause, unsure_effects, unsure_values, unsure_words, verb_nouns}
 use Rattle.faults.specs.Interpretive.{interpretive_operators, told_faults}
 use Rattle.faults.specs.Kinds.{kind_of_source}
 use Rattle.faults.specs.Report.{report, shown_line}
@@ -88,7 +88,7 @@ lines_with_causes =
     ∷ ((codes "+3 DNPTR X", 15), (codes "DNPTR is not taken: what yaYUL makes of it is not known for sure", codes "OCT makes a word"))
     ∷ ((codes "X =MINUS Y", 15), (codes "=MINUS is not taken: what yaYUL makes of it is not known for sure", codes "EQUALS gives X a value"))
     ∷ ((codes " SBANK= X", 15), (codes "SBANK= is not taken: what yaYUL makes of it is not known for sure", []))
-    ∷ ((codes " CHECK= X", 15), (codes "CHECK= is not taken: what yaYUL makes of it is not known for sure", []))
+    ∷ ((codes "Y CHECK= X", 15), (codes "CHECK= is not taken", codes "SYMBOLS in the listing has the values of Y and X"))
     ∷ ((codes " TFC LOOP", 15), (codes "TFC is no operator", codes "did you mean TCF?"))
     ∷ ((codes "-LONGNAME OCT 1", 13), (codes "-LONGNAME has more than 8 characters, the most of a label", []))
     ∷ ((codes "+ OCT 1", 13), (codes "+ is a sign alone, and no label", []))
@@ -135,6 +135,6 @@ all_are_operators : list_any (λ name. if is_some (flight_operator name) then fa
 unfolding operators flight_operators classes
 all_are_operators = refl
 
-none_is_one : list_any (λ name. is_some (flight_operator name)) (unsure_words ++ unsure_values ++ unsure_effects) ≡ false
+none_is_one : list_any (λ name. is_some (flight_operator name)) (unsure_words ++ unsure_values ++ unsure_effects ++ comparisons) ≡ false
 unfolding operators flight_operators
 none_is_one = refl

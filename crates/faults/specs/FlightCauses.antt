@@ -22,7 +22,11 @@ unsure_values = codes "=ECADR" ∷ codes "=MINUS" ∷ codes "=PLUS" ∷ []
 
 -- those whose effect on later words is not known for sure
 abbrev pub unsure_effects : List (List ℕ)
-unsure_effects = codes "SBANK=" ∷ codes "CHECK=" ∷ []
+unsure_effects = codes "SBANK=" ∷ []
+
+-- that which compares
+abbrev pub comparisons : List (List ℕ)
+comparisons = codes "CHECK=" ∷ []
 
 abbrev pub octal_words : List (List ℕ)
 octal_words = codes "OCT" ∷ codes "OCTAL" ∷ []
@@ -143,6 +147,7 @@ flight_cause near text parts f =
     else if f.number == 15 && has_operator unsure_words parts then cured (codes "% is not taken: what yaYUL makes of it is not known for sure") (codes "OCT makes a word")
     else if f.number == 15 && has_operator unsure_values parts then cured (codes "% is not taken: what yaYUL makes of it is not known for sure") (codes "EQUALS gives & a value")
     else if f.number == 15 && has_operator unsure_effects parts then said (codes "% is not taken: what yaYUL makes of it is not known for sure")
+    else if f.number == 15 && has_operator comparisons parts then cured (codes "% is not taken") (codes "SYMBOLS in the listing has the values of & and @")
     else if f.number == 16 then flight_operand_cause near text parts f
     else if f.number == 18 && has_operator equalities parts then waiting_cause near parts
     else if f.number == 25 then flight_kind_cause near text parts f

@@ -2,7 +2,7 @@
 
 ghost use Rattle.std.specs.Prelude.{◌≡◌, map};
 ghost use Rattle.faults.specs.Warnings.{parts_in};
-ghost use Rattle.faults.specs.FlightCauses.{unsure_words, unsure_values, unsure_effects, octal_words, double_octals, verb_nouns, decimals, double_decimals, equalities, fixed_constants, bank_words, downlist_words, channel_words, fixed_words, count_words, form_cause, signed_label_cause, has_signed_label, decimal_cause, flight_operand_cause, waiting_cause, flight_kind_cause, is_moved_back, is_between_banks, flight_range_cause, flight_cause, told_cause};
+ghost use Rattle.faults.specs.FlightCauses.{unsure_words, unsure_values, unsure_effects, comparisons, octal_words, double_octals, verb_nouns, decimals, double_decimals, equalities, fixed_constants, bank_words, downlist_words, channel_words, fixed_words, count_words, form_cause, signed_label_cause, has_signed_label, decimal_cause, flight_operand_cause, waiting_cause, flight_kind_cause, is_moved_back, is_between_banks, flight_range_cause, flight_cause, told_cause};
 ghost use Rattle.faults.specs.Views.{cause_in};
 
 use crate::causes::{
@@ -50,6 +50,10 @@ fn flight_cause(near: bool, text: &[u8], parts: &Line<'_>, finding: &Finding) ->
         15 if has_operator(unsure_effects(), parts) => {
             Cause::said(b"% is not taken: what yaYUL makes of it is not known for sure")
         }
+        15 if has_operator(comparisons(), parts) => Cause::cured(
+            b"% is not taken",
+            b"SYMBOLS in the listing has the values of & and @",
+        ),
         16 => flight_operand_cause(near, text, parts, finding),
         18 if has_operator(equalities(), parts) => waiting_cause(near, parts),
         25 => flight_kind_cause(near, text, parts, finding),
@@ -228,7 +232,9 @@ const UNSURE_WORDS: [&str; 9] = [
 
 const UNSURE_VALUES: [&str; 3] = ["=ECADR", "=MINUS", "=PLUS"];
 
-const UNSURE_EFFECTS: [&str; 2] = ["SBANK=", "CHECK="];
+const UNSURE_EFFECTS: [&str; 1] = ["SBANK="];
+
+const COMPARISONS: [&str; 1] = ["CHECK="];
 
 const OCTAL_WORDS: [&str; 2] = ["OCT", "OCTAL"];
 
@@ -273,6 +279,12 @@ fn unsure_effects() -> &'static [&'static str]
     ensures { map (λ name. name.now) result.now ≡ unsure_effects }
 {
     &UNSURE_EFFECTS
+}
+
+fn comparisons() -> &'static [&'static str]
+    ensures { map (λ name. name.now) result.now ≡ comparisons }
+{
+    &COMPARISONS
 }
 
 fn octal_words() -> &'static [&'static str]
