@@ -531,6 +531,8 @@ where that is sure. A fault that follows from another, as that of a symbol
 whose own line is refused, is left out. Then in the same form the first fault of
 each feed that has one, and in the last line how many there are. agcws explain
 E17 tells what draws E17, and its cures.
+With --flight lines of the interpretive language, which is not taken, are told
+once, on the first of them, with their count.
 A file with a fault that is of another kind is told in words after its faults:
 a feed in place of the source, a source in place of a feed, and an image.
 

@@ -4,3 +4,4 @@ mod WarningRows
 mod CauseRows
 mod Walked
 mod FeedRows
+mod FlightRows

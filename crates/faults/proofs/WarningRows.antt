@@ -56,7 +56,7 @@ abbrev placed : ℕ → ℕ → Finding
 placed line number = record { line = line; number = number; span = record { start = 1; width = 2 } }
 
 -- the faults of a line stand before its warnings, and the warnings of earlier lines before both
-shown_in_order : report (codes "a") (source (codes " CA 5; TS FIV;Z")) (placed 2 17 ∷ placed 2 25 ∷ []) (placed 1 2 ∷ placed 2 3 ∷ placed 3 8 ∷ [])
+shown_in_order : report Standard (codes "a") (source (codes " CA 5; TS FIV;Z")) (placed 2 17 ∷ placed 2 25 ∷ []) (placed 1 2 ∷ placed 2 3 ∷ placed 3 8 ∷ [])
     ≡ source (codes "a:1:2: warning W2: 5 is the register or the counter of that number, and not the number;    1 |  CA 5;      |  ^^;"
     ++ codes "      = a number has a line of its own: NAME OCT 5, and CA NAME;"
     ++ codes "a:2:2: error E17: no line defines FIV;    2 |  TS FIV;      |  ^^;"

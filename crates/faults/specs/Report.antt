@@ -6,10 +6,14 @@ use Rattle.agc_text.specs.Bytes.{space, tab}
 use Rattle.agc_text.specs.Lines.{lines}
 use Rattle.agc_text.specs.Tables.{same_name}
 use Rattle.yayul.specs.declared.finding.Finding.{Finding}
-use Rattle.faults.specs.Causes.{Cause, fault_cause, filled, near_label, text_of, warning_cause}
+use Rattle.yayul.specs.declared.language.Language.{Language}
+use Rattle.faults.specs.Causes.{Cause, filled, near_label, text_of, warning_cause}
 use Rattle.faults.specs.Kinds.{kind_of_source}
+use Rattle.faults.specs.FlightCauses.{told_cause}
+use Rattle.faults.specs.Interpretive.{count_before_first, interpretive_cause, told_faults}
 use Rattle.faults.specs.Shown.{shown_byte}
-use Rattle.faults.specs.Warnings.{Parts, is_among, parts_of, with_field}
+pub use Rattle.faults.specs.Shown.{text_at}
+use Rattle.faults.specs.Warnings.{Parts, is_among, parts_for, with_field}
 use Rattle.faults.specs.declared.findings.Severity.{Severity}
 use Rattle.faults.specs.declared.findings.Severity.TheVariants.{Error, Warning}
 
@@ -39,9 +43,9 @@ kind_text Error = codes ": error E"
 kind_text Warning = codes ": warning W"
 
 -- why it is one, and how it is mended, on a line with some fields
-abbrev pub cause_of : Severity → Bool → List ℕ → Parts → Finding → Cause
-cause_of Error near text parts f = fault_cause near text parts f
-cause_of Warning near text parts f = warning_cause parts f.number
+abbrev pub cause_of : Language → Severity → Bool → List ℕ → Parts → Finding → Cause
+cause_of language Error near text parts f = told_cause language near text parts f
+cause_of language Warning near text parts f = warning_cause parts f.number
 
 abbrev pub message_text : Parts → List ℕ → Severity → Finding → Cause → List ℕ
 message_text parts label severity f c =
@@ -56,20 +60,16 @@ abbrev pub caused_text : List ℕ → List ℕ → Parts → List ℕ → Severi
 caused_text name text parts label severity f c = place_text name text f ++ message_text parts label severity f c ++ row_text text f ++ marks_text text f ++ cure_text parts label c
 
 -- a finding, with a text from other lines or none
-abbrev pub finding_text : List ℕ → List ℕ → Parts → Option (List ℕ) → Severity → Finding → List ℕ
-finding_text name text parts near severity f = caused_text name text parts (unwrap_or near []) severity f (cause_of severity (is_some near) text parts f)
-
--- the line of a number, of some lines
-abbrev pub text_at : List (List ℕ) → ℕ → List ℕ
-text_at texts line = unwrap_or (slice_get texts (line - 1)) []
+abbrev pub finding_text : Language → List ℕ → List ℕ → Parts → Option (List ℕ) → Severity → Finding → List ℕ
+finding_text language name text parts near severity f = caused_text name text parts (unwrap_or near []) severity f (cause_of language severity (is_some near) text parts f)
 
 -- a line has a label
-abbrev pub has_label : List ℕ → List ℕ → Bool
-has_label label text = same_name (text_of (parts_of text).label) label
+abbrev pub has_label : Language → List ℕ → List ℕ → Bool
+has_label language label text = same_name (text_of (parts_for language text).label) label
 
 -- the number of the first line that has a label
-abbrev pub first_line : List (List ℕ) → List ℕ → ℕ
-first_line texts label = position_or_len (has_label label) texts + 1
+abbrev pub first_line : Language → List (List ℕ) → List ℕ → ℕ
+first_line language texts label = position_or_len (has_label language label) texts + 1
 
 -- a name, where it is a label
 abbrev pub as_label : List (List ℕ) → List ℕ → Option (List ℕ)
@@ -83,24 +83,24 @@ told_by_line labels parts number =
     else None
 
 -- a text from other lines that a fault is told with: the number of the first line that has its label, or the label that is near to its symbol
-abbrev pub beside : List (List ℕ) → List (List ℕ) → Parts → Finding → Option (List ℕ)
-beside labels texts parts f = option_map_or (λ name. Some (decimal (first_line texts name))) (told_by_line labels parts f.number) (near_label labels parts f)
+abbrev pub beside : Language → List (List ℕ) → List (List ℕ) → Parts → Finding → Option (List ℕ)
+beside language labels texts parts f = option_map_or (λ name. Some (decimal (first_line language texts name))) (told_by_line labels parts f.number) (near_label labels parts f)
 
 -- the lines of a finding of a line
-unfoldable pub shown_line : List ℕ → List (List ℕ) → List (List ℕ) → List ℕ → Parts → Severity × Finding → List ℕ
-shown_line name labels texts text parts f = finding_text name text parts (beside labels texts parts f.1) f.0 f.1
+unfoldable pub shown_line : Language → List ℕ → List (List ℕ) → List (List ℕ) → List ℕ → Parts → Severity × Finding → List ℕ
+shown_line language name labels texts text parts f = finding_text language name text parts (beside language labels texts parts f.1) f.0 f.1
 
--- the lines of a finding of a source
-abbrev pub shown_finding : List ℕ → List (List ℕ) → List (List ℕ) → Severity × Finding → List ℕ
-shown_finding name labels texts f = shown_line name labels texts (text_at texts f.1.line) (parts_of (text_at texts f.1.line)) f
+-- the lines of a finding of a source of a language
+abbrev pub shown_finding : Language → List ℕ → List (List ℕ) → List (List ℕ) → Severity × Finding → List ℕ
+shown_finding language name labels texts f = shown_line language name labels texts (text_at texts f.1.line) (parts_for language (text_at texts f.1.line)) f
 
 -- the labels of some lines, each once
-abbrev pub labels_of : List (List ℕ) → List (List ℕ)
-labels_of texts = fold (λ labels text. with_field labels (parts_of text).label) [] texts
+abbrev pub labels_of : Language → List (List ℕ) → List (List ℕ)
+labels_of language texts = fold (λ labels text. with_field labels (parts_for language text).label) [] texts
 
 -- the labels that faults are told with: those of all lines, where at most 100 faults are told
-abbrev pub sought_labels : List (List ℕ) → List Finding → List (List ℕ)
-sought_labels texts faults = if nat_le (length faults) 100 then labels_of texts else []
+abbrev pub sought_labels : Language → List (List ℕ) → List Finding → List (List ℕ)
+sought_labels language texts faults = if nat_le (length faults) 100 then labels_of language texts else []
 
 -- how many of some findings in order stand before a line
 abbrev pub count_before : ℕ → List Finding → ℕ
@@ -128,8 +128,40 @@ counted count noun = decimal count ++ codes " " ++ noun ++ (if count == 1 then [
 abbrev pub count_text : ℕ → ℕ → List ℕ
 count_text errors warnings = counted errors (codes "error") ++ codes ", " ++ counted warnings (codes "warning") ++ codes "\n"
 
--- the lines of the faults and the warnings of a source, and what is said where it has faults and is a file of another kind
-unfoldable pub report : List ℕ → List ℕ → List Finding → List Finding → List ℕ
-report name source faults warnings =
-    flat_map (shown_finding name (sought_labels (lines source) faults) (lines source)) (merged faults warnings)
-    ++ (if length faults == 0 then [] else kind_of_source name source)
+-- ## All
+-- the lines of some faults and warnings
+abbrev pub listed : Language → List ℕ → List (List ℕ) → List (List ℕ) → List Finding → List Finding → List ℕ
+listed language name labels texts faults warnings = flat_map (shown_finding language name labels texts) (merged faults warnings)
+
+-- the lines of the first fault of the interpretive language, which stands for so many, where there is one
+abbrev pub interpretive_text : Language → List ℕ → List (List ℕ) → ℕ → Option Finding → List ℕ
+interpretive_text language name texts count None = []
+interpretive_text language name texts count (Some f) =
+    caused_text name (text_at texts f.line) (parts_for language (text_at texts f.line)) (counted count (codes "line")) Error f interpretive_cause
+
+-- how many of some warnings stand before the line of a fault, all where there is none
+abbrev pub warned_before : Option Finding → List Finding → ℕ
+warned_before None warnings = length warnings
+warned_before (Some f) warnings = count_before f.line warnings
+
+-- the lines of faults and warnings, of which the fault after so many is the first of the interpretive language, and stands for so many
+abbrev pub listed_around : Language → List ℕ → List (List ℕ) → List (List ℕ) → ℕ → ℕ → List Finding → List Finding → List ℕ
+listed_around language name labels texts n count faults warnings =
+    listed language name labels texts (take n faults) (take (warned_before (slice_get faults n) warnings) warnings)
+    ++ interpretive_text language name texts count (slice_get faults n)
+    ++ listed language name labels texts (drop (n + 1) faults) (drop (warned_before (slice_get faults n) warnings) warnings)
+
+-- how many faults the first of the interpretive language stands for, of so many, where so many are told
+abbrev pub stands_for : ℕ → ℕ → ℕ
+stands_for all told = all - told + 1
+
+-- the lines of the faults that are told and of the warnings
+abbrev pub told_text : Language → List ℕ → List (List ℕ) → List Finding → List Finding → List ℕ
+told_text language name texts faults warnings =
+    listed_around language name (sought_labels language texts (told_faults language texts faults)) texts (count_before_first language texts faults)
+    (stands_for (length faults) (length (told_faults language texts faults))) (told_faults language texts faults) warnings
+
+-- the lines of the faults and the warnings of a source of a language, and what is said where it has faults and is a file of another kind
+unfoldable pub report : Language → List ℕ → List ℕ → List Finding → List Finding → List ℕ
+report language name source faults warnings =
+    told_text language name (lines source) faults warnings ++ (if length faults == 0 then [] else kind_of_source name source)

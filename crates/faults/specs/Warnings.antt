@@ -1,5 +1,5 @@
 -- What in a source is likely a mistake, though it is no fault: definitions over its lines, whatever stands before them.
-use Rattle.std.specs.Prelude.{ℕ, ◌+◌, ◌%◌, ◌==◌, ◌&&◌, ◌||◌, not, Bool, true, false, nat_le, nat_lt, List, [], ◌∷◌, ◌++◌, length, map, Option, Some, None, is_some, codes, option_and_then, if◌then◌else◌}
+use Rattle.std.specs.Prelude.{ℕ, ◌+◌, ◌-◌, ◌%◌, ◌==◌, ◌&&◌, ◌||◌, not, Bool, true, false, nat_le, nat_lt, List, [], ◌∷◌, ◌++◌, length, map, Option, Some, None, is_some, codes, option_and_then, if◌then◌else◌}
 use Rattle.std.specs.List.{fold, list_any}
 use Rattle.std.specs.Option.{option_map, option_map_or}
 use Rattle.agc_text.specs.Digits.{digits_value, sized}
@@ -9,6 +9,7 @@ use Rattle.agc_text.specs.declared.digits.Number.{Number}
 use Rattle.agc_text.specs.declared.digits.Number.TheVariants.{Small}
 use Rattle.agc_text.specs.declared.fields.Line.{Line}
 use Rattle.agc_text.specs.Tables.{same_name, value_in}
+use Rattle.yayul.specs.Flight.{uncounted}
 use Rattle.yayul.specs.Operators.{operators}
 use Rattle.yayul.specs.Survey.{field_at, looked_at, span_of}
 use Rattle.yayul.specs.declared.finding.Finding.{Finding}
@@ -51,6 +52,25 @@ goes_on text = nat_lt 3 (length (others_of (fields text)))
 
 abbrev pub parts_of : List ℕ → Parts
 parts_of text = record { label = label_of (fields text); operator = field_at text 0; operand = field_at text 1; offset = field_at text 2; more = goes_on text }
+
+-- a field so many bytes later
+abbrev pub later_field : ℕ → Piece → Piece
+later_field count p = record { start = p.start + count; text = p.text }
+
+-- fields so many bytes later
+abbrev pub later_parts : ℕ → Parts → Parts
+later_parts count parts = record {
+  label = option_map (later_field count) parts.label;
+  operator = option_map (later_field count) parts.operator;
+  operand = option_map (later_field count) parts.operand;
+  offset = option_map (later_field count) parts.offset;
+  more = parts.more;
+}
+
+-- the fields of a line of a language: in that of flight programs those after a count
+abbrev pub parts_for : Language → List ℕ → Parts
+parts_for Standard text = parts_of text
+parts_for Flight text = later_parts (length text - length (uncounted text)) (parts_of (uncounted text))
 
 -- a line that was taken apart
 abbrev pub parts_in : Line → Parts
@@ -302,8 +322,8 @@ banks_after banks parts = record {
 abbrev pub no_banks : Banks
 no_banks = record { region = Common; erasable = []; fixed = []; erasable_registers = []; fixed_registers = []; stored = []; far = false }
 
-abbrev pub banks_of : List (List ℕ) → Banks
-banks_of texts = fold (λ banks text. banks_after banks (parts_of text)) no_banks texts
+abbrev pub banks_of : Language → List (List ℕ) → Banks
+banks_of language texts = fold (λ banks text. banks_after banks (parts_for language text)) no_banks texts
 
 -- some line may set a register: by DTCB or DTCF, or by a store at one of its places, by number or by one of some names
 abbrev pub may_set : BankRegister → List (List ℕ) → Banks → Bool
@@ -373,15 +393,15 @@ abbrev pub at_start : Before
 at_start = record { indexed = false; filled = None; left = false; region = Common }
 
 -- ## All
--- the names of a source: those for which one word is reserved, those that an operand is and those that are read; and what is known of banks
-abbrev pub names_of : List (List ℕ) → Names
-names_of texts = record {
-  singles = fold (λ names text. with_single names (parts_of text)) [] texts;
-  operands = fold (λ names text. with_field names (parts_of text).operand) [] texts;
-  read = fold (λ names text. with_read names (parts_of text)) [] texts;
-  banks = banks_of texts;
-  sets_erasable = may_set_erasable (banks_of texts);
-  sets_fixed = may_set_fixed (banks_of texts);
+-- the names of a source of a language: those for which one word is reserved, those that an operand is and those that are read; and what is known of banks
+abbrev pub names_of : Language → List (List ℕ) → Names
+names_of language texts = record {
+  singles = fold (λ names text. with_single names (parts_for language text)) [] texts;
+  operands = fold (λ names text. with_field names (parts_for language text).operand) [] texts;
+  read = fold (λ names text. with_read names (parts_for language text)) [] texts;
+  banks = banks_of language texts;
+  sets_erasable = may_set_erasable (banks_of language texts);
+  sets_fixed = may_set_fixed (banks_of language texts);
 }
 
 -- a source without forms of flight programs, whose words of other kinds are not told from instructions
@@ -407,12 +427,12 @@ abbrev pub line_warnings : Language → Bool → Names → Before → List (List
 line_warnings language unused names before after line parts =
     name_warnings unused names line parts ++ flow_warnings language names before after line parts ++ operand_warnings names before line parts
 
--- the warnings of some lines, the first of them with a number
+-- the warnings of some lines of a language, the first of them with a number
 abbrev pub warned_lines : Language → Bool → Names → Before → ℕ → List (List ℕ) → List Finding
 warned_lines language unused names before line [] = []
 warned_lines language unused names before line (text ∷ texts) =
-    line_warnings language unused names before texts line (parts_of text) ++ warned_lines language unused names (before_next before (parts_of text)) (line + 1) texts
+    line_warnings language unused names before texts line (parts_for language text) ++ warned_lines language unused names (before_next before (parts_for language text)) (line + 1) texts
 
 -- the warnings of a source of a language, of as many lines as are looked at for faults
 unfoldable pub warnings : Language → Bool → List ℕ → List Finding
-warnings language unused source = warned_lines language unused (names_of (looked_at language source)) at_start 1 (looked_at language source)
+warnings language unused source = warned_lines language unused (names_of language (looked_at language source)) at_start 1 (looked_at language source)

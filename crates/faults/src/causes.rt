@@ -341,7 +341,7 @@ fn early_cause(near: bool, parts: &Line<'_>) -> Cause
 }
 
 // E17 and E18: a symbol that no line, or no earlier one, defines.
-fn symbol_cause(words: &'static [u8], near: bool, parts: &Line<'_>) -> Cause
+pub(crate) fn symbol_cause(words: &'static [u8], near: bool, parts: &Line<'_>) -> Cause
     ensures { cause_in result ≡ symbol_cause words.now near (parts_in parts.now) }
 {
     if let Some(place) = value_in(registers(), text_of(parts.operand)) {
@@ -455,14 +455,14 @@ pub(crate) fn text_of(field: Option<Field<'_>>) -> &[u8]
 }
 
 // Whether a text holds a byte.
-fn holds(byte: u8, text: &[u8]) -> bool
+pub(crate) fn holds(byte: u8, text: &[u8]) -> bool
     ensures { result ≡ holds byte text.now }
 {
     text.contains(&byte)
 }
 
 // Whether a text begins with a byte.
-fn begins(byte: u8, text: &[u8]) -> bool
+pub(crate) fn begins(byte: u8, text: &[u8]) -> bool
     ensures { result ≡ begins byte text.now }
 {
     match text.first() {
@@ -471,8 +471,8 @@ fn begins(byte: u8, text: &[u8]) -> bool
     }
 }
 
-// Whether a plus or a minus sign stands first.
-fn is_signed(text: &[u8]) -> bool
+/// Whether a plus or a minus sign stands first.
+pub(crate) fn is_signed(text: &[u8]) -> bool
     ensures { result ≡ is_signed text.now }
 {
     begins(b'+', text) || begins(b'-', text)
@@ -486,7 +486,7 @@ fn is_foreign_comment(text: &[u8]) -> bool
 }
 
 // Whether such a comment stands for the operand or the offset.
-fn has_foreign_comment(parts: &Line<'_>) -> bool
+pub(crate) fn has_foreign_comment(parts: &Line<'_>) -> bool
     ensures { result ≡ has_foreign_comment (parts_in parts.now) }
 {
     is_foreign_comment(text_of(parts.operand)) || is_foreign_comment(text_of(parts.offset))
@@ -664,7 +664,7 @@ const FOREIGN_OPERATORS: [(&str, &str); 27] = [
     ("2OCT", "two words: an OCT for each"),
 ];
 
-fn label_refusers() -> &'static [&'static str]
+pub(crate) fn label_refusers() -> &'static [&'static str]
     ensures { map (λ name. name.now) result.now ≡ label_refusers }
 {
     &LABEL_REFUSERS

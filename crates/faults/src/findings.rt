@@ -1,6 +1,6 @@
 //! The faults and the warnings of a source as lines of text.
 
-ghost use Rattle.std.specs.Prelude.{◌≡◌, ◌<◌, ◌≤◌, ◌++◌, ◌+◌, ◌-◌, ◌==◌, map, take, length, replicate, codes, decimal, flat_map, max, unwrap_or, [], if◌then◌else◌, OnOk, IfOk};
+ghost use Rattle.std.specs.Prelude.{◌≡◌, ◌<◌, ◌≤◌, ◌++◌, ◌+◌, ◌-◌, ◌==◌, map, take, length, replicate, codes, decimal, flat_map, max, unwrap_or, [], Some, if◌then◌else◌, OnOk, IfOk};
 ghost use Rattle.std.specs.Option.{option_map};
 ghost use Rattle.agc_text.specs.Lines.{lines};
 ghost use Rattle.agc_text.specs.Bytes.{space};
@@ -9,17 +9,20 @@ ghost use Rattle.faults.specs.Warnings.{parts_in};
 ghost use Rattle.faults.specs.Shown.{shown_byte};
 ghost use Rattle.faults.specs.Causes.{filled, filled_byte, of_line};
 ghost use Rattle.faults.specs.Views.{cause_in};
-ghost use Rattle.faults.specs.Report.{margin_byte, numbered, row_text, marks_text, place_text, kind_text, cause_of, caused_text, message_text, cure_text, finding_text, text_at, shown_finding, shown_line, as_label, told_by_line, labels_of, sought_labels, has_label, first_line, count_before, as_error, as_warning, merged, counted, count_text, report};
+ghost use Rattle.faults.specs.Report.{margin_byte, numbered, row_text, marks_text, place_text, kind_text, cause_of, caused_text, message_text, cure_text, finding_text, text_at, shown_finding, shown_line, as_label, told_by_line, labels_of, sought_labels, has_label, first_line, count_before, as_error, as_warning, merged, counted, count_text, interpretive_text, listed_around, told_text, report};
 
-use crate::causes::{Cause, fault_cause, near_label, text_of, warning_cause};
+use crate::causes::{Cause, near_label, text_of, warning_cause};
+use crate::flight_causes::told_cause;
+use crate::interpretive::{count_before_first, interpretive_cause, told_faults};
 use crate::kinds::push_kind_of_source;
-use crate::mistakes::{add_field, parts_of};
+use crate::mistakes::add_field;
 use crate::names::NameSet;
+use crate::parts::parts_for;
 use agc_text::{Line, is_text, next_line};
 use arrayvec::ArrayVec;
 use std::alloc::{AllocError, Global};
 use words::push_decimal;
-use yayul::{Finding, Span};
+use yayul::{Finding, Language, Span};
 
 /// How many digits a number has at most.
 pub(crate) const DIGITS: usize = 20;
@@ -39,24 +42,112 @@ pub enum Severity {
     Warning,
 }
 
-/// The lines of the faults and the warnings of a source, which has this name, in the order of lines, and what is said where it has faults and is a
+/// The lines of the faults and the warnings of a source of a language, which has this name, in the order of lines, and what is said where it has faults and is a
 /// file of another kind.
 #[tactic(auto, unfolding(crate::specs::Report::report))]
 pub fn report(
     alloc: Global,
+    language: Language,
     name: &[u8],
     source: &[u8],
     faults: &[Finding],
     warnings: &[Finding],
 ) -> Result<Vec<u8>, AllocError>
-    ensures { IfOk result (λ text. text.items ≡ report name.now source.now faults.now warnings.now) }
+    ensures { IfOk result (λ text. text.items ≡ report language name.now source.now faults.now warnings.now) }
 {
     let texts = line_texts(alloc, source)?;
-    let labels = sought_labels(alloc, &texts, faults)?;
     let mut out = Vec::new(alloc);
-    push_merged(&mut out, name, &labels, &texts, faults, warnings)?;
+    push_told(alloc, &mut out, language, name, &texts, faults, warnings)?;
     push_kind(&mut out, name, source, &texts, faults)?;
     Ok(out)
+}
+
+// Appends the lines of the faults that are told and of the warnings.
+fn push_told(
+    alloc: Global,
+    out: &mut Vec<u8>,
+    language: Language,
+    name: &[u8],
+    texts: &[&[u8]],
+    faults: &[Finding],
+    warnings: &[Finding],
+) -> Result<(), AllocError>
+    ensures { OnOk result (out.new.items ≡ out.old.items ++ told_text language name.now (map (λ t. t.now) texts.now) faults.now warnings.now) }
+{
+    let told = told_faults(alloc, language, texts, faults)?;
+    let labels = sought_labels(alloc, language, texts, &told)?;
+    let before = count_before_first(language, texts, faults);
+    let count = faults.len().saturating_sub(told.len()).saturating_add(1);
+    push_around(
+        alloc, out, language, name, &labels, texts, before, count, &told, warnings,
+    )
+}
+
+// Appends the lines of faults and warnings, of which the fault after so many is the first of the interpretive language, and stands for so many.
+fn push_around(
+    alloc: Global,
+    out: &mut Vec<u8>,
+    language: Language,
+    name: &[u8],
+    labels: &NameSet,
+    texts: &[&[u8]],
+    before: usize,
+    count: usize,
+    faults: &[Finding],
+    warnings: &[Finding],
+) -> Result<(), AllocError>
+    ensures { OnOk result (out.new.items ≡ out.old.items ++ listed_around language name.now labels.now (map (λ t. t.now) texts.now) before count faults.now warnings.now) }
+{
+    let Some(first) = faults.get(before) else {
+        return push_merged(out, language, name, labels, texts, faults, warnings);
+    };
+    let (earlier, later) = warnings.split_at(count_before(first.line, warnings));
+    push_merged(
+        out,
+        language,
+        name,
+        labels,
+        texts,
+        &faults[..before],
+        earlier,
+    )?;
+    push_interpretive(alloc, out, language, name, texts, count, first)?;
+    push_merged(
+        out,
+        language,
+        name,
+        labels,
+        texts,
+        &faults[before + 1..],
+        later,
+    )
+}
+
+// Appends the lines of the first fault of the interpretive language, which stands for so many.
+fn push_interpretive(
+    alloc: Global,
+    out: &mut Vec<u8>,
+    language: Language,
+    name: &[u8],
+    texts: &[&[u8]],
+    count: usize,
+    first: &Finding,
+) -> Result<(), AllocError>
+    ensures { OnOk result (out.new.items ≡ out.old.items ++ interpretive_text language name.now (map (λ t. t.now) texts.now) count (Some first.now)) }
+{
+    let text = text_at(texts, first.line);
+    let mut lines = Vec::new(alloc);
+    push_counted(&mut lines, count, b"line")?;
+    push_caused(
+        out,
+        name,
+        text,
+        &parts_for(language, text),
+        &lines,
+        Severity::Error,
+        first,
+        &interpretive_cause(),
+    )
 }
 
 // Appends what is said of a source with faults that is a file of another kind.
@@ -87,23 +178,28 @@ pub fn counts(alloc: Global, faults: usize, warnings: usize) -> Result<Vec<u8>, 
 }
 
 // The labels that faults are told with: those of all lines, where few faults are told.
-fn sought_labels(alloc: Global, texts: &[&[u8]], faults: &[Finding]) -> Result<NameSet, AllocError>
-    ensures { IfOk result (λ labels. labels ≡ sought_labels (map (λ t. t.now) texts.now) faults.now) }
+fn sought_labels(
+    alloc: Global,
+    language: Language,
+    texts: &[&[u8]],
+    faults: &[Finding],
+) -> Result<NameSet, AllocError>
+    ensures { IfOk result (λ labels. labels ≡ sought_labels language (map (λ t. t.now) texts.now) faults.now) }
 {
     if faults.len() <= MOST_FAULTS {
-        labels_of(alloc, texts)
+        labels_of(alloc, language, texts)
     } else {
         Ok(NameSet::new(alloc))
     }
 }
 
 // The labels of some lines, each once.
-fn labels_of(alloc: Global, texts: &[&[u8]]) -> Result<NameSet, AllocError>
-    ensures { IfOk result (λ labels. labels ≡ labels_of (map (λ t. t.now) texts.now)) }
+fn labels_of(alloc: Global, language: Language, texts: &[&[u8]]) -> Result<NameSet, AllocError>
+    ensures { IfOk result (λ labels. labels ≡ labels_of language (map (λ t. t.now) texts.now)) }
 {
     let mut labels = NameSet::new(alloc);
     for text in texts {
-        add_field(&mut labels, parts_of(text).label)?;
+        add_field(&mut labels, parts_for(language, text).label)?;
     }
     Ok(labels)
 }
@@ -124,22 +220,23 @@ pub(crate) fn line_texts(alloc: Global, source: &[u8]) -> Result<Vec<&[u8]>, All
 // Appends the lines of faults and warnings, in the order of lines.
 fn push_merged(
     out: &mut Vec<u8>,
+    language: Language,
     name: &[u8],
     labels: &NameSet,
     texts: &[&[u8]],
     faults: &[Finding],
     warnings: &[Finding],
 ) -> Result<(), AllocError>
-    ensures { OnOk result (out.new.items ≡ out.old.items ++ flat_map (shown_finding name.now labels.now (map (λ t. t.now) texts.now)) (merged faults.now warnings.now)) }
+    ensures { OnOk result (out.new.items ≡ out.old.items ++ flat_map (shown_finding language name.now labels.now (map (λ t. t.now) texts.now)) (merged faults.now warnings.now)) }
 {
     let mut rest = warnings;
     for fault in faults {
         let (earlier, later) = rest.split_at(count_before(fault.line, rest));
-        push_warnings(out, name, labels, texts, earlier)?;
-        push_shown_finding(out, name, labels, texts, Severity::Error, fault)?;
+        push_warnings(out, language, name, labels, texts, earlier)?;
+        push_shown_finding(out, language, name, labels, texts, Severity::Error, fault)?;
         rest = later;
     }
-    push_warnings(out, name, labels, texts, rest)
+    push_warnings(out, language, name, labels, texts, rest)
 }
 
 // How many of some findings in order stand before a line.
@@ -158,15 +255,24 @@ fn count_before(line: u32, findings: &[Finding]) -> usize
 // Appends the lines of some warnings.
 fn push_warnings(
     out: &mut Vec<u8>,
+    language: Language,
     name: &[u8],
     labels: &NameSet,
     texts: &[&[u8]],
     warnings: &[Finding],
 ) -> Result<(), AllocError>
-    ensures { OnOk result (out.new.items ≡ out.old.items ++ flat_map (shown_finding name.now labels.now (map (λ t. t.now) texts.now)) (map as_warning warnings.now)) }
+    ensures { OnOk result (out.new.items ≡ out.old.items ++ flat_map (shown_finding language name.now labels.now (map (λ t. t.now) texts.now)) (map as_warning warnings.now)) }
 {
     for warning in warnings {
-        push_shown_finding(out, name, labels, texts, Severity::Warning, warning)?;
+        push_shown_finding(
+            out,
+            language,
+            name,
+            labels,
+            texts,
+            Severity::Warning,
+            warning,
+        )?;
     }
     Ok(())
 }
@@ -174,22 +280,24 @@ fn push_warnings(
 // Appends the lines of a finding.
 fn push_shown_finding(
     out: &mut Vec<u8>,
+    language: Language,
     name: &[u8],
     labels: &NameSet,
     texts: &[&[u8]],
     severity: Severity,
     finding: &Finding,
 ) -> Result<(), AllocError>
-    ensures { OnOk result (out.new.items ≡ out.old.items ++ shown_finding name.now labels.now (map (λ t. t.now) texts.now) (severity, finding.now)) }
+    ensures { OnOk result (out.new.items ≡ out.old.items ++ shown_finding language name.now labels.now (map (λ t. t.now) texts.now) (severity, finding.now)) }
 {
     let text = text_at(texts, finding.line);
     push_shown_line(
         out,
+        language,
         name,
         labels,
         texts,
         text,
-        &parts_of(text),
+        &parts_for(language, text),
         severity,
         finding,
     )
@@ -199,6 +307,7 @@ fn push_shown_finding(
 #[tactic(auto, using(words::proofs::Digits::short_decimal), unfolding(crate::specs::Report::shown_line))]
 fn push_shown_line(
     out: &mut Vec<u8>,
+    language: Language,
     name: &[u8],
     labels: &NameSet,
     texts: &[&[u8]],
@@ -207,18 +316,18 @@ fn push_shown_line(
     severity: Severity,
     finding: &Finding,
 ) -> Result<(), AllocError>
-    ensures { OnOk result (out.new.items ≡ out.old.items ++ shown_line name.now labels.now (map (λ t. t.now) texts.now) text.now (parts_in parts.now) (severity, finding.now)) }
+    ensures { OnOk result (out.new.items ≡ out.old.items ++ shown_line language name.now labels.now (map (λ t. t.now) texts.now) text.now (parts_in parts.now) (severity, finding.now)) }
 {
     match told_by_line(labels, parts, finding.number) {
         Some(label) => {
             let mut digits = ArrayVec::<u8, DIGITS>::new();
-            push_decimal(&mut digits, first_line(texts, label));
+            push_decimal(&mut digits, first_line(language, texts, label));
             let line = Some(digits.as_slice());
-            push_finding(out, name, text, parts, line, severity, finding)
+            push_finding(out, language, name, text, parts, line, severity, finding)
         }
         None => {
             let near = near_label(labels, parts, finding);
-            push_finding(out, name, text, parts, near, severity, finding)
+            push_finding(out, language, name, text, parts, near, severity, finding)
         }
     }
 }
@@ -242,11 +351,11 @@ fn as_label<'a>(labels: &NameSet, name: &'a [u8]) -> Option<&'a [u8]>
 }
 
 // The number of the first line that has a label.
-fn first_line(texts: &[&[u8]], label: &[u8]) -> u64
-    ensures { result ≡ first_line (map (λ t. t.now) texts.now) label.now }
+fn first_line(language: Language, texts: &[&[u8]], label: &[u8]) -> u64
+    ensures { result ≡ first_line language (map (λ t. t.now) texts.now) label.now }
 {
     for (index, text) in texts.iter().enumerate() {
-        if has_label(text, label) {
+        if has_label(language, text, label) {
             return index as u64 + 1;
         }
     }
@@ -254,10 +363,10 @@ fn first_line(texts: &[&[u8]], label: &[u8]) -> u64
 }
 
 // Whether a line has a label.
-fn has_label(text: &[u8], label: &[u8]) -> bool
-    ensures { result ≡ has_label label.now text.now }
+fn has_label(language: Language, text: &[u8], label: &[u8]) -> bool
+    ensures { result ≡ has_label language label.now text.now }
 {
-    text_of(parts_of(text).label) == label
+    text_of(parts_for(language, text).label) == label
 }
 
 /// The line of a number; one that does not stand is empty.
@@ -299,16 +408,17 @@ fn kind_text(severity: Severity) -> &'static [u8]
 
 // Why it is one, and how it is mended.
 fn cause_of(
+    language: Language,
     severity: Severity,
     near: bool,
     text: &[u8],
     parts: &Line<'_>,
     finding: &Finding,
 ) -> Cause
-    ensures { cause_in result ≡ cause_of severity near text.now (parts_in parts.now) finding.now }
+    ensures { cause_in result ≡ cause_of language severity near text.now (parts_in parts.now) finding.now }
 {
     match severity {
-        Severity::Error => fault_cause(text, parts, near, finding),
+        Severity::Error => told_cause(language, near, text, parts, finding),
         Severity::Warning => warning_cause(parts, finding.number),
     }
 }
@@ -425,6 +535,7 @@ fn push_marks(out: &mut Vec<u8>, text: &[u8], finding: &Finding) -> Result<(), A
 // Appends the lines of a fault.
 fn push_finding(
     out: &mut Vec<u8>,
+    language: Language,
     name: &[u8],
     text: &[u8],
     parts: &Line<'_>,
@@ -432,9 +543,9 @@ fn push_finding(
     severity: Severity,
     finding: &Finding,
 ) -> Result<(), AllocError>
-    ensures { OnOk result (out.new.items ≡ out.old.items ++ finding_text name.now text.now (parts_in parts.now) (option_map (λ label. label.now) near.entry) severity finding.now) }
+    ensures { OnOk result (out.new.items ≡ out.old.items ++ finding_text language name.now text.now (parts_in parts.now) (option_map (λ label. label.now) near.entry) severity finding.now) }
 {
-    let cause = cause_of(severity, near.is_some(), text, parts, finding);
+    let cause = cause_of(language, severity, near.is_some(), text, parts, finding);
     push_caused(
         out,
         name,

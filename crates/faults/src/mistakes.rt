@@ -11,6 +11,7 @@ ghost use Rattle.faults.specs.Warnings.{parts_of, parts_in, is_among, has_operat
 use crate::findings::line_texts;
 use crate::flow::{Before, is_instruction, warn_of_end, warn_of_vector};
 use crate::names::{NameSet, is_among, is_short};
+use crate::parts::parts_for;
 use crate::registers::warn_of_register;
 use crate::switched::{Banks, Region, is_common};
 use agc_text::{Field, Line, Number, octal_value};
@@ -31,7 +32,7 @@ pub fn warnings(
     ensures { IfOk result (λ found. found.items ≡ warnings language unused source.now) }
 {
     let lines = looked_at(alloc, language, source)?;
-    let names = Names::of(alloc, &lines)?;
+    let names = Names::of(alloc, language, &lines)?;
     let mut found = Vec::new(alloc);
     names.warn(language, unused, &lines, &mut found)?;
     Ok(found)
@@ -65,9 +66,9 @@ struct Names {
 }
 
 impl Names {
-    // The names of some lines.
-    fn of(alloc: Global, lines: &[&[u8]]) -> Result<Names, AllocError>
-        ensures { IfOk result (λ names. names ≡ names_of (map (λ text. text.now) lines.now)) }
+    // The names of some lines of a language.
+    fn of(alloc: Global, language: Language, lines: &[&[u8]]) -> Result<Names, AllocError>
+        ensures { IfOk result (λ names. names ≡ names_of language (map (λ text. text.now) lines.now)) }
     {
         let mut names = Names {
             singles: NameSet::new(alloc),
@@ -78,7 +79,7 @@ impl Names {
             sets_fixed: false,
         };
         for text in lines {
-            names.note(&parts_of(text))?;
+            names.note(&parts_for(language, text))?;
         }
         names.sets_erasable = names.banks.may_set_erasable();
         names.sets_fixed = names.banks.may_set_fixed();
@@ -115,7 +116,7 @@ impl Names {
     {
         let mut before = Before::at_start();
         for (index, text) in lines.iter().enumerate() {
-            let parts = parts_of(text);
+            let parts = parts_for(language, text);
             let after = &lines[index + 1..];
             self.warn_of(
                 language,
