@@ -1,4 +1,5 @@
 pub mod Merging
+mod Around
 mod GrowingTexts
 mod WarningRows
 mod CauseRows

@@ -7,8 +7,8 @@ use Rattle.yayul.specs.Flight.{is_count}
 use Rattle.yayul.specs.declared.finding.Finding.{Finding}
 use Rattle.yayul.specs.declared.language.Language.{Language}
 use Rattle.yayul.specs.declared.language.Language.TheVariants.{Flight, Standard}
-use Rattle.faults.specs.Causes.{Cause, bank_operators, begins, cured, fault_cause, has_foreign_comment, holds, is_signed, label_refusers, said, symbol_cause, text_of}
-use Rattle.faults.specs.Warnings.{Parts, erase_operators, has_operator, is_short}
+use Rattle.faults.specs.Causes.{Cause, begins, cured, fault_cause, has_foreign_comment, holds, is_signed, label_refusers, said, symbol_cause, text_of}
+use Rattle.faults.specs.Warnings.{bank_operators, Parts, erase_operators, has_operator, is_short}
 
 -- ## Classes of operators
 -- those whose words are not known for sure

@@ -77,7 +77,7 @@ fn push_told(
     let told = told_faults(alloc, language, texts, faults)?;
     let labels = sought_labels(alloc, language, texts, &told)?;
     let before = count_before_first(language, texts, faults);
-    let count = faults.len().saturating_sub(told.len()).saturating_add(1);
+    let count = faults.len().saturating_sub(told.len()) + 1;
     push_around(
         alloc, out, language, name, &labels, texts, before, count, &told, warnings,
     )
