@@ -14,7 +14,7 @@ use Rattle.faults.specs.declared.findings.Severity.{Severity}
 use Rattle.faults.specs.declared.flow.Before.{Before}
 use Rattle.faults.specs.declared.mistakes.Names.{Names}
 use Rattle.faults.specs.Report.{count_before, as_error, as_warning, merged}
-use Rattle.faults.specs.Warnings.{Parts, is_short, is_among, with_name, parts_of, before_next, line_warnings, warned_lines}
+use Rattle.faults.specs.Warnings.{is_short, is_among, with_name, parts_of, before_next, line_warnings, warned_lines}
 
 -- a fault, after the warnings of earlier lines
 pub merged_step :
@@ -33,15 +33,13 @@ merged_step g faults rest warnings f o0 o1 o2 next e1 e2 =
 
 -- the warnings of a line, and of those after it
 pub warned_step :
-    (language : Language) (unused : Bool) (names : Names) (before next : Before) (line : ℕ) (texts rest : List (List ℕ)) (text : List ℕ) (parts : Parts) (o0 o1 : List Finding)
-    → texts ≡ text ∷ rest → parts ≡ parts_of text → next ≡ before_next before parts → o1 ≡ o0 ++ line_warnings language unused names before rest line parts
-    → o1 ++ warned_lines language unused names next (line + 1) rest ≡ o0 ++ warned_lines language unused names before line texts
-warned_step language unused names before next line texts rest text parts o0 o1 begins is after e =
-    ap (λ o. o ++ warned_lines language unused names next (line + 1) rest) (e ∙ ap (λ p. o0 ++ line_warnings language unused names before rest line p) is)
-    ∙ append_assoc o0 (line_warnings language unused names before rest line (parts_of text)) (warned_lines language unused names next (line + 1) rest)
-    ∙ ap (λ n. o0 ++ line_warnings language unused names before rest line (parts_of text) ++ warned_lines language unused names n (line + 1) rest)
-    (after ∙ ap (before_next before) is)
-    ∙ ap (λ t. o0 ++ warned_lines language unused names before line t) (sym begins)
+    (language : Language) (unused : Bool) (names : Names) (before : Before) (line : ℕ) (texts rest : List (List ℕ)) (text : List ℕ) (o0 o1 : List Finding)
+    → texts ≡ text ∷ rest → o1 ≡ o0 ++ line_warnings language unused names before rest line (parts_of text)
+    → o1 ++ warned_lines language unused names (before_next before (parts_of text)) (line + 1) rest ≡ o0 ++ warned_lines language unused names before line texts
+warned_step language unused names before line texts rest text o0 o1 next e =
+    ap (λ o. o ++ warned_lines language unused names (before_next before (parts_of text)) (line + 1) rest) e
+    ∙ append_assoc o0 (line_warnings language unused names before rest line (parts_of text)) (warned_lines language unused names (before_next before (parts_of text)) (line + 1) rest)
+    ∙ ap (λ t. o0 ++ warned_lines language unused names before line t) (sym next)
 
 -- a name that is defined in a table where it is not there yet
 pub name_added :
