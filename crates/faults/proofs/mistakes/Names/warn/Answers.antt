@@ -1,4 +1,4 @@
-use Rattle.std.proofs.Common.{◌≡◌, ◌∙◌, ◌+◌, ◌++◌, List, ℕ, Bor, [], ap, arith, drop, get_or, map}
+use Rattle.std.proofs.Common.{◌∙◌, ◌+◌, ◌++◌, List, ℕ, Bor, [], ap, arith, drop, get_or, map}
 use Rattle.std.proofs.lemmas.List.{drop_more}
 use Rattle.faults.specs.Warnings.{parts_in, before_next, line_warnings, warned_lines}
 use Rattle.faults.proofs.Merging.{warned_step}
