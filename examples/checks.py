@@ -61,6 +61,7 @@ SAID = [
     (" 2DEC 1.5", [(1, 2, "E15: 2DEC is no operator of this assembler", "two words: a DEC for each")]),
     (" SETLOC SUX|SUX OCT 1|SUY OCT 1", [(1, 9, "E18: SETLOC needs the value of SUX here, and no earlier line defines it", "")]),
     (" SETLOC SUZ|SUX OCT 1", [(1, 9, "E18: SETLOC needs the value of SUZ here, and no earlier line defines it", "did you mean SUX?")]),
+    ("\xef\xbb\xbf OCT 1", [(1, 1, "E10: a byte order mark stands in front of the line, and a line holds ASCII alone", "tail -c +4 FILE > NEW")]),
     (" OCT 1 # \xdc", [(1, 10, "E10: this byte is not ASCII, and a line holds ASCII alone, its comment too", "")]),
 ]
 # Feeds, a stroke between two lines, and what is said of each: the line and the column of its first fault, the number with its words, and the cure where one is sure; the first are the mistakes of the manual's rows.
@@ -285,6 +286,8 @@ def check_files(program, room, told):
         got = ran(*files)
         lines = got.stdout.decode("latin-1").split("\n")
         told(f"check of a file of another kind: {wanted[-40:]}", (got.returncode, lines[-3], lines.count(wanted)) == (1, wanted, 1), f"{lines[-5:]}")
+    longest = max(map(len, ran(image).stdout.split(b"\n")))
+    told("what check shows of the lines of an image", longest < 200, str(longest))
     for files in ((source, good), (f"{room}/one.agc", good)):
         told("check of files of their kinds", b": this is " not in ran(*files).stdout, f"{ran(*files)}")
 
@@ -306,8 +309,8 @@ def check_excerpt(program, room, told):
 
 
 def rows_explained(program, number):
-    """What is explained of a number: each mistake, the source that draws it, and its line."""
-    text = subprocess.run([program, "explain", f"E{number}"], capture_output=True, text=True, timeout=60).stdout
+    """What is explained of a number, as E17: each mistake, the source that draws it, and its line."""
+    text = subprocess.run([program, "explain", number], capture_output=True, text=True, timeout=60).stdout
     for part in text.split("\n- ")[1:]:
         mistake, *rest = part.rstrip("\n").split("\n")
         source = [it for it in rest if it.startswith("    ") or it.startswith("  > ")]
@@ -324,7 +327,7 @@ def check_rows(program, manual, told):
     rows = re.findall(r"^\| E(\d+) \| (.*) \| (.*) \| (\d*) ?\|$", manual, re.M)
     for number in sorted({int(it[0]) for it in rows if int(it[0]) >= 10 and it[0] != "34"}):
         wanted = [(plain(mistake), "" if source.startswith("(") else source.strip("`").replace("\xb5", "\\xC2\\xB5"), line) for n, mistake, source, line in rows if int(n) == number]
-        got = list(rows_explained(program, number))
+        got = list(rows_explained(program, f"E{number}"))
         told(f"explain E{number} and the manual", got == wanted, f"wanted {wanted}, got {got}")
     headings = re.findall(r"^\| E(\d+) \| ([^|]*) \| \d \|$", manual, re.M)
     told("the manual's refusals of images, memory and devices", sorted(int(it[0]) for it in headings) == [*range(2, 8), 34], str(headings))
@@ -335,9 +338,11 @@ def check_rows(program, manual, told):
 
 def check_warning_rows(program, room, manual, told):
     """Each row of the manual's table of warnings draws its warning on its line."""
-    rows = re.findall(r"^\| W(\d+) \| (?:.*) \| `(.*)` \| (\d+) \|$", manual, re.M)
+    rows = re.findall(r"^\| W(\d+) \| (.*) \| `(.*)` \| (\d+) \|$", manual, re.M)
     told("the manual's warnings", [int(it[0]) for it in rows] == [*range(1, 10)], str(rows))
-    for number, source, line in rows:
+    for number, mistake, source, line in rows:
+        got = list(rows_explained(program, f"W{number}"))
+        told(f"explain W{number} and the manual", got == [(plain(mistake), source, line)], str(got))
         _, found, _, _ = warned_by(program, written(f"{room}/row.agc", source.replace(";", "\n").encode() + b"\n"), "--unused")
         told(f"the manual's row of W{number}", (int(line), f"W{number}") in {(it[0], it[2]) for it in found}, str(found))
 
@@ -347,9 +352,11 @@ def check_numbers(program, told):
     numbers = [int(it) for it in re.findall(rb"^E(\d+): .", ran().stdout, re.M)]
     told("explain lists the numbers", numbers == [*range(2, 8), *range(10, 27), *range(30, 37)], str(numbers))
     told("explain 17 is explain E17", ran("17") == ran("E17") or ran("17").stdout == ran("E17").stdout)
-    for word in ("99", "E1", "X", "E", "256"):
+    warned = [int(it) for it in re.findall(rb"^W(\d+): .", ran().stdout, re.M)]
+    told("explain lists the numbers of warnings", warned == [*range(1, 10)], str(warned))
+    for word in ("99", "E1", "X", "E", "256", "W", "W0", "W10", "w4"):
         got = ran(word)
-        told(f"explain {word}", (got.returncode, got.stdout, got.stderr) == (2, b"", b"error: no refusal has this number; agcws explain lists them\n"), str(got))
+        told(f"explain {word}", (got.returncode, got.stdout, got.stderr) == (2, b"", b"error: no refusal and no warning has this number; agcws explain lists them\n"), str(got))
 
 
 def sources(count, seed):

@@ -562,11 +562,11 @@ told before stays told.";
 const EXPLAIN_HELP: &str =
     "Output: what the number means, and each mistake that draws it, with a source or
 a feed where one is short, > before its line that is told, and the cure. Without
-a number a line for each.
+a number a line for each, of refusals and then of warnings.
 
 Exit status:
   0  done
-  2  the command line is wrong, or no refusal has the number
+  2  the command line is wrong, or no refusal and no warning has the number
   3  a device or memory failed";
 
 /// The programs and their arguments.
@@ -641,10 +641,10 @@ fn check_command<'a>(alloc: Global) -> Result<Command<'a>, AllocError> {
 /// `agcws explain [NUMBER]`.
 fn explain_command<'a>(alloc: Global) -> Result<Command<'a>, AllocError> {
     Command::new(alloc, EXPLAIN)
-        .about("Tells what the number of a refusal means")
+        .about("Tells what the number of a refusal or of a warning means")
         .after_help(EXPLAIN_HELP)
         .arg(Arg::new(alloc, NUMBER).help(
-            "The number, as E17 or 17; all are listed where none is given",
+            "The number, as E17 or 17, or W4 of a warning; all are listed where none is given",
         ))
 }
 

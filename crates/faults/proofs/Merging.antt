@@ -1,5 +1,5 @@
 -- Lists that are gone through, and what is appended on the way.
-use Rattle.std.proofs.Common.{◌≡◌, ◌∙◌, ℕ, ◌+◌, ◌≤◌, length, arith, Bool, true, not, cond, List, [], ◌∷◌, ◌++◌, map, take, drop, is_some, refl, ap, sym, inl, inr, append_assoc}
+use Rattle.std.proofs.Common.{◌≡◌, ◌∙◌, ℕ, ◌+◌, ◌≤◌, length, arith, Bool, true, not, List, [], ◌∷◌, ◌++◌, map, take, drop, is_some, ap, sym, inl, inr, append_assoc}
 use Rattle.std.specs.Prelude.{flat_map, if◌then◌else◌}
 use Rattle.std.proofs.lemmas.Bool.{cases_Bool}
 use Rattle.std.proofs.lemmas.Bool.Decides.{nat_tests}
@@ -33,8 +33,8 @@ merged_step g faults rest warnings f o0 o1 o2 next e1 e2 =
 
 -- the warnings of a line, and of those after it
 pub warned_step :
-    (language : Language) (unused : Bool) (names : Names) (before : Before) (line : ℕ) (texts rest : List (List ℕ)) (text : List ℕ) (o0 o1 : List Finding) → texts ≡ text ∷ rest
-    → o1 ≡ o0 ++ line_warnings language unused names before rest line (parts_for language text)
+    (language : Language) (unused : Bool) (names : Names) (before : Before) (line : ℕ) (texts rest : List (List ℕ)) (text : List ℕ) (o0 o1 : List Finding)
+    → texts ≡ text ∷ rest → o1 ≡ o0 ++ line_warnings language unused names before rest line (parts_for language text)
     → o1 ++ warned_lines language unused names (before_next before (parts_for language text)) (line + 1) rest ≡ o0 ++ warned_lines language unused names before line texts
 warned_step language unused names before line texts rest text o0 o1 next e =
     ap (λ o. o ++ warned_lines language unused names (before_next before (parts_for language text)) (line + 1) rest) e

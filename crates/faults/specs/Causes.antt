@@ -1,5 +1,5 @@
 -- What a fault is in words, by its cause: a text with marks for the fields of its line, and its cure where one is sure.
-use Rattle.std.specs.Prelude.{ℕ, ◌+◌, ◌-◌, ◌==◌, ◌&&◌, ◌||◌, not, Bool, false, nat_le, nat_lt, List, [], ◌∷◌, ◌++◌, length, map, Option, None, is_some, unwrap_or, codes, flat_map, slice_get, if◌then◌else◌}
+use Rattle.std.specs.Prelude.{ℕ, ◌+◌, ◌-◌, ◌==◌, ◌&&◌, ◌||◌, not, Bool, false, nat_le, List, [], ◌∷◌, ◌++◌, length, map, Option, None, is_some, unwrap_or, codes, flat_map, slice_get, if◌then◌else◌}
 use Rattle.std.specs.List.{find, list_any}
 use Rattle.std.specs.Option.{option_map_or, option_or}
 use Rattle.agc_text.specs.Digits.{digits_value}
@@ -108,9 +108,9 @@ is_near (a ∷ rest) (b ∷ others) =
 
 -- a text that a name is in capitals; one that is near and as long; or one that is near
 abbrev pub is_close : Closeness → List ℕ → List ℕ → Bool
-is_close InCapitals text name = is_in_capitals text name
+is_close InCapitals text name = length text == length name && is_in_capitals text name
 is_close AsLong text name = length text == length name && is_near text name
-is_close Near text name = is_near text name
+is_close Near text name = nat_le (length text) (length name + 1) && nat_le (length name) (length text + 1) && is_near text name
 
 -- the first of some names that is a text in capitals; else, for a text of three bytes or more, one that is near, as long where there is one
 abbrev pub near_name : List (List ℕ) → List ℕ → Option (List ℕ)
@@ -209,10 +209,16 @@ erasable_readers =
     codes "CCS" ∷ codes "INDEX" ∷ codes "NDX" ∷ codes "CAE" ∷ codes "SU" ∷ codes "DV" ∷ codes "MSU" ∷ []
 
 -- ## Causes
+-- the bytes of a byte order mark stand in front
+abbrev pub begins_with_mark : List ℕ → Bool
+begins_with_mark (a ∷ b ∷ c ∷ rest) = a == 0o357 && b == 0o273 && c == 0o277
+begins_with_mark _ = false
+
 -- E10: the byte at a place of a line
 abbrev pub byte_cause : List ℕ → ℕ → Cause
 byte_cause text place =
-    if option_map_or (λ byte. byte == 0o15) (slice_get text place) false then
+    if place == 0 && begins_with_mark text then cured (codes "a byte order mark stands in front of the line, and a line holds ASCII alone") (codes "tail -c +4 FILE > NEW")
+    else if option_map_or (λ byte. byte == 0o15) (slice_get text place) false then
     (if place + 1 == length text then said (codes "a carriage return ends the line; only a line feed may") else said (codes "a carriage return stands in the line"))
     else if option_map_or (λ byte. byte == 0o14) (slice_get text place) false then said (codes "a form feed stands in the line")
     else if option_map_or (λ byte. nat_le 0o200 byte) (slice_get text place) false then said (codes "this byte is not ASCII, and a line holds ASCII alone, its comment too")

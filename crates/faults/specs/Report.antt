@@ -25,13 +25,21 @@ margin_byte byte = if byte == tab then tab else space
 abbrev pub numbered : ℕ → List ℕ
 numbered line = replicate (5 - length (decimal line)) space ++ decimal line
 
+-- how many bytes of a line are shown at most: as many as a line of a source may have
+abbrev pub most_shown : ℕ
+most_shown = 120
+
+-- what is shown of a line
+abbrev pub shown_part : List ℕ → List ℕ
+shown_part text = take most_shown text
+
 -- the line itself, with its number
 abbrev pub row_text : List ℕ → Finding → List ℕ
 row_text text f = numbered f.line ++ codes " | " ++ map shown_byte text ++ codes "\n"
 
 -- carets, where the fault stands
 abbrev pub marks_text : List ℕ → Finding → List ℕ
-marks_text text f = codes "      | " ++ map margin_byte (take f.span.start text) ++ replicate (max 1 f.span.width) 0o136 ++ codes "\n"
+marks_text text f = codes "      | " ++ map margin_byte (take f.span.start text) ++ replicate (max 1 (min f.span.width (length text - f.span.start))) 0o136 ++ codes "\n"
 
 -- where a fault of a file stands: file, line and column, which is at most the one after the last
 abbrev pub place_text : List ℕ → List ℕ → Finding → List ℕ
@@ -57,7 +65,7 @@ cure_text parts label c = if length c.cure == 0 then [] else codes "      = " ++
 
 -- a finding with why it is one, and a text from other lines
 abbrev pub caused_text : List ℕ → List ℕ → Parts → List ℕ → Severity → Finding → Cause → List ℕ
-caused_text name text parts label severity f c = place_text name text f ++ message_text parts label severity f c ++ row_text text f ++ marks_text text f ++ cure_text parts label c
+caused_text name text parts label severity f c = place_text name text f ++ message_text parts label severity f c ++ row_text (shown_part text) f ++ marks_text (shown_part text) f ++ cure_text parts label c
 
 -- a finding, with a text from other lines or none
 abbrev pub finding_text : Language → List ℕ → List ℕ → Parts → Option (List ℕ) → Severity → Finding → List ℕ

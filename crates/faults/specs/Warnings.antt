@@ -325,9 +325,13 @@ no_banks = record { region = Common; erasable = []; fixed = []; erasable_registe
 abbrev pub banks_of : Language → List (List ℕ) → Banks
 banks_of language texts = fold (λ banks text. banks_after banks (parts_for language text)) no_banks texts
 
+-- a field is the number of one of these places, or one of some names
+abbrev pub is_bank_field : BankRegister → List (List ℕ) → List ℕ → Bool
+is_bank_field register names text = is_bank_number register text || is_among names text
+
 -- some line may set a register: by DTCB or DTCF, or by a store at one of its places, by number or by one of some names
 abbrev pub may_set : BankRegister → List (List ℕ) → Banks → Bool
-may_set register names banks = banks.far || list_any (λ text. is_bank_number register text || is_among names text) banks.stored
+may_set register names banks = banks.far || list_any (is_bank_field register names) banks.stored
 
 abbrev pub may_set_erasable : Banks → Bool
 may_set_erasable banks = may_set Eb banks.erasable_registers banks

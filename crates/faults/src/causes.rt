@@ -1,11 +1,11 @@
 //! What a fault is in words, by its cause.
 
-ghost use Rattle.std.specs.Prelude.{◌≡◌, [], map, find, unwrap_or};
+ghost use Rattle.std.specs.Prelude.{◌≡◌, ◌+◌, ◌&&◌, [], length, map, nat_le, find, unwrap_or};
 ghost use Rattle.std.specs.Option.{option_map};
 ghost use Rattle.agc_text.specs.Tables.{value_in};
 ghost use Rattle.agc_text.specs.Views.{piece};
 ghost use Rattle.faults.specs.Warnings.{parts_in, operator_names, bank_operators};
-ghost use Rattle.faults.specs.Causes.{byte_cause, label_cause, operator_cause, digits_cause, place_cause, operand_cause, symbol_cause, undefined_cause, early_cause, bank_cause, room_cause, kind_cause, range_cause, fault_cause, warning_cause, near_label, said, cured, cured_by, text_of, holds, begins, is_signed, is_foreign_comment, has_foreign_comment, is_beyond_octal, near_name, is_close, is_in_capitals, capital, is_near, is_exchanged, foreign_operators, label_refusers, octal_operators, decimal_operators, block_operators, plain_operators, channel_operators, erasable_operators, fixed_operators, jump_operators, writers, erasable_readers};
+ghost use Rattle.faults.specs.Causes.{byte_cause, begins_with_mark, label_cause, operator_cause, digits_cause, place_cause, operand_cause, symbol_cause, undefined_cause, early_cause, bank_cause, room_cause, kind_cause, range_cause, fault_cause, warning_cause, near_label, said, cured, cured_by, text_of, holds, begins, is_signed, is_foreign_comment, has_foreign_comment, is_beyond_octal, near_name, is_close, is_in_capitals, capital, is_near, is_exchanged, foreign_operators, label_refusers, octal_operators, decimal_operators, block_operators, plain_operators, channel_operators, erasable_operators, fixed_operators, jump_operators, writers, erasable_readers};
 ghost use Rattle.faults.specs.Registers.{registers};
 ghost use Rattle.faults.specs.Views.{cause_in, entries};
 
@@ -170,6 +170,12 @@ pub(crate) fn near_label<'a>(
 pub(crate) fn byte_cause(text: &[u8], place: usize) -> Cause
     ensures { cause_in result ≡ byte_cause text.now place }
 {
+    if place == 0 && begins_with_mark(text) {
+        return Cause::cured(
+            b"a byte order mark stands in front of the line, and a line holds ASCII alone",
+            b"tail -c +4 FILE > NEW",
+        );
+    }
     match text.get(place) {
         Some(b'\r') if place + 1 == text.len() => {
             Cause::said(b"a carriage return ends the line; only a line feed may")
@@ -180,6 +186,16 @@ pub(crate) fn byte_cause(text: &[u8], place: usize) -> Cause
             Cause::said(b"this byte is not ASCII, and a line holds ASCII alone, its comment too")
         }
         _ => Cause::said(b"this byte is no character that prints, no blank and no tab"),
+    }
+}
+
+// The bytes of a byte order mark stand in front.
+fn begins_with_mark(text: &[u8]) -> bool
+    ensures { result ≡ begins_with_mark text.now }
+{
+    match text {
+        [a, b, c, ..] => *a == 0o357 && *b == 0o273 && *c == 0o277,
+        _ => false,
     }
 }
 
@@ -549,10 +565,17 @@ pub(crate) fn is_close(closeness: Closeness, text: &[u8], name: &[u8]) -> bool
     ensures { result ≡ is_close closeness text.now name.now }
 {
     match closeness {
-        Closeness::InCapitals => is_in_capitals(text, name),
+        Closeness::InCapitals => text.len() == name.len() && is_in_capitals(text, name),
         Closeness::AsLong => text.len() == name.len() && is_near(text, name),
-        Closeness::Near => is_near(text, name),
+        Closeness::Near => is_about_as_long(text, name) && is_near(text, name),
     }
+}
+
+// Whether a text has one byte more than a name at most, and one less at least.
+fn is_about_as_long(text: &[u8], name: &[u8]) -> bool
+    ensures { result ≡ (nat_le (length text.now) (length name.now + 1) && nat_le (length name.now) (length text.now + 1)) }
+{
+    text.len().abs_diff(name.len()) <= 1
 }
 
 /// Whether a text in capitals is a name.

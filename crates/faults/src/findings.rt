@@ -9,7 +9,7 @@ ghost use Rattle.faults.specs.Warnings.{parts_in};
 ghost use Rattle.faults.specs.Shown.{shown_byte};
 ghost use Rattle.faults.specs.Causes.{filled, filled_byte, of_line};
 ghost use Rattle.faults.specs.Views.{cause_in};
-ghost use Rattle.faults.specs.Report.{margin_byte, numbered, row_text, marks_text, place_text, kind_text, cause_of, caused_text, message_text, cure_text, finding_text, text_at, shown_finding, shown_line, as_label, told_by_line, labels_of, sought_labels, has_label, first_line, count_before, as_error, as_warning, merged, counted, count_text, interpretive_text, listed_around, told_text, report};
+ghost use Rattle.faults.specs.Report.{margin_byte, numbered, shown_part, row_text, marks_text, place_text, kind_text, cause_of, caused_text, message_text, cure_text, finding_text, text_at, shown_finding, shown_line, as_label, told_by_line, labels_of, sought_labels, has_label, first_line, count_before, as_error, as_warning, merged, counted, count_text, interpretive_text, listed_around, told_text, report};
 
 use crate::causes::{Cause, near_label, text_of, warning_cause};
 use crate::flight_causes::told_cause;
@@ -26,6 +26,9 @@ use yayul::{Finding, Language, Span};
 
 /// How many digits a number has at most.
 pub(crate) const DIGITS: usize = 20;
+
+/// How many bytes of a line are shown at most.
+const MOST_SHOWN: usize = 120;
 
 /// The most faults of a source that are told with labels of other lines.
 const MOST_FAULTS: usize = 100;
@@ -509,6 +512,13 @@ fn push_of_line(out: &mut Vec<u8>, digits: &[u8]) -> Result<(), AllocError>
     Ok(())
 }
 
+// What is shown of a line.
+fn shown_part(text: &[u8]) -> &[u8]
+    ensures { result.now ≡ shown_part text.now }
+{
+    &text[..text.len().min(MOST_SHOWN)]
+}
+
 // Appends the line of a fault.
 fn push_row(out: &mut Vec<u8>, text: &[u8], finding: &Finding) -> Result<(), AllocError>
     ensures { OnOk result (out.new.items ≡ out.old.items ++ row_text text.now finding.now) }
@@ -527,7 +537,8 @@ fn push_marks(out: &mut Vec<u8>, text: &[u8], finding: &Finding) -> Result<(), A
     let Span { start, width } = finding.span;
     out.extend_from_slice(b"      | ")?;
     push_margin(out, &text[..start.min(text.len())])?;
-    push_repeated(out, width.max(1), b'^')?;
+    let within = width.min(text.len().saturating_sub(start));
+    push_repeated(out, within.max(1), b'^')?;
     out.extend_from_slice(b"\n")?;
     Ok(())
 }
@@ -583,8 +594,8 @@ pub(crate) fn push_caused(
 {
     push_place(out, name, text, finding)?;
     push_message(out, parts, label, severity, finding, cause)?;
-    push_row(out, text, finding)?;
-    push_marks(out, text, finding)?;
+    push_row(out, shown_part(text), finding)?;
+    push_marks(out, shown_part(text), finding)?;
     push_cure(out, parts, label, cause)
 }
 

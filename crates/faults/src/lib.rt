@@ -2,6 +2,7 @@
 #![tactic(auto)]
 
 mod causes;
+mod cautions;
 mod explaining;
 mod feeds;
 mod findings;
@@ -17,7 +18,8 @@ mod registers;
 mod slips;
 mod switched;
 
-pub use explaining::{all_headings, explanation};
+pub use cautions::warning_of;
+pub use explaining::{all_headings, explanation, warning_explanation};
 pub use feeds::feed_report;
 pub use findings::{Severity, counts, report};
 pub use mistakes::warnings;

@@ -1,6 +1,6 @@
 //! What in a source is likely a mistake, though it is no fault.
 
-ghost use Rattle.std.specs.Prelude.{◌≡◌, ◌≤◌, ◌++◌, [], map, length, IfOk, OnOk};
+ghost use Rattle.std.specs.Prelude.{◌≡◌, ◌+◌, ◌<◌, ◌≤◌, ◌++◌, [], map, length, drop, IfOk, OnOk};
 ghost use Rattle.std.specs.List.{fold};
 ghost use Rattle.std.specs.Option.{option_map};
 ghost use Rattle.agc_text.specs.Fields.{fields, label_of};
@@ -117,7 +117,7 @@ impl Names {
         let mut before = Before::at_start();
         for (index, text) in lines.iter().enumerate() {
             let parts = parts_for(language, text);
-            let after = &lines[index + 1..];
+            let after = lines_after(lines, index);
             self.warn_of(
                 language,
                 unused,
@@ -243,6 +243,14 @@ impl Names {
             None => Ok(()),
         }
     }
+}
+
+// The lines after the one at an index.
+fn lines_after<'a, 'b>(lines: &'a [&'b [u8]], index: usize) -> &'a [&'b [u8]]
+    requires { index < length lines.now }
+    ensures { result.now ≡ drop (index + 1) lines.now }
+{
+    &lines[index + 1..]
 }
 
 /// A line taken apart.

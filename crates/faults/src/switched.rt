@@ -1,10 +1,10 @@
 //! Words of switched banks that are reached while no line sets the register of these banks.
 
-ghost use Rattle.std.specs.Prelude.{◌≡◌, ◌||◌, map, false, OnOk};
+ghost use Rattle.std.specs.Prelude.{◌≡◌, map, false, OnOk};
 ghost use Rattle.std.specs.List.{list_any};
 ghost use Rattle.std.specs.Option.{option_map, option_map_or};
 ghost use Rattle.agc_text.specs.Views.{piece};
-ghost use Rattle.faults.specs.Warnings.{parts_in, is_among, region_of_place, region_of_bank, region_at, region_after, is_common, is_switched_erasable, is_switched_fixed, value_operators, with_erasable, with_fixed, is_bank_place, is_bank_number, with_bank_name, far_operators, with_stored, banks_after, no_banks, may_set_erasable, may_set_fixed};
+ghost use Rattle.faults.specs.Warnings.{parts_in, region_of_place, region_of_bank, region_at, region_after, is_common, is_switched_erasable, is_switched_fixed, value_operators, with_erasable, with_fixed, is_bank_place, is_bank_number, is_bank_field, with_bank_name, far_operators, with_stored, banks_after, no_banks, may_set_erasable, may_set_fixed};
 
 use crate::causes::bank_operators;
 use crate::flow::{setting_operators, storing_operators};
@@ -102,15 +102,21 @@ impl Banks {
 // Whether a register is set where lines store, by number or by one of some names.
 #[tactic(auto, using(crate::proofs::GrowingTexts::any_here, crate::proofs::GrowingTexts::any_on))]
 fn some_sets(register: BankRegister, names: &NameSet, stored: &NameSet) -> bool
-    ensures { result ≡ list_any (λ text. is_bank_number register text || is_among names.now text) stored.now }
+    ensures { result ≡ list_any (is_bank_field register names.now) stored.now }
 {
     for index in 0..stored.len() {
-        let text = stored.name_at(index);
-        if is_bank_number(register, text) || names.has(text) {
+        if is_bank_field(register, names, stored.name_at(index)) {
             return true;
         }
     }
     false
+}
+
+// Whether a field is the number of a place by which a register is set, or one of some names.
+fn is_bank_field(register: BankRegister, names: &NameSet, text: &[u8]) -> bool
+    ensures { result ≡ is_bank_field register names.now text.now }
+{
+    is_bank_number(register, text) || names.has(text)
 }
 
 fn add_erasable(region: Region, names: &mut NameSet, parts: &Line<'_>) -> Result<(), AllocError>
