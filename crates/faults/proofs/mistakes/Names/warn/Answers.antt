@@ -14,11 +14,11 @@ loop-index-preserved c =
     let rest = map now (drop line c.args.lines.now) in
     let made = c.warn_of.new.found.items in
     ap (λ next. made ++ warned_lines c.args.language c.args.unused c.args.self.now next (line + 1) rest)
-    (c.next-before.ensures ∙ ap (before_next c.loop-index.before) c.parts_of-parts.ensures)
+    (c.next-before.ensures ∙ ap (before_next c.loop-index.before) c.parts_for-parts.ensures)
     ∙ warned_step c.args.language c.args.unused c.args.self.now c.loop-index.before line (map now (drop c.loop-index.index c.args.lines.now)) rest (get_or c.args.lines.now c.loop-index.index nothing).now c.loop-index.found.items made
     (ap (map now) (drop_more c.args.lines.now c.loop-index.index nothing (omega arith)))
     (c.in_ok-warn_of.ensures
-    ∙ ap (λ after. c.loop-index.found.items ++ line_warnings c.args.language c.args.unused c.args.self.now c.loop-index.before (map now after) line (parts_in c.parts_of-parts.result))
+    ∙ ap (λ after. c.loop-index.found.items ++ line_warnings c.args.language c.args.unused c.args.self.now c.loop-index.before (map now after) line (parts_in c.parts_for-parts.result))
     c.lines_after-after.ensures
-    ∙ ap (λ parts. c.loop-index.found.items ++ line_warnings c.args.language c.args.unused c.args.self.now c.loop-index.before rest line parts) c.parts_of-parts.ensures)
+    ∙ ap (λ parts. c.loop-index.found.items ++ line_warnings c.args.language c.args.unused c.args.self.now c.loop-index.before rest line parts) c.parts_for-parts.ensures)
     ∙ c.loop-index.invariant
