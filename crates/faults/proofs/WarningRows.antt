@@ -63,7 +63,7 @@ shown_in_order : report Standard (codes "a") (source (codes " CA 5; TS FIV;Z")) 
     ++ codes "a:2:2: error E25: TS writes to erasable memory, and FIV is not there;    2 |  TS FIV;      |  ^^;"
     ++ codes "      = reserve the word there: SETLOC and a place below 4000, and ERASE;"
     ++ codes "a:2:2: warning W3: TS takes two words, and ERASE reserves one for FIV;    2 |  TS FIV;      |  ^^;      = FIV ERASE +1 reserves two;"
-    ++ codes "a:3:2: warning W8: no operand names Z;    3 | Z;      |  ^^;")
+    ++ codes "a:3:2: warning W8: no operand names Z;    3 | Z;      |  ^;")
 unfolding report shown_line kind_of_source lines digits runs operators parsed
 shown_in_order = refl
 

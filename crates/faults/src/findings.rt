@@ -516,7 +516,14 @@ fn push_of_line(out: &mut Vec<u8>, digits: &[u8]) -> Result<(), AllocError>
 fn shown_part(text: &[u8]) -> &[u8]
     ensures { result.now ≡ shown_part text.now }
 {
-    &text[..text.len().min(MOST_SHOWN)]
+    front(text, MOST_SHOWN)
+}
+
+// The first bytes of a text, so many at most.
+fn front(text: &[u8], most: usize) -> &[u8]
+    ensures { result.now ≡ take most text.now }
+{
+    &text[..most.min(text.len())]
 }
 
 // Appends the line of a fault.
@@ -536,7 +543,7 @@ fn push_marks(out: &mut Vec<u8>, text: &[u8], finding: &Finding) -> Result<(), A
 {
     let Span { start, width } = finding.span;
     out.extend_from_slice(b"      | ")?;
-    push_margin(out, &text[..start.min(text.len())])?;
+    push_margin(out, front(text, start))?;
     let within = width.min(text.len().saturating_sub(start));
     push_repeated(out, within.max(1), b'^')?;
     out.extend_from_slice(b"\n")?;
@@ -594,8 +601,9 @@ pub(crate) fn push_caused(
 {
     push_place(out, name, text, finding)?;
     push_message(out, parts, label, severity, finding, cause)?;
-    push_row(out, shown_part(text), finding)?;
-    push_marks(out, shown_part(text), finding)?;
+    let shown = shown_part(text);
+    push_row(out, shown, finding)?;
+    push_marks(out, shown, finding)?;
     push_cure(out, parts, label, cause)
 }
 
