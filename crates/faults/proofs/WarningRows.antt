@@ -10,7 +10,7 @@ use Rattle.yayul.specs.declared.finding.Finding.{Finding}
 use Rattle.yayul.specs.declared.language.Language.TheVariants.{Standard}
 use Rattle.faults.specs.Kinds.{kind_of_source}
 use Rattle.faults.specs.Warnings.{warnings}
-use Rattle.faults.specs.Report.{count_text, report, shown_line}
+use Rattle.faults.specs.Report.{count_text, report, shown_line, told_text}
 
 -- a source of lines, each but the last followed by a semicolon here
 abbrev source : List ℕ → List ℕ
@@ -51,7 +51,7 @@ shown_in_order : report Standard (codes "a") (source (codes " CA 5; TS FIV;Z")) 
     ++ codes "      = reserve the word there: SETLOC and a place below 4000, and ERASE;"
     ++ codes "a:2:2: warning W3: TS takes two words, and ERASE reserves one for FIV;    2 |  TS FIV;      |  ^^;      = FIV ERASE +1 reserves two;"
     ++ codes "a:3:2: warning W8: no operand names Z;    3 | Z;      |  ^^;")
-unfolding report shown_line kind_of_source lines digits runs operators parsed
+unfolding report told_text shown_line kind_of_source lines digits runs operators parsed
 shown_in_order = refl
 
 -- how many there are
