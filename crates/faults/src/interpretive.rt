@@ -141,7 +141,6 @@ fn next_said(texts: &[&[u8]], line: u32) -> u64
 }
 
 // Those of some lines that stand after so many.
-#[tactic(auto, using(crate::proofs::Around::drop_within))]
 fn lines_after<'a, 'b>(texts: &'b [&'a [u8]], count: usize) -> &'b [&'a [u8]]
     ensures { map (λ t. t.now) result.now ≡ drop count (map (λ t. t.now) texts.now) }
 {
