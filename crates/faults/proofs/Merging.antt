@@ -1,5 +1,5 @@
 -- Lists that are gone through, and what is appended on the way.
-use Rattle.std.proofs.Common.{◌≡◌, ◌∙◌, ℕ, ◌+◌, ◌≤◌, length, arith, Bool, true, not, cond, List, [], ◌∷◌, ◌++◌, map, take, drop, is_some, refl, ap, sym, inl, inr, append_assoc}
+use Rattle.std.proofs.Common.{◌≡◌, ◌∙◌, ℕ, ◌+◌, ◌≤◌, length, arith, Bool, true, not, List, [], ◌∷◌, ◌++◌, map, take, drop, is_some, ap, sym, inl, inr, append_assoc}
 use Rattle.std.specs.Prelude.{flat_map, if◌then◌else◌}
 use Rattle.std.proofs.lemmas.Bool.{cases_Bool}
 use Rattle.std.proofs.lemmas.Bool.Decides.{nat_tests}

@@ -1,6 +1,6 @@
 -- What a fault of a flight source is in words, where these are others than those of the standard language: of a form that is not taken, since what yaYUL makes of it is not known for sure, that
 -- this is so.
-use Rattle.std.specs.Prelude.{ℕ, ◌==◌, ◌&&◌, ◌||◌, not, Bool, false, nat_le, nat_lt, List, [], ◌∷◌, codes, is_some, if◌then◌else◌}
+use Rattle.std.specs.Prelude.{ℕ, ◌==◌, ◌&&◌, not, Bool, false, nat_le, nat_lt, List, [], ◌∷◌, codes, is_some, if◌then◌else◌}
 use Rattle.std.specs.Option.{option_map_or}
 use Rattle.agc_text.specs.Digits.{digits_value}
 use Rattle.yayul.specs.Flight.{is_count}

@@ -1,5 +1,5 @@
 -- What in a source is likely a mistake, though it is no fault: definitions over its lines, whatever stands before them.
-use Rattle.std.specs.Prelude.{ℕ, ◌+◌, ◌-◌, ◌==◌, ◌&&◌, not, Bool, false, nat_le, nat_lt, List, [], ◌∷◌, ◌++◌, length, map, Option, is_some, codes, if◌then◌else◌}
+use Rattle.std.specs.Prelude.{ℕ, ◌+◌, ◌-◌, ◌&&◌, not, Bool, false, nat_le, nat_lt, List, [], ◌∷◌, ◌++◌, length, map, Option, is_some, codes, if◌then◌else◌}
 use Rattle.std.specs.List.{fold, list_any}
 use Rattle.std.specs.Option.{option_map, option_map_or}
 use Rattle.agc_text.specs.Digits.{digits_value}
