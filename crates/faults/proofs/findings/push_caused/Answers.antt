@@ -1,3 +1,4 @@
+use Rattle.std.proofs.Common.{Ok}
 use Rattle.std.proofs.lemmas.Result.{on_ok_weaker}
 use Rattle.faults.proofs.Merging.{five_appended}
 use Rattle.faults.proofs.findings.push_caused.Goals as goal
