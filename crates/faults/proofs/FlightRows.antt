@@ -1,5 +1,5 @@
 -- What is told of the faults of flight sources, by the definitions alone.
-use Rattle.std.proofs.Common.{◌≡◌, ℕ, ◌+◌, List, [], ◌∷◌, ◌++◌, Bool, true, false, refl, map}
+use Rattle.std.proofs.Common.{◌≡◌, ℕ, ◌+◌, List, [], ◌∷◌, ◌++◌, true, false, refl, map, take, drop}
 use Rattle.std.specs.Fmt.{digits}
 use Rattle.std.specs.List.{list_any}
 use Rattle.std.specs.Prelude.{codes, ◌==◌, is_some, if◌then◌else◌}
@@ -9,12 +9,13 @@ use Rattle.feed.specs.Statements.{parsed}
 use Rattle.yayul.specs.Flight.{flight_operator, flight_operators}
 use Rattle.yayul.specs.Operators.{operators}
 use Rattle.yayul.specs.declared.finding.Finding.{Finding}
+use Rattle.yayul.specs.declared.language.Language.{Language}
 use Rattle.yayul.specs.declared.language.Language.TheVariants.{Flight, Standard}
 use Rattle.faults.specs.Causes.{Cause, filled}
 use Rattle.faults.specs.FlightCauses.{downlist_words, bank_words, comparisons, channel_words, count_words, decimals, double_octals, fixed_words, octal_words, told_cause, unsure_effects, unsure_values, unsure_words, verb_nouns}
-use Rattle.faults.specs.Interpretive.{interpretive_operators, told_faults}
+use Rattle.faults.specs.Interpretive.{count_before_first, first_and_others, interpretive_operators}
 use Rattle.faults.specs.Kinds.{kind_of_source}
-use Rattle.faults.specs.Report.{report, shown_line}
+use Rattle.faults.specs.Report.{report, shown_line, told_text}
 use Rattle.faults.specs.Warnings.{Parts, parts_for, warnings}
 
 -- a source of lines, each but the last followed by a semicolon here
@@ -30,6 +31,11 @@ fault f = record { line = f.0; number = f.1; span = record { start = 1; width = 
 abbrev row : Finding → ℕ × ℕ
 row f = (f.line, f.number)
 
+-- the faults that are told of a source of some lines
+abbrev told_faults : Language → List (List ℕ) → List Finding → List Finding
+told_faults language texts faults =
+    take (count_before_first language texts faults) faults ++ first_and_others texts (drop (count_before_first language texts faults) faults)
+
 -- sources with some faults, and those that are told
 abbrev told_rows : List (List ℕ × List (ℕ × ℕ) × List (ℕ × ℕ))
 told_rows =
@@ -42,12 +48,12 @@ told_rows =
     ∷ []
 
 each_told : map {B = List (ℕ × ℕ)} (λ r. map row (told_faults Flight (lines (source r.0)) (map fault r.1))) told_rows ≡ map {B = List (ℕ × ℕ)} (λ r. r.2) told_rows
-unfolding told_faults lines runs
+unfolding lines runs
 each_told = refl
 
 -- of a source of the standard language each fault is told
 all_told : map row (told_faults Standard (lines (source (codes " CALL; CALL"))) (fault (1, 15) ∷ fault (2, 15) ∷ [])) ≡ (1, 15) ∷ (2, 15) ∷ []
-unfolding told_faults lines runs
+unfolding lines runs
 all_told = refl
 
 -- the first is told in its place, and how many there are
@@ -57,7 +63,7 @@ reported : report Flight (codes "a") (source (codes " FROB;+3 CALL; FOO; CA X; C
     ++ codes "a:2:2: warning W2:  is the register or the counter of that number, and not the number;    2 | +3 CALL;      |  ^^;      = a number has a line of its own: NAME OCT , and CALL NAME;"
     ++ codes "a:3:2: warning W3: FOO takes two words, and ERASE reserves one for ;    3 |  FOO;      |  ^^;      =  ERASE +1 reserves two;"
     ++ codes "a:4:2: error E17: no line defines X;    4 |  CA X;      |  ^^;")
-unfolding report told_faults shown_line kind_of_source lines digits runs operators parsed
+unfolding report told_text shown_line kind_of_source lines digits runs operators parsed
 reported = refl
 
 -- none of its operators is one of a flight source

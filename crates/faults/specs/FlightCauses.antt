@@ -1,6 +1,6 @@
 -- What a fault of a flight source is in words, where these are others than those of the standard language: of a form that is not taken, since what yaYUL makes of it is not known for sure, that
 -- this is so.
-use Rattle.std.specs.Prelude.{ℕ, ◌==◌, ◌&&◌, ◌||◌, not, Bool, false, nat_le, nat_lt, List, [], ◌∷◌, codes, is_some, if◌then◌else◌}
+use Rattle.std.specs.Prelude.{ℕ, ◌==◌, ◌&&◌, not, Bool, false, nat_le, nat_lt, List, [], ◌∷◌, codes, is_some, if◌then◌else◌}
 use Rattle.std.specs.Option.{option_map_or}
 use Rattle.agc_text.specs.Digits.{digits_value}
 use Rattle.yayul.specs.Flight.{is_count}
@@ -84,15 +84,22 @@ decimal_cause parts =
     cured (codes "2DEC without a point and without B is not taken: what yaYUL makes of it is not known for sure") (codes "B-28 behind @ makes @ the lower word")
     else said (codes "this is no decimal constant, as .75, 5 B-14 and 1.5 E3 B-14 are")
 
+-- an operator that takes octal digits, without an offset
+abbrev pub has_octal_alone : Parts → Bool
+has_octal_alone parts = has_operator octal_words parts && not (is_some parts.offset)
+
+-- a sign and no count, without an offset
+abbrev pub has_signed_alone : Parts → Bool
+has_signed_alone parts = is_signed (text_of parts.operand) && not (is_count (text_of parts.operand)) && not (is_some parts.offset)
+
 -- E16 of an operand that stands and has not the form that is asked for
 abbrev pub form_cause : Bool → List ℕ → Parts → Finding → Cause
 form_cause near text parts f =
     if has_operator decimals parts then decimal_cause parts
-    else if has_operator octal_words parts && not (is_some parts.offset) then cured (codes "% takes octal digits, 0 to 7, or a sign and such digits, and @ is neither") (codes "DEC takes decimal digits")
+    else if has_octal_alone parts then cured (codes "% takes octal digits, 0 to 7, or a sign and such digits, and @ is neither") (codes "DEC takes decimal digits")
     else if has_operator double_octals parts then said (codes "2OCT takes ten octal digits, 0 to 7, in one field")
     else if has_operator verb_nouns parts then said (codes "VN takes four decimal digits, two of the verb and two of the noun")
-    else if is_signed (text_of parts.operand) && not (is_count (text_of parts.operand)) && not (is_some parts.offset) then
-    said (codes "@ is no symbol, which has 8 characters at most, and no number")
+    else if has_signed_alone parts then said (codes "@ is no symbol, which has 8 characters at most, and no number")
     else fault_cause near text parts f
 
 -- E16 of an operand
@@ -138,18 +145,32 @@ flight_range_cause near text parts f =
     else if is_between_banks parts then said (codes "@ names no place: from 14000 to 17777 the order of the banks is not known for sure")
     else fault_cause near text parts f
 
+-- E13: a label without a label's form
+abbrev pub flight_label_cause : Bool → List ℕ → Parts → Finding → Cause
+flight_label_cause near text parts f = if has_signed_label parts then signed_label_cause parts else fault_cause near text parts f
+
+-- E15: what is no operator
+abbrev pub flight_operator_cause : Bool → List ℕ → Parts → Finding → Cause
+flight_operator_cause near text parts f =
+    if has_operator unsure_words parts then cured (codes "% is not taken: what yaYUL makes of it is not known for sure") (codes "OCT makes a word")
+    else if has_operator unsure_values parts then cured (codes "% is not taken: what yaYUL makes of it is not known for sure") (codes "EQUALS gives & a value")
+    else if has_operator unsure_effects parts then said (codes "% is not taken: what yaYUL makes of it is not known for sure")
+    else if has_operator comparisons parts then cured (codes "% is not taken") (codes "SYMBOLS in the listing has the values of & and @")
+    else fault_cause near text parts f
+
+-- E18: a symbol that has no value where it is asked for
+abbrev pub flight_early_cause : Bool → List ℕ → Parts → Finding → Cause
+flight_early_cause near text parts f = if has_operator equalities parts then waiting_cause near parts else fault_cause near text parts f
+
 -- a fault of a line of a flight source
 abbrev pub flight_cause : Bool → List ℕ → Parts → Finding → Cause
 flight_cause near text parts f =
     if f.number == 11 then said (codes "the line has more than 120 bytes before its comment")
     else if f.number == 12 then said (codes "the source has more than 262144 lines")
-    else if f.number == 13 && has_signed_label parts then signed_label_cause parts
-    else if f.number == 15 && has_operator unsure_words parts then cured (codes "% is not taken: what yaYUL makes of it is not known for sure") (codes "OCT makes a word")
-    else if f.number == 15 && has_operator unsure_values parts then cured (codes "% is not taken: what yaYUL makes of it is not known for sure") (codes "EQUALS gives & a value")
-    else if f.number == 15 && has_operator unsure_effects parts then said (codes "% is not taken: what yaYUL makes of it is not known for sure")
-    else if f.number == 15 && has_operator comparisons parts then cured (codes "% is not taken") (codes "SYMBOLS in the listing has the values of & and @")
+    else if f.number == 13 then flight_label_cause near text parts f
+    else if f.number == 15 then flight_operator_cause near text parts f
     else if f.number == 16 then flight_operand_cause near text parts f
-    else if f.number == 18 && has_operator equalities parts then waiting_cause near parts
+    else if f.number == 18 then flight_early_cause near text parts f
     else if f.number == 25 then flight_kind_cause near text parts f
     else if f.number == 26 then flight_range_cause near text parts f
     else fault_cause near text parts f

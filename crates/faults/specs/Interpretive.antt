@@ -1,5 +1,5 @@
 -- Lines of the interpretive language, which is not taken: which faults of a flight source are of it, and which are told.
-use Rattle.std.specs.Prelude.{ℕ, ◌+◌, ◌-◌, ◌==◌, ◌&&◌, ◌||◌, not, Bool, true, false, List, [], ◌∷◌, ◌++◌, length, take, drop, is_some, codes, if◌then◌else◌}
+use Rattle.std.specs.Prelude.{ℕ, ◌+◌, ◌==◌, ◌&&◌, ◌||◌, not, Bool, true, false, List, [], ◌∷◌, length, drop, is_some, codes, if◌then◌else◌}
 use Rattle.std.specs.List.{position_or_len}
 use Rattle.std.specs.Option.{option_map_or}
 use Rattle.agc_text.specs.Fields.{fields}
@@ -75,7 +75,7 @@ others texts operand (f ∷ fs) =
     if is_of_interpreter texts operand f then others texts (operand_line texts f.line) fs
     else f ∷ others texts operand fs
 
--- the first, which is of one of its lines, and those of the others that are not
+-- the first, which is of one of its lines and stands for all, and those of the others that are not
 abbrev pub first_and_others : List (List ℕ) → List Finding → List Finding
 first_and_others texts [] = []
 first_and_others texts (first ∷ rest) = first ∷ others texts (operand_line texts first.line) rest
@@ -83,11 +83,6 @@ first_and_others texts (first ∷ rest) = first ∷ others texts (operand_line t
 -- how many faults stand before the first of its lines
 abbrev pub count_before_first : Language → List (List ℕ) → List Finding → ℕ
 count_before_first language texts faults = position_or_len (is_interpretive language texts) faults
-
--- the faults that are told: of those of its lines the first, which stands for all
-unfoldable pub told_faults : Language → List (List ℕ) → List Finding → List Finding
-told_faults language texts faults =
-    take (count_before_first language texts faults) faults ++ first_and_others texts (drop (count_before_first language texts faults) faults)
 
 -- what is said of them: `~` stands for how many lines they are
 abbrev pub interpretive_cause : Cause

@@ -1,5 +1,5 @@
 -- The faults and the warnings of a source as lines of text.
-use Rattle.std.specs.Prelude.{ℕ, ◌+◌, ◌-◌, ◌==◌, ◌||◌, List, [], ◌∷◌, ◌++◌, length, map, take, drop, max, min, replicate, codes, decimal, flat_map, nat_le, Bool, Option, Some, None, is_some, slice_get, unwrap_or, if◌then◌else◌}
+use Rattle.std.specs.Prelude.{ℕ, ◌+◌, ◌-◌, ◌==◌, ◌||◌, List, [], ◌∷◌, ◌++◌, length, map, take, drop, max, min, replicate, codes, decimal, flat_map, nat_le, Bool, Option, Some, None, is_some, unwrap_or, if◌then◌else◌}
 use Rattle.std.specs.List.{fold, position_or_len}
 use Rattle.std.specs.Option.{option_map_or}
 use Rattle.agc_text.specs.Bytes.{space, tab}
@@ -10,7 +10,7 @@ use Rattle.yayul.specs.declared.language.Language.{Language}
 use Rattle.faults.specs.Causes.{Cause, filled, near_label, text_of, warning_cause}
 use Rattle.faults.specs.Kinds.{kind_of_source}
 use Rattle.faults.specs.FlightCauses.{told_cause}
-use Rattle.faults.specs.Interpretive.{count_before_first, interpretive_cause, told_faults}
+use Rattle.faults.specs.Interpretive.{count_before_first, first_and_others, interpretive_cause}
 use Rattle.faults.specs.Shown.{shown_byte}
 pub use Rattle.faults.specs.Shown.{text_at}
 use Rattle.faults.specs.Warnings.{Parts, is_among, parts_for, with_field}
@@ -106,9 +106,9 @@ shown_finding language name labels texts f = shown_line language name labels tex
 abbrev pub labels_of : Language → List (List ℕ) → List (List ℕ)
 labels_of language texts = fold (λ labels text. with_field labels (parts_for language text).label) [] texts
 
--- the labels that faults are told with: those of all lines, where at most 100 faults are told
-abbrev pub sought_labels : Language → List (List ℕ) → List Finding → List (List ℕ)
-sought_labels language texts faults = if nat_le (length faults) 100 then labels_of language texts else []
+-- the labels that so many faults are told with: those of all lines, where at most 100 are told
+abbrev pub sought_labels : Language → List (List ℕ) → ℕ → List (List ℕ)
+sought_labels language texts count = if nat_le count 100 then labels_of language texts else []
 
 -- how many of some findings in order stand before a line
 abbrev pub count_before : ℕ → List Finding → ℕ
@@ -141,33 +141,37 @@ count_text errors warnings = counted errors (codes "error") ++ codes ", " ++ cou
 abbrev pub listed : Language → List ℕ → List (List ℕ) → List (List ℕ) → List Finding → List Finding → List ℕ
 listed language name labels texts faults warnings = flat_map (shown_finding language name labels texts) (merged faults warnings)
 
--- the lines of the first fault of the interpretive language, which stands for so many, where there is one
-abbrev pub interpretive_text : Language → List ℕ → List (List ℕ) → ℕ → Option Finding → List ℕ
-interpretive_text language name texts count None = []
-interpretive_text language name texts count (Some f) =
+-- the lines of the first fault of the interpretive language, which stands for so many
+abbrev pub interpretive_text : Language → List ℕ → List (List ℕ) → ℕ → Finding → List ℕ
+interpretive_text language name texts count f =
     caused_text name (text_at texts f.line) (parts_for language (text_at texts f.line)) (counted count (codes "line")) Error f interpretive_cause
 
--- how many of some warnings stand before the line of a fault, all where there is none
-abbrev pub warned_before : Option Finding → List Finding → ℕ
-warned_before None warnings = length warnings
-warned_before (Some f) warnings = count_before f.line warnings
+-- how many of some warnings stand before the line of the first of some faults, all where there is none
+abbrev pub warned_before : List Finding → List Finding → ℕ
+warned_before [] warnings = length warnings
+warned_before (f ∷ fs) warnings = count_before f.line warnings
 
--- the lines of faults and warnings, of which the fault after so many is the first of the interpretive language, and stands for so many
-abbrev pub listed_around : Language → List ℕ → List (List ℕ) → List (List ℕ) → ℕ → ℕ → List Finding → List Finding → List ℕ
-listed_around language name labels texts n count faults warnings =
-    listed language name labels texts (take n faults) (take (warned_before (slice_get faults n) warnings) warnings)
-    ++ interpretive_text language name texts count (slice_get faults n)
-    ++ listed language name labels texts (drop (n + 1) faults) (drop (warned_before (slice_get faults n) warnings) warnings)
+-- the lines of faults and warnings, of which the first fault is of the interpretive language, and stands for so many
+abbrev pub listed_from : Language → List ℕ → List (List ℕ) → List (List ℕ) → ℕ → List Finding → List Finding → List ℕ
+listed_from language name labels texts count [] warnings = listed language name labels texts [] warnings
+listed_from language name labels texts count (f ∷ fs) warnings = interpretive_text language name texts count f ++ listed language name labels texts fs warnings
 
--- how many faults the first of the interpretive language stands for, of so many, where so many are told
-abbrev pub stands_for : ℕ → ℕ → ℕ
-stands_for all told = all - told + 1
+-- the lines of some faults, of faults of which the first is of the interpretive language, and of warnings
+abbrev pub listed_around : Language → List ℕ → List (List ℕ) → List (List ℕ) → ℕ → List Finding → List Finding → List Finding → List ℕ
+listed_around language name labels texts count earlier rest warnings =
+    listed language name labels texts earlier (take (warned_before rest warnings) warnings)
+    ++ listed_from language name labels texts count rest (drop (warned_before rest warnings) warnings)
 
--- the lines of the faults that are told and of the warnings
-abbrev pub told_text : Language → List ℕ → List (List ℕ) → List Finding → List Finding → List ℕ
+-- the same, where of all those faults the first stands for those of the interpretive language
+abbrev pub told_around : Language → List ℕ → List (List ℕ) → List Finding → List Finding → List Finding → List ℕ
+told_around language name texts earlier rest warnings =
+    listed_around language name (sought_labels language texts (length earlier + length (first_and_others texts rest))) texts
+    (length rest - length (first_and_others texts rest) + 1) earlier (first_and_others texts rest) warnings
+
+-- the lines of the faults and the warnings of a source: those of lines of the interpretive language are told by the first
+unfoldable pub told_text : Language → List ℕ → List (List ℕ) → List Finding → List Finding → List ℕ
 told_text language name texts faults warnings =
-    listed_around language name (sought_labels language texts (told_faults language texts faults)) texts (count_before_first language texts faults)
-    (stands_for (length faults) (length (told_faults language texts faults))) (told_faults language texts faults) warnings
+    told_around language name texts (take (count_before_first language texts faults) faults) (drop (count_before_first language texts faults) faults) warnings
 
 -- the lines of the faults and the warnings of a source of a language, and what is said where it has faults and is a file of another kind
 unfoldable pub report : Language → List ℕ → List ℕ → List Finding → List Finding → List ℕ

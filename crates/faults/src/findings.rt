@@ -1,6 +1,6 @@
 //! The faults and the warnings of a source as lines of text.
 
-ghost use Rattle.std.specs.Prelude.{◌≡◌, ◌<◌, ◌≤◌, ◌++◌, ◌+◌, ◌-◌, ◌==◌, map, take, length, replicate, codes, decimal, flat_map, max, unwrap_or, [], Some, if◌then◌else◌, OnOk, IfOk};
+ghost use Rattle.std.specs.Prelude.{◌≡◌, ◌<◌, ◌≤◌, ◌++◌, ◌+◌, ◌-◌, ◌==◌, map, take, length, replicate, codes, decimal, flat_map, max, unwrap_or, [], if◌then◌else◌, OnOk, IfOk};
 ghost use Rattle.std.specs.Option.{option_map};
 ghost use Rattle.agc_text.specs.Lines.{lines};
 ghost use Rattle.agc_text.specs.Bytes.{space};
@@ -9,11 +9,11 @@ ghost use Rattle.faults.specs.Warnings.{parts_in};
 ghost use Rattle.faults.specs.Shown.{shown_byte};
 ghost use Rattle.faults.specs.Causes.{filled, filled_byte, of_line};
 ghost use Rattle.faults.specs.Views.{cause_in};
-ghost use Rattle.faults.specs.Report.{margin_byte, numbered, shown_part, row_text, marks_text, place_text, kind_text, cause_of, caused_text, message_text, cure_text, finding_text, text_at, shown_finding, shown_line, as_label, told_by_line, labels_of, sought_labels, has_label, first_line, count_before, as_error, as_warning, merged, counted, count_text, interpretive_text, listed_around, told_text, report};
+ghost use Rattle.faults.specs.Report.{margin_byte, numbered, shown_part, row_text, marks_text, place_text, kind_text, cause_of, caused_text, message_text, cure_text, finding_text, text_at, shown_finding, shown_line, as_label, told_by_line, labels_of, sought_labels, has_label, first_line, count_before, as_error, as_warning, merged, counted, count_text, interpretive_text, warned_before, listed_from, listed_around, told_around, told_text, report};
 
 use crate::causes::{Cause, near_label, text_of, warning_cause};
 use crate::flight_causes::told_cause;
-use crate::interpretive::{count_before_first, interpretive_cause, told_faults};
+use crate::interpretive::{count_before_first, first_and_others, interpretive_cause};
 use crate::kinds::push_kind_of_source;
 use crate::mistakes::add_field;
 use crate::names::NameSet;
@@ -65,7 +65,8 @@ pub fn report(
     Ok(out)
 }
 
-// Appends the lines of the faults that are told and of the warnings.
+// Appends the lines of the faults and of the warnings: those of lines of the interpretive language are told by the first.
+#[tactic(auto, unfolding(crate::specs::Report::told_text))]
 fn push_told(
     alloc: Global,
     out: &mut Vec<u8>,
@@ -77,16 +78,32 @@ fn push_told(
 ) -> Result<(), AllocError>
     ensures { OnOk result (out.new.items ≡ out.old.items ++ told_text language name.now (map (λ t. t.now) texts.now) faults.now warnings.now) }
 {
-    let told = told_faults(alloc, language, texts, faults)?;
-    let labels = sought_labels(alloc, language, texts, &told)?;
-    let before = count_before_first(language, texts, faults);
-    let count = faults.len().saturating_sub(told.len()) + 1;
+    let (earlier, rest) = faults.split_at(count_before_first(language, texts, faults));
+    push_told_around(alloc, out, language, name, texts, earlier, rest, warnings)
+}
+
+// Appends those of some faults, and of faults of which the first is of the interpretive language.
+fn push_told_around(
+    alloc: Global,
+    out: &mut Vec<u8>,
+    language: Language,
+    name: &[u8],
+    texts: &[&[u8]],
+    earlier: &[Finding],
+    rest: &[Finding],
+    warnings: &[Finding],
+) -> Result<(), AllocError>
+    ensures { OnOk result (out.new.items ≡ out.old.items ++ told_around language name.now (map (λ t. t.now) texts.now) earlier.now rest.now warnings.now) }
+{
+    let told = first_and_others(alloc, texts, rest)?;
+    let labels = sought_labels(alloc, language, texts, earlier.len() + told.len())?;
+    let count = rest.len().saturating_sub(told.len()) + 1;
     push_around(
-        alloc, out, language, name, &labels, texts, before, count, &told, warnings,
+        alloc, out, language, name, &labels, texts, count, earlier, &told, warnings,
     )
 }
 
-// Appends the lines of faults and warnings, of which the fault after so many is the first of the interpretive language, and stands for so many.
+// Appends those of some faults, and of faults of which the first is of the interpretive language, and stands for so many.
 fn push_around(
     alloc: Global,
     out: &mut Vec<u8>,
@@ -94,36 +111,50 @@ fn push_around(
     name: &[u8],
     labels: &NameSet,
     texts: &[&[u8]],
-    before: usize,
+    count: usize,
+    earlier: &[Finding],
+    rest: &[Finding],
+    warnings: &[Finding],
+) -> Result<(), AllocError>
+    ensures { OnOk result (out.new.items ≡ out.old.items ++ listed_around language name.now labels.now (map (λ t. t.now) texts.now) count earlier.now rest.now warnings.now) }
+{
+    let (warned, left) = warnings.split_at(warned_before(rest, warnings));
+    push_merged(out, language, name, labels, texts, earlier, warned)?;
+    push_from(alloc, out, language, name, labels, texts, count, rest, left)
+}
+
+// How many of some warnings stand before the line of the first of some faults, all where there is none.
+fn warned_before(faults: &[Finding], warnings: &[Finding]) -> usize
+    ensures value { result ≡ warned_before faults.now warnings.now }
+    ensures within { result ≤ length warnings.now }
+{
+    match faults.split_first() {
+        Some((first, _)) => count_before(first.line, warnings),
+        None => warnings.len(),
+    }
+}
+
+// Appends the lines of faults and warnings, of which the first fault is of the interpretive language, and stands for so many.
+fn push_from(
+    alloc: Global,
+    out: &mut Vec<u8>,
+    language: Language,
+    name: &[u8],
+    labels: &NameSet,
+    texts: &[&[u8]],
     count: usize,
     faults: &[Finding],
     warnings: &[Finding],
 ) -> Result<(), AllocError>
-    ensures { OnOk result (out.new.items ≡ out.old.items ++ listed_around language name.now labels.now (map (λ t. t.now) texts.now) before count faults.now warnings.now) }
+    ensures { OnOk result (out.new.items ≡ out.old.items ++ listed_from language name.now labels.now (map (λ t. t.now) texts.now) count faults.now warnings.now) }
 {
-    let Some(first) = faults.get(before) else {
-        return push_merged(out, language, name, labels, texts, faults, warnings);
-    };
-    let (earlier, later) = warnings.split_at(count_before(first.line, warnings));
-    push_merged(
-        out,
-        language,
-        name,
-        labels,
-        texts,
-        &faults[..before],
-        earlier,
-    )?;
-    push_interpretive(alloc, out, language, name, texts, count, first)?;
-    push_merged(
-        out,
-        language,
-        name,
-        labels,
-        texts,
-        &faults[before + 1..],
-        later,
-    )
+    match faults.split_first() {
+        Some((first, others)) => {
+            push_interpretive(alloc, out, language, name, texts, count, first)?;
+            push_merged(out, language, name, labels, texts, others, warnings)
+        }
+        None => push_merged(out, language, name, labels, texts, faults, warnings),
+    }
 }
 
 // Appends the lines of the first fault of the interpretive language, which stands for so many.
@@ -136,7 +167,7 @@ fn push_interpretive(
     count: usize,
     first: &Finding,
 ) -> Result<(), AllocError>
-    ensures { OnOk result (out.new.items ≡ out.old.items ++ interpretive_text language name.now (map (λ t. t.now) texts.now) count (Some first.now)) }
+    ensures { OnOk result (out.new.items ≡ out.old.items ++ interpretive_text language name.now (map (λ t. t.now) texts.now) count first.now) }
 {
     let text = text_at(texts, first.line);
     let mut lines = Vec::new(alloc);
@@ -180,16 +211,16 @@ pub fn counts(alloc: Global, faults: usize, warnings: usize) -> Result<Vec<u8>, 
     Ok(out)
 }
 
-// The labels that faults are told with: those of all lines, where few faults are told.
+// The labels that so many faults are told with: those of all lines, where few are told.
 fn sought_labels(
     alloc: Global,
     language: Language,
     texts: &[&[u8]],
-    faults: &[Finding],
+    count: usize,
 ) -> Result<NameSet, AllocError>
-    ensures { IfOk result (λ labels. labels ≡ sought_labels language (map (λ t. t.now) texts.now) faults.now) }
+    ensures { IfOk result (λ labels. labels ≡ sought_labels language (map (λ t. t.now) texts.now) count) }
 {
-    if faults.len() <= MOST_FAULTS {
+    if count <= MOST_FAULTS {
         labels_of(alloc, language, texts)
     } else {
         Ok(NameSet::new(alloc))

@@ -2,7 +2,7 @@
 
 ghost use Rattle.std.specs.Prelude.{◌≡◌, map};
 ghost use Rattle.faults.specs.Warnings.{parts_in};
-ghost use Rattle.faults.specs.FlightCauses.{unsure_words, unsure_values, unsure_effects, comparisons, octal_words, double_octals, verb_nouns, decimals, double_decimals, equalities, fixed_constants, bank_words, downlist_words, channel_words, fixed_words, count_words, form_cause, signed_label_cause, has_signed_label, decimal_cause, flight_operand_cause, waiting_cause, flight_kind_cause, is_moved_back, is_between_banks, flight_range_cause, flight_cause, told_cause};
+ghost use Rattle.faults.specs.FlightCauses.{unsure_words, unsure_values, unsure_effects, comparisons, octal_words, double_octals, verb_nouns, decimals, double_decimals, equalities, fixed_constants, bank_words, downlist_words, channel_words, fixed_words, count_words, form_cause, signed_label_cause, has_signed_label, has_octal_alone, has_signed_alone, decimal_cause, flight_operand_cause, flight_label_cause, flight_operator_cause, flight_early_cause, waiting_cause, flight_kind_cause, is_moved_back, is_between_banks, flight_range_cause, flight_cause, told_cause};
 ghost use Rattle.faults.specs.Views.{cause_in};
 
 use crate::causes::{
@@ -38,27 +38,61 @@ fn flight_cause(near: bool, text: &[u8], parts: &Line<'_>, finding: &Finding) ->
     match finding.number {
         11 => Cause::said(b"the line has more than 120 bytes before its comment"),
         12 => Cause::said(b"the source has more than 262144 lines"),
-        13 if has_signed_label(parts) => signed_label_cause(parts),
-        15 if has_operator(unsure_words(), parts) => Cause::cured(
-            b"% is not taken: what yaYUL makes of it is not known for sure",
-            b"OCT makes a word",
-        ),
-        15 if has_operator(unsure_values(), parts) => Cause::cured(
-            b"% is not taken: what yaYUL makes of it is not known for sure",
-            b"EQUALS gives & a value",
-        ),
-        15 if has_operator(unsure_effects(), parts) => {
-            Cause::said(b"% is not taken: what yaYUL makes of it is not known for sure")
-        }
-        15 if has_operator(comparisons(), parts) => Cause::cured(
-            b"% is not taken",
-            b"SYMBOLS in the listing has the values of & and @",
-        ),
+        13 => flight_label_cause(near, text, parts, finding),
+        15 => flight_operator_cause(near, text, parts, finding),
         16 => flight_operand_cause(near, text, parts, finding),
-        18 if has_operator(equalities(), parts) => waiting_cause(near, parts),
+        18 => flight_early_cause(near, text, parts, finding),
         25 => flight_kind_cause(near, text, parts, finding),
         26 => flight_range_cause(near, text, parts, finding),
         _ => fault_cause(text, parts, near, finding),
+    }
+}
+
+// E13: a label without a label's form.
+fn flight_label_cause(near: bool, text: &[u8], parts: &Line<'_>, finding: &Finding) -> Cause
+    ensures { cause_in result ≡ flight_label_cause near text.now (parts_in parts.now) finding.now }
+{
+    if has_signed_label(parts) {
+        signed_label_cause(parts)
+    } else {
+        fault_cause(text, parts, near, finding)
+    }
+}
+
+// E15: what is no operator.
+fn flight_operator_cause(near: bool, text: &[u8], parts: &Line<'_>, finding: &Finding) -> Cause
+    ensures { cause_in result ≡ flight_operator_cause near text.now (parts_in parts.now) finding.now }
+{
+    if has_operator(unsure_words(), parts) {
+        Cause::cured(
+            b"% is not taken: what yaYUL makes of it is not known for sure",
+            b"OCT makes a word",
+        )
+    } else if has_operator(unsure_values(), parts) {
+        Cause::cured(
+            b"% is not taken: what yaYUL makes of it is not known for sure",
+            b"EQUALS gives & a value",
+        )
+    } else if has_operator(unsure_effects(), parts) {
+        Cause::said(b"% is not taken: what yaYUL makes of it is not known for sure")
+    } else if has_operator(comparisons(), parts) {
+        Cause::cured(
+            b"% is not taken",
+            b"SYMBOLS in the listing has the values of & and @",
+        )
+    } else {
+        fault_cause(text, parts, near, finding)
+    }
+}
+
+// E18: a symbol that has no value where it is asked for.
+fn flight_early_cause(near: bool, text: &[u8], parts: &Line<'_>, finding: &Finding) -> Cause
+    ensures { cause_in result ≡ flight_early_cause near text.now (parts_in parts.now) finding.now }
+{
+    if has_operator(equalities(), parts) {
+        waiting_cause(near, parts)
+    } else {
+        fault_cause(text, parts, near, finding)
     }
 }
 
@@ -131,7 +165,7 @@ fn form_cause(near: bool, text: &[u8], parts: &Line<'_>, finding: &Finding) -> C
 {
     if has_operator(decimals(), parts) {
         decimal_cause(parts)
-    } else if has_operator(octal_words(), parts) && parts.offset.is_none() {
+    } else if has_octal_alone(parts) {
         Cause::cured(
             b"% takes octal digits, 0 to 7, or a sign and such digits, and @ is neither",
             b"DEC takes decimal digits",
@@ -140,14 +174,25 @@ fn form_cause(near: bool, text: &[u8], parts: &Line<'_>, finding: &Finding) -> C
         Cause::said(b"2OCT takes ten octal digits, 0 to 7, in one field")
     } else if has_operator(verb_nouns(), parts) {
         Cause::said(b"VN takes four decimal digits, two of the verb and two of the noun")
-    } else if is_signed(text_of(parts.operand))
-        && !is_count(text_of(parts.operand))
-        && parts.offset.is_none()
-    {
+    } else if has_signed_alone(parts) {
         Cause::said(b"@ is no symbol, which has 8 characters at most, and no number")
     } else {
         fault_cause(text, parts, near, finding)
     }
+}
+
+// Whether the operator takes octal digits, and no offset stands.
+fn has_octal_alone(parts: &Line<'_>) -> bool
+    ensures { result ≡ has_octal_alone (parts_in parts.now) }
+{
+    has_operator(octal_words(), parts) && parts.offset.is_none()
+}
+
+// Whether the operand has a sign and is no count, and no offset stands.
+fn has_signed_alone(parts: &Line<'_>) -> bool
+    ensures { result ≡ has_signed_alone (parts_in parts.now) }
+{
+    is_signed(text_of(parts.operand)) && !is_count(text_of(parts.operand)) && parts.offset.is_none()
 }
 
 // E18 of a name that waits.

@@ -3,7 +3,7 @@
 ghost use Rattle.std.specs.Prelude.{◌≡◌, ◌≤◌, ◌++◌, ◌+◌, drop, length, map, IfOk, OnOk};
 ghost use Rattle.std.specs.List.{position_or_len};
 ghost use Rattle.faults.specs.Warnings.{parts_in};
-ghost use Rattle.faults.specs.Interpretive.{has_field, interpretive_operators, exit_operators, parts_at, is_interpretive, is_operand_alone, next_said, operand_line, is_of_interpreter, others, first_and_others, count_before_first, told_faults, interpretive_cause};
+ghost use Rattle.faults.specs.Interpretive.{has_field, interpretive_operators, exit_operators, parts_at, is_interpretive, is_operand_alone, next_said, operand_line, is_of_interpreter, others, first_and_others, count_before_first, interpretive_cause};
 ghost use Rattle.faults.specs.Views.{cause_in};
 
 use crate::causes::Cause;
@@ -25,20 +25,16 @@ pub(crate) fn interpretive_cause() -> Cause
     Cause::said(b"the interpretive language is not taken: ~ from this one on")
 }
 
-/// The faults that are told: of those of lines of the interpretive language the first, which stands for all.
-#[tactic(auto, unfolding(crate::specs::Interpretive::told_faults))]
-pub(crate) fn told_faults(
+/// The first of some faults, which stands for all of lines of the interpretive language, and those of the others that are of none.
+pub(crate) fn first_and_others(
     alloc: Global,
-    language: Language,
     texts: &[&[u8]],
     faults: &[Finding],
 ) -> Result<Vec<Finding>, AllocError>
-    ensures { IfOk result (λ told. told.items ≡ told_faults language (map (λ t. t.now) texts.now) faults.now) }
+    ensures { IfOk result (λ told. told.items ≡ first_and_others (map (λ t. t.now) texts.now) faults.now) }
 {
-    let before = count_before_first(language, texts, faults);
     let mut told = Vec::new(alloc);
-    told.extend_from_slice(&faults[..before])?;
-    push_first_and_others(texts, &faults[before..], &mut told)?;
+    push_first_and_others(texts, faults, &mut told)?;
     Ok(told)
 }
 
@@ -141,8 +137,14 @@ fn operand_line(texts: &[&[u8]], line: u32) -> u64
 fn next_said(texts: &[&[u8]], line: u32) -> u64
     ensures { result ≡ next_said (map (λ t. t.now) texts.now) line }
 {
-    let later = texts.get(line as usize..).unwrap_or(&[]);
-    u64::from(line) + count_before_field(later) as u64 + 1
+    u64::from(line) + count_before_field(lines_after(texts, line as usize)) as u64 + 1
+}
+
+// Those of some lines that stand after so many.
+fn lines_after<'a, 'b>(texts: &'b [&'a [u8]], count: usize) -> &'b [&'a [u8]]
+    ensures { map (λ t. t.now) result.now ≡ drop count (map (λ t. t.now) texts.now) }
+{
+    &texts[count.min(texts.len())..]
 }
 
 // The fields of a line of a flight source, by its number.
