@@ -45,7 +45,7 @@ SAID = [
     (" CA X ; it|X OCT 1", [(1, 5, "E16: the operand does not end where a comment was meant to begin", "a comment begins with #")]),
     (" OCT 1\r| OCT 2\r", [(1, 7, "E10: a carriage return ends the line; only a line feed may", "")]),
     ("LONGLABEL OCT 1", [(1, 1, "E13: LONGLABEL has more than 8 characters, the most of a label", "")]),
-    (" TS SUM|SUM OCT 0", [(1, 5, "E25: TS writes to erasable memory, and SUM is not there", "reserve the word there: SETLOC and a place below 4000, and ERASE")]),
+    (" TS SUM|SUM OCT 0", [(1, 5, "E25: TS writes to erasable memory, and SUM, of line 2, is not there", "reserve the word there: SETLOC and a place below 4000, and ERASE")]),
     (" SETLOC 4024| TC 0| TC 0| TC 0| TC 0| TC 0| SETLOC 4030| TC 0", [(8, 2, "E21: an earlier line has a word at this place", "")]),
     (" TC START|START: OCT 1", [(1, 5, "E17: no line defines START", "did you mean START:?")]),
     (" OCT 0x1F", [(1, 6, "E16: OCT takes octal digits, 0 to 7, and 0x1F is no such number", "DEC takes decimal digits")]),
@@ -55,10 +55,13 @@ SAID = [
     ("X OCT 1|X OCT 2", [(2, 1, "E14: line 1 has the label X already", "")]),
     (" BANK 18| OCT 1", [(1, 7, "E16: banks are octal, and 18 has a digit 8 or 9", "BANK 18D takes it as decimal")]),
     (" SETLOC 100|X ERASE| CA X", [(3, 2, "E22: words stand in fixed memory, and the location is in erasable memory", "SETLOC and a fixed place, or BANK, before it")]),
-    (" CCS FIVE|FIVE OCT 5", [(1, 6, "E25: CCS takes a word of erasable memory, and FIVE is not there", "copy the word to erasable memory first")]),
+    (" CCS FIVE|FIVE OCT 5", [(1, 6, "E25: CCS takes a word of erasable memory, and FIVE, of line 2, is not there", "copy the word to erasable memory first")]),
     (" EXTEND| CA X|X OCT 1", [(2, 2, "E24: EXTEND stands before CA, which is no extracode", "take EXTEND out")]),
     ("X EQU 5| ORG 4000", [(1, 3, "E15: EQU is no operator of this assembler", "EQUALS gives a name its value"), (2, 2, "E15: ORG is no operator of this assembler", "SETLOC sets the location")]),
     (" 2DEC 1.5", [(1, 2, "E15: 2DEC is no operator of this assembler", "two words: a DEC for each")]),
+    (" SETLOC SUX|SUX OCT 1|SUY OCT 1", [(1, 9, "E18: SETLOC needs the value of SUX here, and no earlier line defines it", "")]),
+    (" SETLOC SUZ|SUX OCT 1", [(1, 9, "E18: SETLOC needs the value of SUZ here, and no earlier line defines it", "did you mean SUX?")]),
+    ("\xef\xbb\xbf OCT 1", [(1, 1, "E10: a byte order mark stands in front of the line, and a line holds ASCII alone", "tail -c +4 FILE > NEW")]),
     (" OCT 1 # \xdc", [(1, 10, "E10: this byte is not ASCII, and a line holds ASCII alone, its comment too", "")]),
 ]
 # Feeds, a stroke between two lines, and what is said of each: the line and the column of its first fault, the number with its words, and the cure where one is sure; the first are the mistakes of the manual's rows.
@@ -94,13 +97,52 @@ WARNINGS = [
     (" OCT 1", []),
     ("RETURN", [(1, 1, 1), (1, 1, 8)]),
     (" TC CA;CA TC CA", [(2, 1, 1)]),
-    (" CA 5", [(1, 5, 2)]),
-    (" CA 60; CA 61; CS 0; TS 5; CA 5 +1; CA 00005", [(1, 5, 2), (3, 5, 2), (6, 5, 2)]),
-    (" EXTEND; MP 7; INDEX 5; CA 5D", [(2, 5, 2)]),
-    (" SETLOC 100;X ERASE;Y ERASE +1; SETLOC 4000; DXCH X; DXCH Y; DAS X; EXTEND; DCA X; EXTEND; DCS X +1; TS X", [(5, 7, 3), (7, 6, 3), (9, 6, 3)]),
-    ("X OCT 1; CA Y;Y OCT 2", [(1, 1, 8)]),
+    (" CA 5", [(1, 2, 4), (1, 5, 2)]),
+    (" CA 60; CA 61; CS 0; TS 5; CA 5 +1; CA 00005", [(1, 5, 2), (3, 5, 2), (6, 2, 4), (6, 5, 2)]),
+    (" EXTEND; MP 7; INDEX 5; CA 5D", [(2, 5, 2), (4, 2, 4)]),
+    (" SETLOC 100;X ERASE;Y ERASE +1; SETLOC 4000; DXCH X; DXCH Y; DAS X; EXTEND; DCA X; EXTEND; DCS X +1; TS X", [(5, 7, 3), (7, 6, 3), (9, 6, 3), (12, 2, 4)]),
+    ("X OCT 1; CA Y;Y OCT 2", [(1, 1, 8), (2, 2, 4)]),
     # an address to which INDEX adds is no number
-    (" INDEX X; CA 0; NDX X;; MASK 1; CA 2;X OCT 1", [(6, 5, 2)]),
+    (" INDEX X; CA 0; NDX X;; MASK 1; CA 2;X OCT 1", [(6, 2, 4), (6, 5, 2)]),
+    # a routine without its way back; a word that is read, and executed elsewhere; a jump by Z
+    (" TC F;D TCF D;F CA O;# it;E EQUALS 5;O OCT 1; TS E", [(3, 3, 4), (7, 2, 4)]),
+    (" CAF C; XXALQ;C CA X;X OCT 1", []),
+    ("Z EQUALS 5; CA X; TS Z;X OCT 1", []),
+    # the fifth word of a vector, and one that begins another
+    (" SETLOC 4004; CA X; CA X; CA X; CA X; TS X;D TCF D;X OCT 1", [(6, 2, 5)]),
+    (" SETLOC 4004; CA X; CA X; CA X; TCF D; CA X;D TCF D;X OCT 1", []),
+    (" SETLOC 4005; CA X; CA X; CA X; CA X; TS X;D TCF D;X OCT 1", []),
+    (" SETLOC 4054; CA X; CA X; CA X; CA X; TS X;D TCF D;X OCT 1", []),
+    # a switched erasable bank, while no line sets EB and while one does
+    (" SETLOC 2000;V ERASE; SETLOC 4000; TS V; ADS V +1;A ECADR V;D TCF D; CA A", [(4, 5, 6), (5, 2, 4), (5, 6, 6), (6, 1, 7), (8, 2, 4)]),
+    (" SETLOC 1377;U ERASE;V ERASE; SETLOC 4000; TS U; TS V;D TCF D", []),
+    (" SETLOC 2000;V ERASE; SETLOC 4000; TS 3; TS V;D TCF D", []),
+    ("EB EQUALS 3; SETLOC 2000;V ERASE; SETLOC 4000; LXCH EB; TS V;D TCF D", []),
+    # a switched bank of fixed memory, while no line sets FB and while one does; bank 0, in which a machine starts
+    (" TC R;D TCF D;A FCADR R; CA A; TCF D; BANK 10;R CA B; RETURN;B OCT 1", [(1, 5, 9), (3, 1, 7)]),
+    (" TC R; CA 4;D TCF D; BANK 0;R RETURN", [(2, 5, 2)]),
+    (" TS FB; TC R;D TCF D; BANK 10;R RETURN;FB EQUALS 4", []),
+    # a register's name at another place
+    (" SETLOC 100;Q ERASE; SETLOC 4000; TS Q;D TCF D;ZERO OCT 0; CA ZERO; TCF D", [(2, 1, 7)]),
+    ("Q EQUALS 2;L EQUALS 00001;BB EQUALS 4;EB = L +2; TC Q; TC L; TC BB; TC EB", [(3, 1, 7)]),
+]
+# Mistakes that are no faults, a stroke between two lines, and what is said of each with --unused; of those of which nothing is, what does say it stands in front.
+SILENT = [
+    ("", "START CA 5|DONE TCF DONE| TCF START", [(1, 10, "W2: 5 is the register or the counter of that number, and not the number", "a number has a line of its own: NAME OCT 5, and CA NAME")]),
+    ("", " TC SUB|DONE TCF DONE|SUB CA ONE|RETURN|ONE OCT 1", [
+        (3, 5, "W4: after CA the program runs on to a constant, or where no word stands", "TCF or RETURN behind it, and constants elsewhere"),
+        (4, 1, "W1: RETURN is an operator's name, and in the first column it is a label", "put a blank before RETURN"), (4, 1, "W8: no operand names RETURN", "")]),
+    ("nothing: OCT 20 that is meant as twenty", " CA TWENTY|DONE TCF DONE|TWENTY OCT 20", []),
+    ("nothing: three names of one place", "I EQUALS 100|J EQUALS 100| SETLOC 100|K ERASE| SETLOC 4000| TS I| TS J| TS K|DONE TCF DONE", []),
+    ("", " SETLOC 100|X ERASE|Y ERASE| SETLOC 4000| DXCH X| TS Y|DONE TCF DONE", [(5, 7, "W3: DXCH takes two words, and ERASE reserves one for X", "X ERASE +1 reserves two")]),
+    ("run --notes: an interrupt without a routine", " RELINT|LOOP TCF LOOP", []),
+    ("nothing: channel 1 puts nothing out", " CA FIVE| EXTEND| WRITE 1|DONE TCF DONE|FIVE OCT 5", []),
+    ("", " SETLOC 2000|VAR ERASE| SETLOC 4000| CA FIVE| TS VAR|DONE TCF DONE|FIVE OCT 5", [
+        (5, 5, "W6: VAR stands in a switched erasable bank, and no line sets EB", "NAME ECADR VAR on a line of its own; before this CA NAME, and TS 3, which is EB")]),
+    ("", " SETLOC 100|Q ERASE| SETLOC 4000| TS Q|DONE TCF DONE", [(2, 1, "W7: Q is a register's name, and stands for another place here", "Q EQUALS 2 is the register")]),
+    ("cover: a word that is never executed", " TCF DONE| CA FIVE|DONE TCF DONE|FIVE OCT 5", []),
+    ("nothing: no SETLOC, which is harmless", " CA FIVE|DONE TCF DONE|FIVE OCT 5", []),
+    ("run --notes: an interrupt that does not end", "ARUPT EQUALS 10| RELINT|LOOP TCF LOOP| SETLOC 4014| XCH ARUPT| TCF LOOP", []),
 ]
 # A fault and warnings on one line and beside it.
 BOTH = " CA 5;CA FIV; AD 6"
@@ -146,7 +188,7 @@ def check_warnings(program, room, told):
             told(f"warnings {options} of {shown}", (warned, count, errors) == (rows, [f"{counted(faults, 'error')}, {counted(len(rows), 'warning')}".encode()], b""), f"wanted {rows}, got {found} {count}")
     with open(path, "wb") as file:
         file.write(BOTH.replace(";", "\n").encode() + b"\n")
-    wanted = 1, [(1, 5, "W2"), (2, 4, "E15"), (2, 1, "W1"), (3, 5, "W2")], [b"1 error, 3 warnings"], b""
+    wanted = 1, [(1, 5, "W2"), (2, 4, "E15"), (2, 1, "W1"), (3, 2, "W4"), (3, 5, "W2")], [b"1 error, 4 warnings"], b""
     got = warned_by(program, path)
     told("warnings among faults", got == wanted, f"wanted {wanted}, got {got}")
 
@@ -170,16 +212,16 @@ def check_mistakes(program, room, told):
         told(f"check of {shown}", (status, found, errors) == (int(bool(wanted)), wanted, b"") and end[0].startswith(count + b", "), f"wanted {wanted}, got {found} {end}")
 
 
-def said_by(program, path, *before):
-    """What a check says of each fault of a file, after others: line and column, the number with its words, and the cure."""
+def said_by(program, path, *before, kind="error"):
+    """What a check says of each fault of a file, or of each warning, after others: line and column, the number with its words, and the cure."""
     ran = subprocess.run([program, "check", *before, path], capture_output=True, timeout=60)
     found = []
     for row in ran.stdout.decode("latin-1").split("\n"):
-        if fault := re.match(re.escape(path) + r":(\d+):(\d+): error (E\d+: .+)$", row):
-            found.append((int(fault[1]), int(fault[2]), fault[3], ""))
+        if said := re.match(re.escape(path) + r":(\d+):(\d+): (\w+) (\w\d+: .+)$", row):
+            found.append((said[3], int(said[1]), int(said[2]), said[4], ""))
         elif row.startswith("      = "):
-            found[-1] = *found[-1][:3], row[8:]
-    return found
+            found[-1] = *found[-1][:4], row[8:]
+    return [it[1:] for it in found if it[0] == kind]
 
 
 def check_said(program, room, told):
@@ -197,6 +239,17 @@ def written(path, text):
     return path
 
 
+def check_silent(program, room, told):
+    for elsewhere, shown, wanted in SILENT:
+        path = written(f"{room}/silent.agc", shown.replace("|", "\n").encode() + b"\n")
+        got = said_by(program, path, "--unused", kind="warning")
+        told(f"what check says of {shown}", (got, bool(wanted)) == (wanted, not elsewhere), f"wanted {wanted}, got {got}")
+        told(f"asm takes {shown}", subprocess.run([program, "asm", path, "/dev/null"], capture_output=True, timeout=60).returncode == 0)
+        if elsewhere.startswith("run --notes"):
+            notes = subprocess.run([program, "run", "--notes", path, written(f"{room}/silent.feed", b"5 RUPT 3\n"), "40"], capture_output=True, timeout=60).stderr
+            told(f"run --notes of {shown}", notes.startswith((b"NOTE NOHANDLER", b"NOTE INSIDE")), str(notes))
+
+
 def check_feeds(program, room, told):
     source = written(f"{room}/good.agc", b" OCT 1\n")
     for shown, wanted in FEEDS:
@@ -209,9 +262,9 @@ def check_feeds(program, room, told):
 
 def check_files(program, room, told):
     """What is told of several files, what stays told where a file cannot be read, and files of another kind."""
-    source, good, bad = written(f"{room}/a.agc", b" CA FIV\n"), written(f"{room}/good.feed", b"5 RUPT 1\n"), written(f"{room}/bad.feed", b"5 RUPT 11\n")
+    source, good, bad = written(f"{room}/a.agc", b" TC FIV\n"), written(f"{room}/good.feed", b"5 RUPT 1\n"), written(f"{room}/bad.feed", b"5 RUPT 11\n")
     ran = lambda *files: subprocess.run([program, "check", *files], capture_output=True, timeout=60)
-    of_source = f"{source}:1:5: error E17: no line defines FIV\n    1 |  CA FIV\n      |     ^^^\n"
+    of_source = f"{source}:1:5: error E17: no line defines FIV\n    1 |  TC FIV\n      |     ^^^\n"
     of_feed = f"{bad}:1:8: error E30: 11 is no interrupt, which are 1 to 10\n    1 | 5 RUPT 11\n      |        ^^\n"
     got = ran(source, bad, good, bad)
     told("check of a source and three feeds", (got.returncode, got.stdout.decode(), got.stderr) == (1, of_source + of_feed + of_feed + "3 errors, 0 warnings\n", b""), f"{got}")
@@ -233,6 +286,8 @@ def check_files(program, room, told):
         got = ran(*files)
         lines = got.stdout.decode("latin-1").split("\n")
         told(f"check of a file of another kind: {wanted[-40:]}", (got.returncode, lines[-3], lines.count(wanted)) == (1, wanted, 1), f"{lines[-5:]}")
+    longest = max(map(len, ran(image).stdout.split(b"\n")))
+    told("what check shows of the lines of an image", longest < 200, str(longest))
     for files in ((source, good), (f"{room}/one.agc", good)):
         told("check of files of their kinds", b": this is " not in ran(*files).stdout, f"{ran(*files)}")
 
@@ -240,12 +295,12 @@ def check_files(program, room, told):
 def check_excerpt(program, room, told):
     path = f"{room}/excerpt.agc"
     with open(path, "wb") as file:
-        file.write(b"X OCT 1\n\tCA\tFIV # \xb5\n CA FIV +1\n")
+        file.write(b"X OCT 1\n\tTC\tFIV # \xb5\n TC FIV +1\n")
     wanted = f"""{path}:2:11: error E10: this byte is not ASCII, and a line holds ASCII alone, its comment too
-    2 | \tCA\tFIV # ?
+    2 | \tTC\tFIV # ?
       | \t  \t      ^
 {path}:3:5: error E17: no line defines FIV
-    3 |  CA FIV +1
+    3 |  TC FIV +1
       |     ^^^
 2 errors, 0 warnings
 """.encode()
@@ -254,8 +309,8 @@ def check_excerpt(program, room, told):
 
 
 def rows_explained(program, number):
-    """What is explained of a number: each mistake, the source that draws it, and its line."""
-    text = subprocess.run([program, "explain", f"E{number}"], capture_output=True, text=True, timeout=60).stdout
+    """What is explained of a number, as E17: each mistake, the source that draws it, and its line."""
+    text = subprocess.run([program, "explain", number], capture_output=True, text=True, timeout=60).stdout
     for part in text.split("\n- ")[1:]:
         mistake, *rest = part.rstrip("\n").split("\n")
         source = [it for it in rest if it.startswith("    ") or it.startswith("  > ")]
@@ -265,15 +320,31 @@ def rows_explained(program, number):
 
 def plain(text):
     """A row of the manual without what makes it a table's."""
-    return text.partition(". Cure: ")[0].replace("`", "")
+    return re.split(r"\. Cure(?:, of a source alone)?: ", text)[0].replace("`", "")
 
 
 def check_rows(program, manual, told):
     rows = re.findall(r"^\| E(\d+) \| (.*) \| (.*) \| (\d*) ?\|$", manual, re.M)
     for number in sorted({int(it[0]) for it in rows if int(it[0]) >= 10 and it[0] != "34"}):
         wanted = [(plain(mistake), "" if source.startswith("(") else source.strip("`").replace("\xb5", "\\xC2\\xB5"), line) for n, mistake, source, line in rows if int(n) == number]
-        got = list(rows_explained(program, number))
+        got = list(rows_explained(program, f"E{number}"))
         told(f"explain E{number} and the manual", got == wanted, f"wanted {wanted}, got {got}")
+    headings = re.findall(r"^\| E(\d+) \| ([^|]*) \| \d \|$", manual, re.M)
+    told("the manual's refusals of images, memory and devices", sorted(int(it[0]) for it in headings) == [*range(2, 8), 34], str(headings))
+    for number, meaning in headings:
+        got = subprocess.run([program, "explain", f"E{number}"], capture_output=True, text=True, timeout=60).stdout.split("\n")[0]
+        told(f"explain E{number} and the manual", got == f"E{number}: {meaning}", f"wanted {meaning}, got {got}")
+
+
+def check_warning_rows(program, room, manual, told):
+    """Each row of the manual's table of warnings draws its warning on its line."""
+    rows = re.findall(r"^\| W(\d+) \| (.*) \| `(.*)` \| (\d+) \|$", manual, re.M)
+    told("the manual's warnings", [int(it[0]) for it in rows] == [*range(1, 10)], str(rows))
+    for number, mistake, source, line in rows:
+        got = list(rows_explained(program, f"W{number}"))
+        told(f"explain W{number} and the manual", got == [(plain(mistake), source, line)], str(got))
+        _, found, _, _ = warned_by(program, written(f"{room}/row.agc", source.replace(";", "\n").encode() + b"\n"), "--unused")
+        told(f"the manual's row of W{number}", (int(line), f"W{number}") in {(it[0], it[2]) for it in found}, str(found))
 
 
 def check_numbers(program, told):
@@ -281,9 +352,11 @@ def check_numbers(program, told):
     numbers = [int(it) for it in re.findall(rb"^E(\d+): .", ran().stdout, re.M)]
     told("explain lists the numbers", numbers == [*range(2, 8), *range(10, 27), *range(30, 37)], str(numbers))
     told("explain 17 is explain E17", ran("17") == ran("E17") or ran("17").stdout == ran("E17").stdout)
-    for word in ("99", "E1", "X", "E", "256"):
+    warned = [int(it) for it in re.findall(rb"^W(\d+): .", ran().stdout, re.M)]
+    told("explain lists the numbers of warnings", warned == [*range(1, 10)], str(warned))
+    for word in ("99", "E1", "X", "E", "256", "W", "W0", "W10", "w4"):
         got = ran(word)
-        told(f"explain {word}", (got.returncode, got.stdout, got.stderr) == (2, b"", b"error: no refusal has this number; agcws explain lists them\n"), str(got))
+        told(f"explain {word}", (got.returncode, got.stdout, got.stderr) == (2, b"", b"error: no refusal and no warning has this number; agcws explain lists them\n"), str(got))
 
 
 def sources(count, seed):
@@ -312,11 +385,13 @@ def check_agreement(program, room, told, count=400, seed="agreement"):
 def check_checks(program, room, told, manual):
     check_mistakes(program, room, told)
     check_said(program, room, told)
+    check_silent(program, room, told)
     check_feeds(program, room, told)
     check_files(program, room, told)
     check_excerpt(program, room, told)
     check_warnings(program, room, told)
     check_examples_quiet(program, told, os.path.dirname(os.path.abspath(__file__)))
     check_rows(program, manual, told)
+    check_warning_rows(program, room, manual, told)
     check_numbers(program, told)
     check_agreement(program, room, told)

@@ -616,6 +616,8 @@ def hostile_bytes(room, count, seed):
 # A fault that `check` tells, and the one that `asm` does.
 TOLD_FAULT = re.compile(rb"^.*:(\d+):\d+: error E(\d+): .+$", re.M)
 ONE_FAULT = re.compile(rb"agcws: E(\d+) LINE (\d+)\n")
+# One that stands for so many lines.
+OF_LINES = re.compile(rb": error E15: the interpretive language is not taken: (\d+) lines? from this one on\n")
 
 
 def some_checks(made, seed, first, last):
@@ -635,7 +637,8 @@ def some_checks(made, seed, first, last):
                 status, out, err, _, _ = worker.run(["check", *options, worker.case], worker.case)
                 found = [(int(line), int(kind)) for line, kind in TOLD_FAULT.findall(out)]
                 warned = len(re.findall(rb"^.*:\d+:\d+: warning W\d+: .+$", out, re.M))
-                count = f"{len(found)} error{'' if len(found) == 1 else 's'}, {warned} warning{'' if warned == 1 else 's'}\n".encode()
+                errors = len(found) + sum(int(lines) - 1 for lines in OF_LINES.findall(out))
+                count = f"{errors} error{'' if errors == 1 else 's'}, {warned} warning{'' if warned == 1 else 's'}\n".encode()
                 is_right = (int(one[2]), int(one[1])) in found if one else not found
                 if not is_right or status != int(bool(one)) or err or not out.endswith(count) or len(set(found)) != len(found):
                     wrong.append((number, *options, status, one and one[0], found[:5], err))

@@ -539,6 +539,8 @@ where that is sure. A fault that follows from another, as that of a symbol
 whose own line is refused, is left out. Then in the same form the first fault of
 each feed that has one, and in the last line how many there are. agcws explain
 E17 tells what draws E17, and its cures.
+With --flight lines of the interpretive language, which is not taken, are told
+once, on the first of them, with their count.
 A file with a fault that is of another kind is told in words after its faults:
 a feed in place of the source, a source in place of a feed, and an image.
 
@@ -548,7 +550,14 @@ What is no fault, and likely a mistake, is told as a warning of the same form:
       to 60: that is a register or a counter, and not the number
   W3  DXCH, DAS, DCA or DCS of a label beside which ERASE stands alone: it
       reserves one word
+  W4  an instruction after which the program runs on to a constant, or where no
+      word stands
+  W5  the fifth word after SETLOC to a vector, where the fourth goes on to it
+  W6  a word that ERASE reserves in a switched bank, while no line sets EB
+  W7  a register's name as the label of another place
   W8  with --unused: a label that no operand names
+  W9  a place of a switched bank of fixed memory, reached from bank 2 or 3 while
+      no line sets FB
 
 Exit status:
   0  there is no fault, warnings or none: agcws asm takes the source
@@ -561,11 +570,11 @@ told before stays told.";
 const EXPLAIN_HELP: &str =
     "Output: what the number means, and each mistake that draws it, with a source or
 a feed where one is short, > before its line that is told, and the cure. Without
-a number a line for each.
+a number a line for each, of refusals and then of warnings.
 
 Exit status:
   0  done
-  2  the command line is wrong, or no refusal has the number
+  2  the command line is wrong, or no refusal and no warning has the number
   3  a device or memory failed";
 
 /// The programs and their arguments.
@@ -640,10 +649,10 @@ fn check_command<'a>(alloc: Global) -> Result<Command<'a>, AllocError> {
 /// `agcws explain [NUMBER]`.
 fn explain_command<'a>(alloc: Global) -> Result<Command<'a>, AllocError> {
     Command::new(alloc, EXPLAIN)
-        .about("Tells what the number of a refusal means")
+        .about("Tells what the number of a refusal or of a warning means")
         .after_help(EXPLAIN_HELP)
         .arg(Arg::new(alloc, NUMBER).help(
-            "The number, as E17 or 17; all are listed where none is given",
+            "The number, as E17 or 17, or W4 of a warning; all are listed where none is given",
         ))
 }
 

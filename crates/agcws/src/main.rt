@@ -30,7 +30,7 @@ use workshop::{
     compare_only_engine, cover_and_tell, cover_program, debug_extended, debug_program, explanation,
     may_run, parity_engine, refusal_of, report, report_no_room, run_and_tell, run_program,
     run_with_notes, source_engine, sums_engine, trace_and_tell, trace_program, upgrade_engine,
-    words_engine, write_end, write_tally,
+    warning_explanation, warning_of, words_engine, write_end, write_tally,
 };
 
 /// The exit status where all is done.
@@ -57,7 +57,7 @@ const NO_FEED_OF_SESSION: &[u8] =
     b"\nFEED is missing: where a program takes no inputs, it is /dev/null.\n";
 
 /// What is said of a number that no refusal has.
-const NO_REFUSAL: &[u8] = b"error: no refusal has this number; agcws explain lists them\n";
+const NO_REFUSAL: &[u8] = b"error: no refusal and no warning has this number; agcws explain lists them\n";
 
 /// What is said of a trace whose first step is after its last.
 const NO_STEPS: &[u8] = b"error: --from names a later step than --to\n";
@@ -602,9 +602,10 @@ fn check_feeds<F: Read, W: Write>(
 fn explain(rt: &HostRuntime, matches: &ArgMatches<'_>) -> Result<u8, WorkshopFault> {
     let text = match matches.get_str(NUMBER) {
         None => all_headings(rt.alloc()),
-        Some(name) => match refusal_named(name) {
-            Some(refusal) => explanation(rt.alloc(), &refusal),
-            None => return refuse_arguments(rt, NO_REFUSAL),
+        Some(name) => match (warning_named(name), refusal_named(name)) {
+            (Some(warning), _) => warning_explanation(rt.alloc(), &warning),
+            (None, Some(refusal)) => explanation(rt.alloc(), &refusal),
+            (None, None) => return refuse_arguments(rt, NO_REFUSAL),
         },
     };
     let text = text.map_err(no_memory)?;
@@ -616,6 +617,12 @@ fn explain(rt: &HostRuntime, matches: &ArgMatches<'_>) -> Result<u8, WorkshopFau
 fn refusal_named(name: &str) -> Option<Refusal> {
     let number = name.strip_prefix('E').unwrap_or(name).parse::<u8>().ok()?;
     refusal_of(number)
+}
+
+/// The warning of a number as it is named: W4.
+fn warning_named(name: &str) -> Option<Refusal> {
+    let number = name.strip_prefix('W')?.parse::<u8>().ok()?;
+    warning_of(number)
 }
 
 /// `agcws upgrade OLD NEW`. The file NEW is made at the first write, so that a refused image leaves none. A path of the old

@@ -1,13 +1,13 @@
 -- What is said of faults on single lines, by the definitions alone.
 use Rattle.std.specs.List.{list_all}
-use Rattle.std.proofs.Common.{◌≡◌, ℕ, List, [], ◌∷◌, ◌++◌, true, Option, None, Some, is_some, refl, map, unwrap_or}
+use Rattle.std.proofs.Common.{◌≡◌, ℕ, List, [], ◌∷◌, ◌++◌, true, Option, is_some, refl, map, unwrap_or}
 use Rattle.std.specs.Fmt.{digits}
 use Rattle.std.specs.Prelude.{codes}
 use Rattle.agc_text.specs.Fields.{runs}
 use Rattle.yayul.specs.Operators.{operators}
 use Rattle.yayul.specs.declared.finding.Finding.{Finding}
-use Rattle.faults.specs.Causes.{Cause, bank_operators, block_operators, channel_operators, decimal_operators, erasable_operators, erasable_readers, fault_cause, filled, fixed_operators, is_operator, jump_operators, label_refusers, near_label, octal_operators, plain_operators, writers}
-use Rattle.faults.specs.Warnings.{parts_of}
+use Rattle.faults.specs.Causes.{Cause, block_operators, channel_operators, decimal_operators, erasable_operators, erasable_readers, fault_cause, filled, fixed_operators, is_operator, jump_operators, label_refusers, near_label, octal_operators, plain_operators, writers}
+use Rattle.faults.specs.Warnings.{bank_operators, parts_of}
 
 -- a fault with a number, where it begins
 abbrev fault : ℕ → ℕ → Finding

@@ -1,5 +1,5 @@
 -- Lists that are gone through, and what is appended on the way.
-use Rattle.std.proofs.Common.{◌≡◌, ◌∙◌, ℕ, ◌+◌, ◌≤◌, length, arith, Bool, true, not, cond, List, [], ◌∷◌, ◌++◌, map, take, drop, is_some, refl, ap, sym, inl, inr, append_assoc}
+use Rattle.std.proofs.Common.{◌≡◌, ◌∙◌, ℕ, ◌+◌, ◌≤◌, length, arith, Bool, true, not, List, [], ◌∷◌, ◌++◌, map, take, drop, is_some, ap, sym, inl, inr, append_assoc}
 use Rattle.std.specs.Prelude.{flat_map, if◌then◌else◌}
 use Rattle.std.proofs.lemmas.Bool.{cases_Bool}
 use Rattle.std.proofs.lemmas.Bool.Decides.{nat_tests}
@@ -9,10 +9,12 @@ use Rattle.std.proofs.lemmas.Map.Made.{is_some-lookup}
 use Rattle.agc_text.specs.Tables.{same_name, value_in}
 use Rattle.symbols.specs.declared.values.Value.{Value}
 use Rattle.yayul.specs.declared.finding.Finding.{Finding}
+use Rattle.yayul.specs.declared.language.Language.{Language}
 use Rattle.faults.specs.declared.findings.Severity.{Severity}
+use Rattle.faults.specs.declared.flow.Before.{Before}
 use Rattle.faults.specs.declared.mistakes.Names.{Names}
 use Rattle.faults.specs.Report.{count_before, as_error, as_warning, merged}
-use Rattle.faults.specs.Warnings.{is_short, is_among, with_name, parts_of, indexed_after, line_warnings, warned_lines}
+use Rattle.faults.specs.Warnings.{is_short, is_among, with_name, parts_for, before_next, line_warnings, warned_lines}
 
 -- a fault, after the warnings of earlier lines
 pub merged_step :
@@ -31,13 +33,13 @@ merged_step g faults rest warnings f o0 o1 o2 next e1 e2 =
 
 -- the warnings of a line, and of those after it
 pub warned_step :
-    (unused : Bool) (names : Names) (indexed : Bool) (line : ℕ) (texts rest : List (List ℕ)) (text : List ℕ) (o0 o1 : List Finding) → texts ≡ text ∷ rest
-    → o1 ≡ o0 ++ line_warnings unused names indexed line (parts_of text)
-    → o1 ++ warned_lines unused names (indexed_after indexed (parts_of text)) (line + 1) rest ≡ o0 ++ warned_lines unused names indexed line texts
-warned_step unused names indexed line texts rest text o0 o1 next e =
-    ap (λ o. o ++ warned_lines unused names (indexed_after indexed (parts_of text)) (line + 1) rest) e
-    ∙ append_assoc o0 (line_warnings unused names indexed line (parts_of text)) (warned_lines unused names (indexed_after indexed (parts_of text)) (line + 1) rest)
-    ∙ ap (λ t. o0 ++ warned_lines unused names indexed line t) (sym next)
+    (language : Language) (unused : Bool) (names : Names) (before : Before) (line : ℕ) (texts rest : List (List ℕ)) (text : List ℕ) (o0 o1 : List Finding)
+    → texts ≡ text ∷ rest → o1 ≡ o0 ++ line_warnings language unused names before rest line (parts_for language text)
+    → o1 ++ warned_lines language unused names (before_next before (parts_for language text)) (line + 1) rest ≡ o0 ++ warned_lines language unused names before line texts
+warned_step language unused names before line texts rest text o0 o1 next e =
+    ap (λ o. o ++ warned_lines language unused names (before_next before (parts_for language text)) (line + 1) rest) e
+    ∙ append_assoc o0 (line_warnings language unused names before rest line (parts_for language text)) (warned_lines language unused names (before_next before (parts_for language text)) (line + 1) rest)
+    ∙ ap (λ t. o0 ++ warned_lines language unused names before line t) (sym next)
 
 -- a name that is defined in a table where it is not there yet
 pub name_added :

@@ -1,7 +1,7 @@
 -- The fields of a line, one after another.
-use Rattle.std.proofs.Common.{◌≡◌, ◌∙◌, ℕ, zero, suc, ◌+◌, ◌-◌, ◌≤◌, Bool, true, false, nat_le, List, [], ◌∷◌, Option, Some, None, length, drop, find, slice_get, refl, ap, sym, inl, inr, arith, option_map}
+use Rattle.std.proofs.Common.{◌≡◌, ◌∙◌, ℕ, zero, suc, ◌+◌, ◌-◌, ◌≤◌, nat_le, List, [], ◌∷◌, Some, None, length, drop, find, slice_get, refl, ap, sym, inl, inr, arith}
 use Rattle.std.proofs.lemmas.Bool.{cases_Bool}
-use Rattle.agc_text.specs.Fields.{Piece, before_comment, fields, is_run_start, run_at, runs, runs_after}
+use Rattle.agc_text.specs.Fields.{before_comment, fields, is_run_start, run_at, runs, runs_after}
 use Rattle.agc_text.specs.Views.{piece, end_of}
 use Rattle.agc_text.specs.declared.fields.Field.{Field}
 use Rattle.agc_text.proofs.Runs.{find_run, runs_after_end, runs_after_skip, runs_after_take, take_at}

@@ -1,5 +1,5 @@
 -- The warnings of small sources, and a report, by the definitions alone.
-use Rattle.std.proofs.Common.{◌≡◌, ℕ, ◌+◌, List, [], ◌∷◌, ◌++◌, true, false, refl, map}
+use Rattle.std.proofs.Common.{◌≡◌, ℕ, ◌+◌, List, [], ◌∷◌, ◌++◌, true, refl, map}
 use Rattle.std.specs.Fmt.{digits}
 use Rattle.std.specs.Prelude.{codes, ◌==◌, if◌then◌else◌}
 use Rattle.agc_text.specs.Fields.{runs}
@@ -10,7 +10,7 @@ use Rattle.yayul.specs.declared.finding.Finding.{Finding}
 use Rattle.yayul.specs.declared.language.Language.TheVariants.{Standard}
 use Rattle.faults.specs.Kinds.{kind_of_source}
 use Rattle.faults.specs.Warnings.{warnings}
-use Rattle.faults.specs.Report.{count_text, report, shown_line}
+use Rattle.faults.specs.Report.{count_text, report, shown_line, told_text}
 
 -- a source of lines, each but the last followed by a semicolon here
 abbrev source : List ℕ → List ℕ
@@ -26,12 +26,25 @@ warned_rows =
     (codes " OCT 1", [])
     ∷ (codes "RETURN", (1, 1, 6, 1) ∷ (1, 1, 6, 8) ∷ [])
     ∷ (codes " TC CA;CA TC CA", (2, 1, 2, 1) ∷ [])
-    ∷ (codes " CA 5", (1, 5, 1, 2) ∷ [])
-    ∷ (codes " CA 60; CA 61; CS 0; TS 5; CA 5 +1; CA 00005", (1, 5, 2, 2) ∷ (3, 5, 1, 2) ∷ (6, 5, 5, 2) ∷ [])
-    ∷ (codes " INDEX X; CA 0; NDX X;; MASK 1; CA 2;X ERASE", (6, 5, 1, 2) ∷ [])
-    ∷ (codes "X ERASE;Y ERASE +1; DXCH X; DXCH Y; DAS X +1; DCA X; TS X", (3, 7, 1, 3) ∷ (6, 6, 1, 3) ∷ [])
-    ∷ (codes "X OCT 1; CA Y;Y OCT 2", (1, 1, 1, 8) ∷ [])
+    ∷ (codes " CA 5", (1, 2, 2, 4) ∷ (1, 5, 1, 2) ∷ [])
+    ∷ (codes " CA 60; CA 61; CS 0; TS 5; CA 5 +1; CA 00005", (1, 5, 2, 2) ∷ (3, 5, 1, 2) ∷ (6, 2, 2, 4) ∷ (6, 5, 5, 2) ∷ [])
+    ∷ (codes " INDEX X; CA 0; NDX X;; MASK 1; CA 2;X ERASE", (6, 2, 2, 4) ∷ (6, 5, 1, 2) ∷ [])
+    ∷ (codes "X ERASE;Y ERASE +1; DXCH X; DXCH Y; DAS X +1; DCA X; TS X", (3, 7, 1, 3) ∷ (6, 6, 1, 3) ∷ (7, 2, 2, 4) ∷ [])
+    ∷ (codes "X OCT 1; CA Y;Y OCT 2", (1, 1, 1, 8) ∷ (2, 2, 2, 4) ∷ [])
     ∷ (codes "CA FIV;LONGLABEL OCT 5", (1, 1, 2, 1) ∷ (1, 1, 2, 8) ∷ [])
+    -- a routine without its way back, and a word that is read and executed elsewhere
+    ∷ (codes " TC F;D TCF D;F CA O;O OCT 1", (3, 3, 2, 4) ∷ [])
+    ∷ (codes " CAF C; XXALQ;C CA X;X OCT 1", [])
+    -- the fifth word of a vector, and one that begins another
+    ∷ (codes " SETLOC 4004; CA X; CA X; CA X; CA X; TS X;D TCF D;X OCT 1", (6, 2, 2, 5) ∷ [])
+    ∷ (codes " SETLOC 4004; CA X; CA X; CA X; TCF D; CA X;D TCF D;X OCT 1", [])
+    -- a switched bank, while EB is not set and while it is
+    ∷ (codes " SETLOC 2000;V ERASE; SETLOC 4000; TS V;D TCF D", (4, 5, 1, 6) ∷ [])
+    ∷ (codes " SETLOC 2000;V ERASE; SETLOC 4000; TS 3; TS V;D TCF D", [])
+    ∷ (codes "EB EQUALS 3; SETLOC 2000;V ERASE; SETLOC 4000; TS EB; TS V;D TCF D", [])
+    -- names of registers
+    ∷ (codes " SETLOC 100;Q ERASE; SETLOC 4000; TS Q;D TCF D", (2, 1, 1, 7) ∷ [])
+    ∷ (codes "Q EQUALS 2;L EQUALS 00001;Z EQUALS 6; TC Q; TC L; TC Z", (3, 1, 1, 7) ∷ [])
     ∷ []
 
 each_warned : map {B = List (ℕ × ℕ × ℕ × ℕ)} (λ r. map row (warnings Standard true (source r.0))) warned_rows ≡ map {B = List (ℕ × ℕ × ℕ × ℕ)} (λ r. r.1) warned_rows
@@ -43,7 +56,7 @@ abbrev placed : ℕ → ℕ → Finding
 placed line number = record { line = line; number = number; span = record { start = 1; width = 2 } }
 
 -- the faults of a line stand before its warnings, and the warnings of earlier lines before both
-shown_in_order : report (codes "a") (source (codes " CA 5; TS FIV;Z")) (placed 2 17 ∷ placed 2 25 ∷ []) (placed 1 2 ∷ placed 2 3 ∷ placed 3 8 ∷ [])
+shown_in_order : report Standard (codes "a") (source (codes " CA 5; TS FIV;Z")) (placed 2 17 ∷ placed 2 25 ∷ []) (placed 1 2 ∷ placed 2 3 ∷ placed 3 8 ∷ [])
     ≡ source (codes "a:1:2: warning W2: 5 is the register or the counter of that number, and not the number;    1 |  CA 5;      |  ^^;"
     ++ codes "      = a number has a line of its own: NAME OCT 5, and CA NAME;"
     ++ codes "a:2:2: error E17: no line defines FIV;    2 |  TS FIV;      |  ^^;"
@@ -51,8 +64,16 @@ shown_in_order : report (codes "a") (source (codes " CA 5; TS FIV;Z")) (placed 2
     ++ codes "      = reserve the word there: SETLOC and a place below 4000, and ERASE;"
     ++ codes "a:2:2: warning W3: TS takes two words, and ERASE reserves one for FIV;    2 |  TS FIV;      |  ^^;      = FIV ERASE +1 reserves two;"
     ++ codes "a:3:2: warning W8: no operand names Z;    3 | Z;      |  ^^;")
-unfolding report shown_line kind_of_source lines digits runs operators parsed
+unfolding report told_text shown_line kind_of_source lines digits runs operators parsed
 shown_in_order = refl
+
+-- a symbol of the wrong kind is told with its line, and one that a later line defines is not taken for another
+told_with_lines : report (codes "a") (source (codes " TS SUM;SUM OCT 0; SETLOC SUX;SUX OCT 1")) (placed 1 25 ∷ placed 3 18 ∷ []) []
+    ≡ source (codes "a:1:2: error E25: TS writes to erasable memory, and SUM, of line 2, is not there;    1 |  TS SUM;      |  ^^;"
+    ++ codes "      = reserve the word there: SETLOC and a place below 4000, and ERASE;"
+    ++ codes "a:3:2: error E18: SETLOC needs the value of SUX here, and no earlier line defines it;    3 |  SETLOC SUX;      |  ^^;")
+unfolding report told_text shown_line kind_of_source lines digits runs operators parsed
+told_with_lines = refl
 
 -- how many there are
 count_shown : count_text 2 3 ++ count_text 1 0 ≡ source (codes "2 errors, 3 warnings;1 error, 0 warnings;")

@@ -1,5 +1,5 @@
 -- What a fault is in words, by its cause: a text with marks for the fields of its line, and its cure where one is sure.
-use Rattle.std.specs.Prelude.{ℕ, ◌+◌, ◌-◌, ◌==◌, ◌&&◌, ◌||◌, not, Bool, false, nat_le, nat_lt, List, [], ◌∷◌, length, map, Option, None, is_some, unwrap_or, codes, flat_map, slice_get, if◌then◌else◌}
+use Rattle.std.specs.Prelude.{ℕ, ◌+◌, ◌-◌, ◌==◌, ◌&&◌, ◌||◌, not, Bool, false, nat_le, List, [], ◌∷◌, ◌++◌, length, map, Option, None, is_some, unwrap_or, codes, flat_map, slice_get, if◌then◌else◌}
 use Rattle.std.specs.List.{find, list_any}
 use Rattle.std.specs.Option.{option_map_or, option_or}
 use Rattle.agc_text.specs.Digits.{digits_value}
@@ -7,10 +7,11 @@ use Rattle.agc_text.specs.Fields.{Piece}
 use Rattle.agc_text.specs.Tables.{same_name, value_in}
 use Rattle.yayul.specs.declared.finding.Finding.{Finding}
 use Rattle.faults.specs.Refusals.{meaning}
+use Rattle.faults.specs.Registers.{registers}
 use Rattle.faults.specs.declared.causes.Closeness.{Closeness}
 use Rattle.faults.specs.declared.causes.Closeness.TheVariants.{AsLong, InCapitals, Near}
 use Rattle.faults.specs.Shown.{shown_byte}
-use Rattle.faults.specs.Warnings.{Parts, erase_operators, has_operator, is_among, is_short, operator_names}
+use Rattle.faults.specs.Warnings.{Parts, bank_operators, erase_operators, has_operator, is_among, is_short, operator_names}
 
 -- what is wrong, how it is mended or nothing, and a text that stands in either
 pub record Cause : Type 0 where
@@ -36,7 +37,11 @@ text_of field = option_map_or (λ p. p.text) field []
 abbrev pub shown_field : Option Piece → List ℕ
 shown_field field = map shown_byte (text_of field)
 
--- what a byte of a text stands for: `&` for the label, `%` for the operator, `@` for the operand, `!` for another text, `~` for a text from other lines
+-- where another line stands, in words, by the digits of its number; nothing without them
+abbrev pub of_line : List ℕ → List ℕ
+of_line digits = if length digits == 0 then [] else codes ", of line " ++ digits ++ codes ","
+
+-- what a byte of a text stands for: `&` for the label, `%` for the operator, `@` for the operand, `!` for another text, `~` for a text from other lines, `^` for the line that it is the number of
 abbrev pub filled_byte : Parts → List ℕ → List ℕ → ℕ → List ℕ
 filled_byte parts other beside byte =
     if byte == 0o46 then shown_field parts.label
@@ -44,6 +49,7 @@ filled_byte parts other beside byte =
     else if byte == 0o100 then shown_field parts.operand
     else if byte == 0o41 then other
     else if byte == 0o176 then beside
+    else if byte == 0o136 then of_line beside
     else byte ∷ []
 
 -- a text with all that its marks stand for
@@ -102,9 +108,9 @@ is_near (a ∷ rest) (b ∷ others) =
 
 -- a text that a name is in capitals; one that is near and as long; or one that is near
 abbrev pub is_close : Closeness → List ℕ → List ℕ → Bool
-is_close InCapitals text name = is_in_capitals text name
+is_close InCapitals text name = length text == length name && is_in_capitals text name
 is_close AsLong text name = length text == length name && is_near text name
-is_close Near text name = is_near text name
+is_close Near text name = nat_le (length text) (length name + 1) && nat_le (length name) (length text + 1) && is_near text name
 
 -- the first of some names that is a text in capitals; else, for a text of three bytes or more, one that is near, as long where there is one
 abbrev pub near_name : List (List ℕ) → List ℕ → Option (List ℕ)
@@ -144,47 +150,6 @@ foreign_operators =
     ∷ (codes "2OCT", codes "two words: an OCT for each")
     ∷ []
 
--- the registers and the counters of the machine, and their places
-abbrev pub registers : List (List ℕ × List ℕ)
-registers =
-    (codes "A", codes "0")
-    ∷ (codes "L", codes "1")
-    ∷ (codes "Q", codes "2")
-    ∷ (codes "EBANK", codes "3")
-    ∷ (codes "EB", codes "3")
-    ∷ (codes "FBANK", codes "4")
-    ∷ (codes "FB", codes "4")
-    ∷ (codes "Z", codes "5")
-    ∷ (codes "BBANK", codes "6")
-    ∷ (codes "BB", codes "6")
-    ∷ (codes "ZERO", codes "7")
-    ∷ (codes "ARUPT", codes "10")
-    ∷ (codes "LRUPT", codes "11")
-    ∷ (codes "QRUPT", codes "12")
-    ∷ (codes "ZRUPT", codes "15")
-    ∷ (codes "BBRUPT", codes "16")
-    ∷ (codes "BRUPT", codes "17")
-    ∷ (codes "CYR", codes "20")
-    ∷ (codes "SR", codes "21")
-    ∷ (codes "CYL", codes "22")
-    ∷ (codes "EDOP", codes "23")
-    ∷ (codes "TIME2", codes "24")
-    ∷ (codes "TIME1", codes "25")
-    ∷ (codes "TIME3", codes "26")
-    ∷ (codes "TIME4", codes "27")
-    ∷ (codes "TIME5", codes "30")
-    ∷ (codes "TIME6", codes "31")
-    ∷ (codes "CDUX", codes "32")
-    ∷ (codes "CDUY", codes "33")
-    ∷ (codes "CDUZ", codes "34")
-    ∷ (codes "OPTY", codes "35")
-    ∷ (codes "OPTX", codes "36")
-    ∷ (codes "PIPAX", codes "37")
-    ∷ (codes "PIPAY", codes "40")
-    ∷ (codes "PIPAZ", codes "41")
-    ∷ (codes "INLINK", codes "45")
-    ∷ []
-
 -- ## Classes of operators
 -- operators that take no label
 abbrev pub label_refusers : List (List ℕ)
@@ -200,11 +165,6 @@ octal_operators =
 abbrev pub decimal_operators : List (List ℕ)
 decimal_operators =
     codes "DEC" ∷ []
-
--- those that take a bank
-abbrev pub bank_operators : List (List ℕ)
-bank_operators =
-    codes "BANK" ∷ codes "BLOCK" ∷ []
 
 -- BLOCK
 abbrev pub block_operators : List (List ℕ)
@@ -249,10 +209,16 @@ erasable_readers =
     codes "CCS" ∷ codes "INDEX" ∷ codes "NDX" ∷ codes "CAE" ∷ codes "SU" ∷ codes "DV" ∷ codes "MSU" ∷ []
 
 -- ## Causes
+-- the bytes of a byte order mark stand in front
+abbrev pub begins_with_mark : List ℕ → Bool
+begins_with_mark (a ∷ b ∷ c ∷ rest) = a == 0o357 && b == 0o273 && c == 0o277
+begins_with_mark _ = false
+
 -- E10: the byte at a place of a line
 abbrev pub byte_cause : List ℕ → ℕ → Cause
 byte_cause text place =
-    if option_map_or (λ byte. byte == 0o15) (slice_get text place) false then
+    if place == 0 && begins_with_mark text then cured (codes "a byte order mark stands in front of the line, and a line holds ASCII alone") (codes "tail -c +4 FILE > NEW")
+    else if option_map_or (λ byte. byte == 0o15) (slice_get text place) false then
     (if place + 1 == length text then said (codes "a carriage return ends the line; only a line feed may") else said (codes "a carriage return stands in the line"))
     else if option_map_or (λ byte. byte == 0o14) (slice_get text place) false then said (codes "a form feed stands in the line")
     else if option_map_or (λ byte. nat_le 0o200 byte) (slice_get text place) false then said (codes "this byte is not ASCII, and a line holds ASCII alone, its comment too")
@@ -341,12 +307,12 @@ room_cause parts =
 abbrev pub kind_cause : Parts → Cause
 kind_cause parts =
     if has_operator erase_operators parts then cured (codes "ERASE reserves erasable words, and the location is in fixed memory") (codes "SETLOC and a place below 4000 before it")
-    else if has_operator channel_operators parts then said (codes "% takes a channel, 0 to 777, and @ is none")
-    else if has_operator erasable_operators parts then said (codes "% takes an erasable place, and @ is none")
-    else if has_operator fixed_operators parts then said (codes "% takes a fixed place, and @ is none")
-    else if has_operator jump_operators parts then said (codes "% leads to fixed memory, 2000 and up, and @ is not there")
-    else if has_operator writers parts then cured (codes "% writes to erasable memory, and @ is not there") (codes "reserve the word there: SETLOC and a place below 4000, and ERASE")
-    else if has_operator erasable_readers parts then cured (codes "% takes a word of erasable memory, and @ is not there") (codes "copy the word to erasable memory first")
+    else if has_operator channel_operators parts then said (codes "% takes a channel, 0 to 777, and @^ is none")
+    else if has_operator erasable_operators parts then said (codes "% takes an erasable place, and @^ is none")
+    else if has_operator fixed_operators parts then said (codes "% takes a fixed place, and @^ is none")
+    else if has_operator jump_operators parts then said (codes "% leads to fixed memory, 2000 and up, and @^ is not there")
+    else if has_operator writers parts then cured (codes "% writes to erasable memory, and @^ is not there") (codes "reserve the word there: SETLOC and a place below 4000, and ERASE")
+    else if has_operator erasable_readers parts then cured (codes "% takes a word of erasable memory, and @^ is not there") (codes "copy the word to erasable memory first")
     else said (meaning 25)
 
 -- E26: a number out of its range
@@ -359,9 +325,10 @@ range_cause parts =
     else if is_some parts.offset || is_signed (text_of parts.operand) then said (codes "this leads out of its bank, or of the numbers")
     else said (codes "@ is past the last address or number")
 
--- the label that is near to the symbol of a fault which no line, or no earlier one, defines
+-- the label that is near to the symbol of a fault which no line, or no earlier one, defines; none where a later line does
 abbrev pub near_label : List (List ℕ) → Parts → Finding → Option (List ℕ)
-near_label labels parts f = if f.number == 17 || f.number == 18 then near_name labels (text_of parts.operand) else None
+near_label labels parts f =
+    if (f.number == 17 || f.number == 18) && not (is_among labels (text_of parts.operand)) then near_name labels (text_of parts.operand) else None
 
 -- a fault of a line with some fields in words, where a text from other lines stands for `~` or none does
 abbrev pub fault_cause : Bool → List ℕ → Parts → Finding → Cause
@@ -384,11 +351,16 @@ fault_cause near text parts f =
     else if f.number == 26 then range_cause parts
     else said (meaning f.number)
 
--- a warning in words
-abbrev pub warning_cause : ℕ → Cause
-warning_cause number =
+-- a warning of a line with some fields in words
+abbrev pub warning_cause : Parts → ℕ → Cause
+warning_cause parts number =
     if number == 1 then cured (codes "& is an operator's name, and in the first column it is a label") (codes "put a blank before &")
     else if number == 2 then cured (codes "@ is the register or the counter of that number, and not the number") (codes "a number has a line of its own: NAME OCT @, and % NAME")
     else if number == 3 then cured (codes "% takes two words, and ERASE reserves one for @") (codes "@ ERASE +1 reserves two")
+    else if number == 4 then cured (codes "after % the program runs on to a constant, or where no word stands") (codes "TCF or RETURN behind it, and constants elsewhere")
+    else if number == 5 then cured (codes "a vector has four words, and with this one the next vector begins") (codes "TCF as the fourth, and the routine elsewhere")
+    else if number == 6 then cured (codes "@ stands in a switched erasable bank, and no line sets EB") (codes "NAME ECADR @ on a line of its own; before this CA NAME, and TS 3, which is EB")
+    else if number == 7 then cured_by (codes "& is a register's name, and stands for another place here") (codes "& EQUALS ! is the register") (unwrap_or (value_in registers (text_of parts.label)) [])
     else if number == 8 then said (codes "no operand names &")
+    else if number == 9 then cured (codes "@ stands in a switched bank of fixed memory, and no line sets FB") (codes "NAME FCADR @ on a line of its own; before this CA NAME, and TS 4, which is FB")
     else said []

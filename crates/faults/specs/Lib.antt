@@ -2,8 +2,11 @@ pub mod Refusals
 pub mod Warnings
 pub mod Shown
 pub mod Causes
+pub mod FlightCauses
+pub mod Interpretive
 pub mod Views
 pub mod Report
 pub mod Slips
 pub mod FeedReport
 pub mod Kinds
+pub mod Registers

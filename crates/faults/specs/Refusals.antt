@@ -47,3 +47,28 @@ meaning number =
 -- a number, and what it means
 abbrev pub heading : ℕ → List ℕ
 heading number = codes "E" ++ decimal number ++ codes ": " ++ meaning number ++ codes "\n"
+
+-- the numbers of warnings
+abbrev pub warning_numbers : List ℕ
+warning_numbers = 1 ∷ 2 ∷ 3 ∷ 4 ∷ 5 ∷ 6 ∷ 7 ∷ 8 ∷ 9 ∷ []
+
+abbrev pub is_warned : ℕ → Bool
+is_warned number = list_any (λ n. n == number) warning_numbers
+
+-- what the number of a warning means, in a line
+abbrev pub warning_meaning : ℕ → List ℕ
+warning_meaning number =
+    if number == 1 then codes "an operator's name stands as a label"
+    else if number == 2 then codes "a number is read as a register or a counter"
+    else if number == 3 then codes "two words are taken of a name for one"
+    else if number == 4 then codes "the program runs on to a constant, or where no word stands"
+    else if number == 5 then codes "a vector's words run on into the next vector"
+    else if number == 6 then codes "a switched erasable bank is reached, and no line sets EB"
+    else if number == 7 then codes "a register's name stands for another place"
+    else if number == 8 then codes "no operand names a label"
+    else if number == 9 then codes "a switched bank of fixed memory is reached, and no line sets FB"
+    else []
+
+-- the number of a warning, and what it means
+abbrev pub warning_heading : ℕ → List ℕ
+warning_heading number = codes "W" ++ decimal number ++ codes ": " ++ warning_meaning number ++ codes "\n"

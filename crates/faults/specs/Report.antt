@@ -1,14 +1,19 @@
 -- The faults and the warnings of a source as lines of text.
-use Rattle.std.specs.Prelude.{ℕ, ◌+◌, ◌-◌, ◌==◌, ◌&&◌, List, [], ◌∷◌, ◌++◌, length, map, take, drop, max, min, replicate, codes, decimal, flat_map, nat_le, Bool, Option, Some, is_some, slice_get, unwrap_or, if◌then◌else◌}
+use Rattle.std.specs.Prelude.{ℕ, ◌+◌, ◌-◌, ◌==◌, ◌||◌, List, [], ◌∷◌, ◌++◌, length, map, take, drop, max, min, replicate, codes, decimal, flat_map, nat_le, Bool, Option, Some, None, is_some, unwrap_or, if◌then◌else◌}
 use Rattle.std.specs.List.{fold, position_or_len}
+use Rattle.std.specs.Option.{option_map_or}
 use Rattle.agc_text.specs.Bytes.{space, tab}
 use Rattle.agc_text.specs.Lines.{lines}
 use Rattle.agc_text.specs.Tables.{same_name}
 use Rattle.yayul.specs.declared.finding.Finding.{Finding}
-use Rattle.faults.specs.Causes.{Cause, fault_cause, filled, near_label, text_of, warning_cause}
+use Rattle.yayul.specs.declared.language.Language.{Language}
+use Rattle.faults.specs.Causes.{Cause, filled, near_label, text_of, warning_cause}
 use Rattle.faults.specs.Kinds.{kind_of_source}
+use Rattle.faults.specs.FlightCauses.{told_cause}
+use Rattle.faults.specs.Interpretive.{count_before_first, first_and_others, interpretive_cause}
 use Rattle.faults.specs.Shown.{shown_byte}
-use Rattle.faults.specs.Warnings.{Parts, is_among, parts_of, with_field}
+pub use Rattle.faults.specs.Shown.{text_at}
+use Rattle.faults.specs.Warnings.{Parts, is_among, parts_for, with_field}
 use Rattle.faults.specs.declared.findings.Severity.{Severity}
 use Rattle.faults.specs.declared.findings.Severity.TheVariants.{Error, Warning}
 
@@ -20,13 +25,21 @@ margin_byte byte = if byte == tab then tab else space
 abbrev pub numbered : ℕ → List ℕ
 numbered line = replicate (5 - length (decimal line)) space ++ decimal line
 
+-- how many bytes of a line are shown at most: as many as a line of a source may have
+abbrev pub most_shown : ℕ
+most_shown = 120
+
+-- what is shown of a line
+abbrev pub shown_part : List ℕ → List ℕ
+shown_part text = take most_shown text
+
 -- the line itself, with its number
 abbrev pub row_text : List ℕ → Finding → List ℕ
 row_text text f = numbered f.line ++ codes " | " ++ map shown_byte text ++ codes "\n"
 
 -- carets, where the fault stands
 abbrev pub marks_text : List ℕ → Finding → List ℕ
-marks_text text f = codes "      | " ++ map margin_byte (take f.span.start text) ++ replicate (max 1 f.span.width) 0o136 ++ codes "\n"
+marks_text text f = codes "      | " ++ map margin_byte (take f.span.start text) ++ replicate (max 1 (min f.span.width (length text - f.span.start))) 0o136 ++ codes "\n"
 
 -- where a fault of a file stands: file, line and column, which is at most the one after the last
 abbrev pub place_text : List ℕ → List ℕ → Finding → List ℕ
@@ -38,9 +51,9 @@ kind_text Error = codes ": error E"
 kind_text Warning = codes ": warning W"
 
 -- why it is one, and how it is mended, on a line with some fields
-abbrev pub cause_of : Severity → Bool → List ℕ → Parts → Finding → Cause
-cause_of Error near text parts f = fault_cause near text parts f
-cause_of Warning near text parts f = warning_cause f.number
+abbrev pub cause_of : Language → Severity → Bool → List ℕ → Parts → Finding → Cause
+cause_of language Error near text parts f = told_cause language near text parts f
+cause_of language Warning near text parts f = warning_cause parts f.number
 
 abbrev pub message_text : Parts → List ℕ → Severity → Finding → Cause → List ℕ
 message_text parts label severity f c =
@@ -52,45 +65,50 @@ cure_text parts label c = if length c.cure == 0 then [] else codes "      = " ++
 
 -- a finding with why it is one, and a text from other lines
 abbrev pub caused_text : List ℕ → List ℕ → Parts → List ℕ → Severity → Finding → Cause → List ℕ
-caused_text name text parts label severity f c = place_text name text f ++ message_text parts label severity f c ++ row_text text f ++ marks_text text f ++ cure_text parts label c
+caused_text name text parts label severity f c = place_text name text f ++ message_text parts label severity f c ++ row_text (shown_part text) f ++ marks_text (shown_part text) f ++ cure_text parts label c
 
 -- a finding, with a text from other lines or none
-abbrev pub finding_text : List ℕ → List ℕ → Parts → Option (List ℕ) → Severity → Finding → List ℕ
-finding_text name text parts near severity f = caused_text name text parts (unwrap_or near []) severity f (cause_of severity (is_some near) text parts f)
-
--- the line of a number, of some lines
-abbrev pub text_at : List (List ℕ) → ℕ → List ℕ
-text_at texts line = unwrap_or (slice_get texts (line - 1)) []
+abbrev pub finding_text : Language → List ℕ → List ℕ → Parts → Option (List ℕ) → Severity → Finding → List ℕ
+finding_text language name text parts near severity f = caused_text name text parts (unwrap_or near []) severity f (cause_of language severity (is_some near) text parts f)
 
 -- a line has a label
-abbrev pub has_label : List ℕ → List ℕ → Bool
-has_label label text = same_name (text_of (parts_of text).label) label
+abbrev pub has_label : Language → List ℕ → List ℕ → Bool
+has_label language label text = same_name (text_of (parts_for language text).label) label
 
 -- the number of the first line that has a label
-abbrev pub first_line : List (List ℕ) → List ℕ → ℕ
-first_line texts label = position_or_len (has_label label) texts + 1
+abbrev pub first_line : Language → List (List ℕ) → List ℕ → ℕ
+first_line language texts label = position_or_len (has_label language label) texts + 1
+
+-- a name, where it is a label
+abbrev pub as_label : List (List ℕ) → List ℕ → Option (List ℕ)
+as_label labels name = if is_among labels name then Some name else None
+
+-- the label whose first line a fault is told with: its own where it stands twice, its operand where that is of the wrong kind or out of range
+abbrev pub told_by_line : List (List ℕ) → Parts → ℕ → Option (List ℕ)
+told_by_line labels parts number =
+    if number == 14 then as_label labels (text_of parts.label)
+    else if number == 25 || number == 26 then as_label labels (text_of parts.operand)
+    else None
 
 -- a text from other lines that a fault is told with: the number of the first line that has its label, or the label that is near to its symbol
-abbrev pub beside : List (List ℕ) → List (List ℕ) → Parts → Finding → Option (List ℕ)
-beside labels texts parts f =
-    if f.number == 14 && is_among labels (text_of parts.label) then Some (decimal (first_line texts (text_of parts.label)))
-    else near_label labels parts f
+abbrev pub beside : Language → List (List ℕ) → List (List ℕ) → Parts → Finding → Option (List ℕ)
+beside language labels texts parts f = option_map_or (λ name. Some (decimal (first_line language texts name))) (told_by_line labels parts f.number) (near_label labels parts f)
 
 -- the lines of a finding of a line
-unfoldable pub shown_line : List ℕ → List (List ℕ) → List (List ℕ) → List ℕ → Parts → Severity × Finding → List ℕ
-shown_line name labels texts text parts f = finding_text name text parts (beside labels texts parts f.1) f.0 f.1
+unfoldable pub shown_line : Language → List ℕ → List (List ℕ) → List (List ℕ) → List ℕ → Parts → Severity × Finding → List ℕ
+shown_line language name labels texts text parts f = finding_text language name text parts (beside language labels texts parts f.1) f.0 f.1
 
--- the lines of a finding of a source
-abbrev pub shown_finding : List ℕ → List (List ℕ) → List (List ℕ) → Severity × Finding → List ℕ
-shown_finding name labels texts f = shown_line name labels texts (text_at texts f.1.line) (parts_of (text_at texts f.1.line)) f
+-- the lines of a finding of a source of a language
+abbrev pub shown_finding : Language → List ℕ → List (List ℕ) → List (List ℕ) → Severity × Finding → List ℕ
+shown_finding language name labels texts f = shown_line language name labels texts (text_at texts f.1.line) (parts_for language (text_at texts f.1.line)) f
 
 -- the labels of some lines, each once
-abbrev pub labels_of : List (List ℕ) → List (List ℕ)
-labels_of texts = fold (λ labels text. with_field labels (parts_of text).label) [] texts
+abbrev pub labels_of : Language → List (List ℕ) → List (List ℕ)
+labels_of language texts = fold (λ labels text. with_field labels (parts_for language text).label) [] texts
 
--- the labels that faults are told with: those of all lines, where at most 100 faults are told
-abbrev pub sought_labels : List (List ℕ) → List Finding → List (List ℕ)
-sought_labels texts faults = if nat_le (length faults) 100 then labels_of texts else []
+-- the labels that so many faults are told with: those of all lines, where at most 100 are told
+abbrev pub sought_labels : Language → List (List ℕ) → ℕ → List (List ℕ)
+sought_labels language texts count = if nat_le count 100 then labels_of language texts else []
 
 -- how many of some findings in order stand before a line
 abbrev pub count_before : ℕ → List Finding → ℕ
@@ -118,8 +136,44 @@ counted count noun = decimal count ++ codes " " ++ noun ++ (if count == 1 then [
 abbrev pub count_text : ℕ → ℕ → List ℕ
 count_text errors warnings = counted errors (codes "error") ++ codes ", " ++ counted warnings (codes "warning") ++ codes "\n"
 
--- the lines of the faults and the warnings of a source, and what is said where it has faults and is a file of another kind
-unfoldable pub report : List ℕ → List ℕ → List Finding → List Finding → List ℕ
-report name source faults warnings =
-    flat_map (shown_finding name (sought_labels (lines source) faults) (lines source)) (merged faults warnings)
-    ++ (if length faults == 0 then [] else kind_of_source name source)
+-- ## All
+-- the lines of some faults and warnings
+abbrev pub listed : Language → List ℕ → List (List ℕ) → List (List ℕ) → List Finding → List Finding → List ℕ
+listed language name labels texts faults warnings = flat_map (shown_finding language name labels texts) (merged faults warnings)
+
+-- the lines of the first fault of the interpretive language, which stands for so many
+abbrev pub interpretive_text : Language → List ℕ → List (List ℕ) → ℕ → Finding → List ℕ
+interpretive_text language name texts count f =
+    caused_text name (text_at texts f.line) (parts_for language (text_at texts f.line)) (counted count (codes "line")) Error f interpretive_cause
+
+-- how many of some warnings stand before the line of the first of some faults, all where there is none
+abbrev pub warned_before : List Finding → List Finding → ℕ
+warned_before [] warnings = length warnings
+warned_before (f ∷ fs) warnings = count_before f.line warnings
+
+-- the lines of faults and warnings, of which the first fault is of the interpretive language, and stands for so many
+abbrev pub listed_from : Language → List ℕ → List (List ℕ) → List (List ℕ) → ℕ → List Finding → List Finding → List ℕ
+listed_from language name labels texts count [] warnings = listed language name labels texts [] warnings
+listed_from language name labels texts count (f ∷ fs) warnings = interpretive_text language name texts count f ++ listed language name labels texts fs warnings
+
+-- the lines of some faults, of faults of which the first is of the interpretive language, and of warnings
+abbrev pub listed_around : Language → List ℕ → List (List ℕ) → List (List ℕ) → ℕ → List Finding → List Finding → List Finding → List ℕ
+listed_around language name labels texts count earlier rest warnings =
+    listed language name labels texts earlier (take (warned_before rest warnings) warnings)
+    ++ listed_from language name labels texts count rest (drop (warned_before rest warnings) warnings)
+
+-- the same, where of all those faults the first stands for those of the interpretive language
+abbrev pub told_around : Language → List ℕ → List (List ℕ) → List Finding → List Finding → List Finding → List ℕ
+told_around language name texts earlier rest warnings =
+    listed_around language name (sought_labels language texts (length earlier + length (first_and_others texts rest))) texts
+    (length rest - length (first_and_others texts rest) + 1) earlier (first_and_others texts rest) warnings
+
+-- the lines of the faults and the warnings of a source: those of lines of the interpretive language are told by the first
+unfoldable pub told_text : Language → List ℕ → List (List ℕ) → List Finding → List Finding → List ℕ
+told_text language name texts faults warnings =
+    told_around language name texts (take (count_before_first language texts faults) faults) (drop (count_before_first language texts faults) faults) warnings
+
+-- the lines of the faults and the warnings of a source of a language, and what is said where it has faults and is a file of another kind
+unfoldable pub report : Language → List ℕ → List ℕ → List Finding → List Finding → List ℕ
+report language name source faults warnings =
+    told_text language name (lines source) faults warnings ++ (if length faults == 0 then [] else kind_of_source name source)

@@ -1,17 +1,28 @@
 -- What in a source is likely a mistake, though it is no fault: definitions over its lines, whatever stands before them.
-use Rattle.std.specs.Prelude.{ℕ, ◌+◌, ◌==◌, ◌&&◌, not, Bool, false, nat_le, nat_lt, List, [], ◌∷◌, ◌++◌, length, map, Option, is_some, codes, if◌then◌else◌}
+use Rattle.std.specs.Prelude.{ℕ, ◌+◌, ◌-◌, ◌%◌, ◌==◌, ◌&&◌, ◌||◌, not, Bool, true, false, nat_le, nat_lt, List, [], ◌∷◌, ◌++◌, length, map, Option, Some, None, is_some, codes, option_and_then, if◌then◌else◌}
 use Rattle.std.specs.List.{fold, list_any}
 use Rattle.std.specs.Option.{option_map, option_map_or}
-use Rattle.agc_text.specs.Digits.{digits_value}
+use Rattle.agc_text.specs.Digits.{digits_value, sized}
 use Rattle.agc_text.specs.Fields.{Piece, fields, label_of, others_of}
 use Rattle.agc_text.specs.Views.{piece}
+use Rattle.agc_text.specs.declared.digits.Number.{Number}
+use Rattle.agc_text.specs.declared.digits.Number.TheVariants.{Small}
 use Rattle.agc_text.specs.declared.fields.Line.{Line}
-use Rattle.agc_text.specs.Tables.{same_name}
+use Rattle.agc_text.specs.Tables.{same_name, value_in}
+use Rattle.yayul.specs.Flight.{uncounted}
 use Rattle.yayul.specs.Operators.{operators}
 use Rattle.yayul.specs.Survey.{field_at, looked_at, span_of}
 use Rattle.yayul.specs.declared.finding.Finding.{Finding}
 use Rattle.yayul.specs.declared.language.Language.{Language}
+use Rattle.yayul.specs.declared.language.Language.TheVariants.{Flight, Standard}
+use Rattle.faults.specs.Registers.{registers}
+use Rattle.faults.specs.declared.flow.Before.{Before}
 use Rattle.faults.specs.declared.mistakes.Names.{Names}
+use Rattle.faults.specs.declared.switched.BankRegister.{BankRegister}
+use Rattle.faults.specs.declared.switched.BankRegister.TheVariants.{Eb, Fb}
+use Rattle.faults.specs.declared.switched.Banks.{Banks}
+use Rattle.faults.specs.declared.switched.Region.{Region}
+use Rattle.faults.specs.declared.switched.Region.TheVariants.{Common, Elsewhere, SwitchedErasable, SwitchedFixed}
 
 -- ## Names
 -- a text is one of some names
@@ -41,6 +52,25 @@ goes_on text = nat_lt 3 (length (others_of (fields text)))
 
 abbrev pub parts_of : List ℕ → Parts
 parts_of text = record { label = label_of (fields text); operator = field_at text 0; operand = field_at text 1; offset = field_at text 2; more = goes_on text }
+
+-- a field so many bytes later
+abbrev pub later_field : ℕ → Piece → Piece
+later_field count p = record { start = p.start + count; text = p.text }
+
+-- fields so many bytes later
+abbrev pub later_parts : ℕ → Parts → Parts
+later_parts count parts = record {
+  label = option_map (later_field count) parts.label;
+  operator = option_map (later_field count) parts.operator;
+  operand = option_map (later_field count) parts.operand;
+  offset = option_map (later_field count) parts.offset;
+  more = parts.more;
+}
+
+-- the fields of a line of a language: in that of flight programs those after a count
+abbrev pub parts_for : Language → List ℕ → Parts
+parts_for Standard text = parts_of text
+parts_for Flight text = later_parts (length text - length (uncounted text)) (parts_of (uncounted text))
 
 -- a line that was taken apart
 abbrev pub parts_in : Line → Parts
@@ -112,30 +142,301 @@ with_single names parts = if reserves_one parts then with_field names parts.labe
 abbrev pub pair_warnings : List (List ℕ) → ℕ → Parts → List Finding
 pair_warnings singles line parts = at_field (λ p. warned_if (has_alone pair_operators parts && is_among singles p.text) line 3 p) parts.operand
 
+-- ## 4: a program that runs on to a constant, or where no word stands
+-- constants and addresses, which are no instructions
+abbrev pub constant_operators : List (List ℕ)
+constant_operators = codes "OCT" ∷ codes "DEC" ∷ codes "ADRES" ∷ codes "ECADR" ∷ codes "CADR" ∷ codes "FCADR" ∷ codes "2CADR" ∷ []
+
+-- operators that move the location and give no word
+abbrev pub moving_operators : List (List ℕ)
+moving_operators = codes "SETLOC" ∷ codes "BANK" ∷ codes "BLOCK" ∷ codes "ERASE" ∷ []
+
+-- operators that do neither
+abbrev pub still_operators : List (List ℕ)
+still_operators = codes "EQUALS" ∷ codes "=" ∷ codes "EBANK=" ∷ []
+
+-- operators that give words
+abbrev pub gives_word : Parts → Bool
+gives_word parts = is_some parts.operator && not (has_operator moving_operators parts || has_operator still_operators parts)
+
+-- instructions
+abbrev pub is_instruction : Parts → Bool
+is_instruction parts = gives_word parts && not (has_operator constant_operators parts)
+
+-- those that never go on to the next word, or leave there what a routine takes
+abbrev pub leaving_operators : List (List ℕ)
+leaving_operators =
+    codes "TC" ∷ codes "TCR" ∷ codes "TCF" ∷ codes "RETURN" ∷ codes "RESUME" ∷ codes "DTCB" ∷ codes "DTCF" ∷ codes "TCAA" ∷ codes "XLQ" ∷ codes "XXALQ" ∷ []
+
+-- those that may write Z, and so go elsewhere
+abbrev pub storing_operators : List (List ℕ)
+storing_operators = codes "TS" ∷ codes "XCH" ∷ codes "LXCH" ∷ codes "QXCH" ∷ codes "DXCH" ∷ []
+
+-- the registers beside Z whose exchange by two words writes it, by name
+abbrev pub jumping_names : List (List ℕ)
+jumping_names = codes "Z" ∷ codes "FB" ∷ codes "FBANK" ∷ codes "BB" ∷ codes "BBANK" ∷ []
+
+-- one of these places, by name or by number
+abbrev pub is_jump_place : Piece → Bool
+is_jump_place p = is_among jumping_names p.text || is_register_number p.text
+
+-- the next word is not reached from this one
+abbrev pub leaves : Parts → Bool
+leaves parts = has_operator leaving_operators parts || (has_operator storing_operators parts && option_map_or is_jump_place parts.operand false)
+
+-- of some lines the first that gives words or moves the location gives an instruction
+abbrev pub goes_on_to_instruction : List (List ℕ) → Bool
+goes_on_to_instruction [] = false
+goes_on_to_instruction (text ∷ texts) =
+    if gives_word (parts_of text) || has_operator moving_operators (parts_of text) then is_instruction (parts_of text) else goes_on_to_instruction texts
+
+-- operators that read a word, an instruction as well as any
+abbrev pub word_readers : List (List ℕ)
+word_readers = readers ++ codes "CAF" ∷ codes "DCA" ∷ codes "DCS" ∷ codes "INDEX" ∷ codes "NDX" ∷ []
+
+-- some names, and the operand of a line that reads it
+abbrev pub with_read : List (List ℕ) → Parts → List (List ℕ)
+with_read names parts = if has_operator word_readers parts then with_field names parts.operand else names
+
+-- an instruction, none that is read as a word, is not left, and the lines after it do not go on with another
+abbrev pub end_warnings : List (List ℕ) → List (List ℕ) → ℕ → Parts → List Finding
+end_warnings read after line parts =
+    at_field (λ p. warned_if (is_among operator_names p.text && is_instruction parts && not (leaves parts) && not (option_map_or (λ l. is_among read l.text) parts.label false)
+    && not (goes_on_to_instruction after)) line 4 p) parts.operator
+
+-- ## 5: a vector's words that run on into the next vector
+-- the place of a vector where an interrupt enters: 4004, 4010 and so on to 4050
+abbrev pub is_vector : ℕ → Bool
+is_vector place = place % 4 == 0 && nat_le 0o4004 place && nat_le place 0o4050
+
+abbrev pub setting_operators : List (List ℕ)
+setting_operators = codes "SETLOC" ∷ []
+
+-- SETLOC and the place of a vector
+abbrev pub sets_vector : Parts → Bool
+sets_vector parts = has_alone setting_operators parts && option_map_or (λ p. option_map_or is_vector (digits_value 8 p.text) false) parts.operand false
+
+-- 2CADR, which gives two words
+abbrev pub double_operators : List (List ℕ)
+double_operators = codes "2CADR" ∷ []
+
+-- how many words a line gives
+abbrev pub word_count : Parts → ℕ
+word_count parts = if has_operator double_operators parts then 2 else if gives_word parts then 1 else 0
+
+-- after the four words of a vector another stands, and the fourth is not left
+abbrev pub is_overrun : Option ℕ → Bool → Bool
+is_overrun filled left = option_map_or (nat_le 4) filled false && not left
+
+abbrev pub vector_warnings : Before → ℕ → Parts → List Finding
+vector_warnings before line parts = at_field (λ p. warned_if (is_overrun before.filled before.left && gives_word parts) line 5 p) parts.operator
+
+-- ## 6 and 9: a word of a switched bank, where no line sets EB or FB
+-- the region of a place as SETLOC takes it: EB leads to those of erasable memory from 1400 on, and banks 2 and 3 are reached whatever FB holds
+abbrev pub region_of_place : ℕ → Region
+region_of_place place = if nat_lt place 0o1400 then Elsewhere else if nat_lt place 0o4000 then SwitchedErasable else if nat_lt place 0o10000 then Common else Elsewhere
+
+-- the region of a bank of fixed memory; a machine starts with FB at bank 0
+abbrev pub region_of_bank : ℕ → Region
+region_of_bank bank = if bank == 2 || bank == 3 then Common else if nat_lt 0 bank && nat_lt bank 0o44 then SwitchedFixed else Elsewhere
+
+-- the region of a number in octal, and elsewhere by any other field
+abbrev pub region_at : (ℕ → Region) → Option Piece → Region
+region_at region_of field = option_map_or (λ p. option_map_or region_of (digits_value 8 p.text) Elsewhere) field Elsewhere
+
+abbrev pub bank_operators : List (List ℕ)
+bank_operators = codes "BANK" ∷ codes "BLOCK" ∷ []
+
+-- where words stand after a line, by where they do before it
+abbrev pub region_after : Region → Parts → Region
+region_after region parts =
+    if has_alone setting_operators parts then region_at region_of_place parts.operand
+    else if has_operator setting_operators parts then Elsewhere
+    else if has_operator bank_operators parts then region_at region_of_bank parts.operand
+    else region
+
+abbrev pub is_common : Region → Bool
+is_common Common = true
+is_common SwitchedErasable = false
+is_common SwitchedFixed = false
+is_common Elsewhere = false
+
+abbrev pub is_switched_erasable : Region → Bool
+is_switched_erasable SwitchedErasable = true
+is_switched_erasable Common = false
+is_switched_erasable SwitchedFixed = false
+is_switched_erasable Elsewhere = false
+
+abbrev pub is_switched_fixed : Region → Bool
+is_switched_fixed SwitchedFixed = true
+is_switched_fixed Common = false
+is_switched_fixed SwitchedErasable = false
+is_switched_fixed Elsewhere = false
+
+abbrev pub value_operators : List (List ℕ)
+value_operators = codes "EQUALS" ∷ codes "=" ∷ []
+
+-- some names, and the label of a word that a line reserves in a switched erasable bank
+abbrev pub with_erasable : Region → List (List ℕ) → Parts → List (List ℕ)
+with_erasable region names parts = if is_switched_erasable region && has_operator erase_operators parts then with_field names parts.label else names
+
+-- some names, and a label that stands for a place of a switched bank of fixed memory
+abbrev pub with_fixed : Region → List (List ℕ) → Parts → List (List ℕ)
+with_fixed region names parts = if is_switched_fixed region && not (has_operator value_operators parts) then with_field names parts.label else names
+
+-- EB is 3, FB 4 and BB, which has both, 6; an exchange of two words has one of them from the place before it too, and Z, 5, before BB
+abbrev pub is_bank_place : BankRegister → ℕ → Bool
+is_bank_place Eb n = n == 2 || n == 3 || n == 5 || n == 6
+is_bank_place Fb n = nat_le 3 n && nat_le n 6
+
+-- octal digits of one of these places
+abbrev pub is_bank_number : BankRegister → List ℕ → Bool
+is_bank_number register text = option_map_or (is_bank_place register) (digits_value 8 text) false
+
+-- some names, and the label of a line that gives it one of these places
+abbrev pub with_bank_name : BankRegister → List (List ℕ) → Parts → List (List ℕ)
+with_bank_name register names parts =
+    if has_alone value_operators parts && option_map_or (λ p. is_bank_number register p.text) parts.operand false then with_field names parts.label else names
+
+-- DTCB and DTCF, which set BB and FB
+abbrev pub far_operators : List (List ℕ)
+far_operators = codes "DTCB" ∷ codes "DTCF" ∷ []
+
+-- some names, and where a line stores
+abbrev pub with_stored : List (List ℕ) → Parts → List (List ℕ)
+with_stored names parts = if has_operator storing_operators parts then with_field names parts.operand else names
+
+-- what is known of banks after a line
+abbrev pub banks_after : Banks → Parts → Banks
+banks_after banks parts = record {
+  region = region_after banks.region parts;
+  erasable = with_erasable banks.region banks.erasable parts;
+  fixed = with_fixed banks.region banks.fixed parts;
+  erasable_registers = with_bank_name Eb banks.erasable_registers parts;
+  fixed_registers = with_bank_name Fb banks.fixed_registers parts;
+  stored = with_stored banks.stored parts;
+  far = banks.far || has_operator far_operators parts;
+}
+
+-- a source begins at 4000
+abbrev pub no_banks : Banks
+no_banks = record { region = Common; erasable = []; fixed = []; erasable_registers = []; fixed_registers = []; stored = []; far = false }
+
+abbrev pub banks_of : Language → List (List ℕ) → Banks
+banks_of language texts = fold (λ banks text. banks_after banks (parts_for language text)) no_banks texts
+
+-- a field is the number of one of these places, or one of some names
+abbrev pub is_bank_field : BankRegister → List (List ℕ) → List ℕ → Bool
+is_bank_field register names text = is_bank_number register text || is_among names text
+
+-- some line may set a register: by DTCB or DTCF, or by a store at one of its places, by number or by one of some names
+abbrev pub may_set : BankRegister → List (List ℕ) → Banks → Bool
+may_set register names banks = banks.far || list_any (is_bank_field register names) banks.stored
+
+abbrev pub may_set_erasable : Banks → Bool
+may_set_erasable banks = may_set Eb banks.erasable_registers banks
+
+abbrev pub may_set_fixed : Banks → Bool
+may_set_fixed banks = may_set Fb banks.fixed_registers banks
+
+-- an instruction on a word of a switched erasable bank, where no line sets EB
+abbrev pub erasable_warnings : Names → ℕ → Parts → List Finding
+erasable_warnings names line parts =
+    at_field (λ p. warned_if (not names.sets_erasable && is_instruction parts && is_among names.banks.erasable p.text) line 6 p) parts.operand
+
+-- an instruction of banks 2 and 3 on a place of a switched bank of fixed memory, where no line sets FB
+abbrev pub fixed_warnings : Names → Region → ℕ → Parts → List Finding
+fixed_warnings names region line parts =
+    at_field (λ p. warned_if (not names.sets_fixed && is_common region && is_instruction parts && is_among names.banks.fixed p.text) line 9 p) parts.operand
+
+-- ## 7: a register's name at another place
+-- two numbers in octal are the same
+abbrev pub is_same_small : Option Number → Option Number → Bool
+is_same_small (Some (Small a)) (Some (Small b)) = a == b
+is_same_small _ _ = false
+
+abbrev pub is_same_number : List ℕ → List ℕ → Bool
+is_same_number a b = is_same_small (option_map sized (digits_value 8 a)) (option_map sized (digits_value 8 b))
+
+-- ZERO, which is often a constant
+abbrev pub common_names : List (List ℕ)
+common_names = codes "ZERO" ∷ []
+
+-- a line that stands for a place or has a word; or one that gives another number than this
+abbrev pub is_elsewhere : List ℕ → Parts → Bool
+is_elsewhere place parts =
+    if has_operator value_operators parts
+    then has_alone value_operators parts && option_map_or (λ p. is_some (digits_value 8 p.text) && not (is_same_number p.text place)) parts.operand false
+    else true
+
+abbrev pub register_warnings : ℕ → Parts → List Finding
+register_warnings line parts =
+    at_field (λ p. warned_if (not (is_among common_names p.text) && option_map_or (λ place. is_elsewhere place parts) (value_in registers p.text) false) line 7 p) parts.label
+
 -- ## 8: a label that no operand names
 abbrev pub unused_warnings : List (List ℕ) → ℕ → Parts → List Finding
 unused_warnings operands line parts = at_field (λ p. warned_if (is_short p.text && not (is_among operands p.text)) line 8 p) parts.label
 
--- ## All
--- the names of a source: those for which one word is reserved, and those that an operand is
-abbrev pub names_of : List (List ℕ) → Names
-names_of texts = record {
-  singles = fold (λ names text. with_single names (parts_of text)) [] texts;
-  operands = fold (λ names text. with_field names (parts_of text).operand) [] texts;
+-- ## What stands before a line
+-- how many words a vector has after a line, or nothing where none is filled
+abbrev pub filled_after : Option ℕ → Parts → Option ℕ
+filled_after filled parts =
+    if has_operator moving_operators parts then (if sets_vector parts then Some 0 else None)
+    else option_and_then (λ n. if nat_lt n 4 then Some (n + word_count parts) else if gives_word parts then None else Some n) filled
+
+-- what stands after a line
+abbrev pub before_next : Before → Parts → Before
+before_next before parts = record {
+  indexed = indexed_after before.indexed parts;
+  filled = filled_after before.filled parts;
+  left = if gives_word parts then leaves parts else before.left;
+  region = region_after before.region parts;
 }
 
--- the warnings of a line, in the order of its fields, after a word that adds to its address or another; those of labels that nothing names where they are asked for
-abbrev pub line_warnings : Bool → Names → Bool → ℕ → Parts → List Finding
-line_warnings unused names indexed line parts =
-    label_warnings line parts ++ (if unused then unused_warnings names.operands line parts else [])
-    ++ number_warnings indexed line parts ++ pair_warnings names.singles line parts
+abbrev pub at_start : Before
+at_start = record { indexed = false; filled = None; left = false; region = Common }
 
--- the warnings of some lines, the first of them with a number
-abbrev pub warned_lines : Bool → Names → Bool → ℕ → List (List ℕ) → List Finding
-warned_lines unused names indexed line [] = []
-warned_lines unused names indexed line (text ∷ texts) =
-    line_warnings unused names indexed line (parts_of text) ++ warned_lines unused names (indexed_after indexed (parts_of text)) (line + 1) texts
+-- ## All
+-- the names of a source of a language: those for which one word is reserved, those that an operand is and those that are read; and what is known of banks
+abbrev pub names_of : Language → List (List ℕ) → Names
+names_of language texts = record {
+  singles = fold (λ names text. with_single names (parts_for language text)) [] texts;
+  operands = fold (λ names text. with_field names (parts_for language text).operand) [] texts;
+  read = fold (λ names text. with_read names (parts_for language text)) [] texts;
+  banks = banks_of language texts;
+  sets_erasable = may_set_erasable (banks_of language texts);
+  sets_fixed = may_set_fixed (banks_of language texts);
+}
+
+-- a source without forms of flight programs, whose words of other kinds are not told from instructions
+abbrev pub is_standard : Language → Bool
+is_standard Standard = true
+is_standard Flight = false
+
+-- the warnings of a line's label; of one that nothing names where they are asked for
+abbrev pub name_warnings : Bool → Names → ℕ → Parts → List Finding
+name_warnings unused names line parts = label_warnings line parts ++ register_warnings line parts ++ (if unused then unused_warnings names.operands line parts else [])
+
+-- the warnings of its operator, by what stands before it and the lines after it
+abbrev pub flow_warnings : Language → Names → Before → List (List ℕ) → ℕ → Parts → List Finding
+flow_warnings language names before after line parts = (if is_standard language then end_warnings names.read after line parts else []) ++ vector_warnings before line parts
+
+-- the warnings of its operand
+abbrev pub operand_warnings : Names → Before → ℕ → Parts → List Finding
+operand_warnings names before line parts =
+    number_warnings before.indexed line parts ++ pair_warnings names.singles line parts ++ erasable_warnings names line parts ++ fixed_warnings names before.region line parts
+
+-- the warnings of a line, in the order of its fields
+abbrev pub line_warnings : Language → Bool → Names → Before → List (List ℕ) → ℕ → Parts → List Finding
+line_warnings language unused names before after line parts =
+    name_warnings unused names line parts ++ flow_warnings language names before after line parts ++ operand_warnings names before line parts
+
+-- the warnings of some lines of a language, the first of them with a number
+abbrev pub warned_lines : Language → Bool → Names → Before → ℕ → List (List ℕ) → List Finding
+warned_lines language unused names before line [] = []
+warned_lines language unused names before line (text ∷ texts) =
+    line_warnings language unused names before texts line (parts_for language text) ++ warned_lines language unused names (before_next before (parts_for language text)) (line + 1) texts
 
 -- the warnings of a source of a language, of as many lines as are looked at for faults
 unfoldable pub warnings : Language → Bool → List ℕ → List Finding
-warnings language unused source = warned_lines unused (names_of (looked_at language source)) false 1 (looked_at language source)
+warnings language unused source = warned_lines language unused (names_of language (looked_at language source)) at_start 1 (looked_at language source)

@@ -1,21 +1,24 @@
 //! What a fault is in words, by its cause.
 
-ghost use Rattle.std.specs.Prelude.{◌≡◌, map, find};
+ghost use Rattle.std.specs.Prelude.{◌≡◌, ◌+◌, ◌&&◌, [], length, map, nat_le, find, unwrap_or};
 ghost use Rattle.std.specs.Option.{option_map};
 ghost use Rattle.agc_text.specs.Tables.{value_in};
 ghost use Rattle.agc_text.specs.Views.{piece};
-ghost use Rattle.faults.specs.Warnings.{parts_in, operator_names};
-ghost use Rattle.faults.specs.Causes.{byte_cause, label_cause, operator_cause, digits_cause, place_cause, operand_cause, symbol_cause, undefined_cause, early_cause, bank_cause, room_cause, kind_cause, range_cause, fault_cause, warning_cause, near_label, said, cured, cured_by, text_of, holds, begins, is_signed, is_foreign_comment, has_foreign_comment, is_beyond_octal, near_name, is_close, is_in_capitals, capital, is_near, is_exchanged, foreign_operators, registers, label_refusers, octal_operators, decimal_operators, bank_operators, block_operators, plain_operators, channel_operators, erasable_operators, fixed_operators, jump_operators, writers, erasable_readers};
+ghost use Rattle.faults.specs.Warnings.{parts_in, operator_names, bank_operators};
+ghost use Rattle.faults.specs.Causes.{byte_cause, begins_with_mark, label_cause, operator_cause, digits_cause, place_cause, operand_cause, symbol_cause, undefined_cause, early_cause, bank_cause, room_cause, kind_cause, range_cause, fault_cause, warning_cause, near_label, said, cured, cured_by, text_of, holds, begins, is_signed, is_foreign_comment, has_foreign_comment, is_beyond_octal, near_name, is_close, is_in_capitals, capital, is_near, is_exchanged, foreign_operators, label_refusers, octal_operators, decimal_operators, block_operators, plain_operators, channel_operators, erasable_operators, fixed_operators, jump_operators, writers, erasable_readers};
+ghost use Rattle.faults.specs.Registers.{registers};
 ghost use Rattle.faults.specs.Views.{cause_in, entries};
 
 use crate::mistakes::{erase_operators, has_operator, is_operator, operator_names};
 use crate::names::{NameSet, is_short};
 use crate::refusals::meaning;
+use crate::registers::registers;
 use agc_text::{Field, Line, decimal_value, octal_value};
 use yayul::Finding;
 
 /// What is wrong, how it is mended or nothing, and a text that stands in either. Marks stand for the fields of the line:
-/// `&` for the label, `%` for the operator, `@` for the operand, `!` for the other text, `~` for a text from other lines.
+/// `&` for the label, `%` for the operator, `@` for the operand, `!` for the other text, `~` for a text from other lines,
+/// `^` for the line that it is the number of.
 #[derive(Clone, Copy, Drop)]
 pub(crate) struct Cause {
     /// What is wrong.
@@ -95,9 +98,9 @@ pub(crate) fn fault_cause(text: &[u8], parts: &Line<'_>, near: bool, finding: &F
     }
 }
 
-/// A warning in words.
-pub(crate) fn warning_cause(number: u8) -> Cause
-    ensures { cause_in result ≡ warning_cause number }
+/// A warning of a line with some fields in words.
+pub(crate) fn warning_cause(parts: &Line<'_>, number: u8) -> Cause
+    ensures { cause_in result ≡ warning_cause (parts_in parts.now) number }
 {
     match number {
         1 => Cause::cured(
@@ -112,12 +115,43 @@ pub(crate) fn warning_cause(number: u8) -> Cause
             b"% takes two words, and ERASE reserves one for @",
             b"@ ERASE +1 reserves two",
         ),
+        4 => Cause::cured(
+            b"after % the program runs on to a constant, or where no word stands",
+            b"TCF or RETURN behind it, and constants elsewhere",
+        ),
+        5 => Cause::cured(
+            b"a vector has four words, and with this one the next vector begins",
+            b"TCF as the fourth, and the routine elsewhere",
+        ),
+        6 => Cause::cured(
+            b"@ stands in a switched erasable bank, and no line sets EB",
+            b"NAME ECADR @ on a line of its own; before this CA NAME, and TS 3, which is EB",
+        ),
+        7 => Cause::cured_by(
+            b"& is a register's name, and stands for another place here",
+            b"& EQUALS ! is the register",
+            place_named(parts),
+        ),
         8 => Cause::said(b"no operand names &"),
+        9 => Cause::cured(
+            b"@ stands in a switched bank of fixed memory, and no line sets FB",
+            b"NAME FCADR @ on a line of its own; before this CA NAME, and TS 4, which is FB",
+        ),
         _ => Cause::said(b""),
     }
 }
 
-/// The label that is near to the symbol of a fault which no line, or no earlier one, defines.
+// The place of the register that a label is the name of; none where it is no such name.
+fn place_named(parts: &Line<'_>) -> &'static [u8]
+    ensures { result.now ≡ unwrap_or (value_in registers (text_of (parts_in parts.now).label)) [] }
+{
+    match value_in(registers(), text_of(parts.label)) {
+        Some(place) => place,
+        None => b"",
+    }
+}
+
+/// The label that is near to the symbol of a fault which no line, or no earlier one, defines; none where a later line does.
 pub(crate) fn near_label<'a>(
     labels: &'a NameSet,
     parts: &Line<'_>,
@@ -125,8 +159,9 @@ pub(crate) fn near_label<'a>(
 ) -> Option<&'a [u8]>
     ensures { option_map (λ name. name.now) result ≡ near_label labels.now (parts_in parts.now) finding.now }
 {
+    let symbol = text_of(parts.operand);
     match finding.number {
-        17 | 18 => labels.near(text_of(parts.operand)),
+        17 | 18 if !labels.has(symbol) => labels.near(symbol),
         _ => None,
     }
 }
@@ -135,6 +170,12 @@ pub(crate) fn near_label<'a>(
 pub(crate) fn byte_cause(text: &[u8], place: usize) -> Cause
     ensures { cause_in result ≡ byte_cause text.now place }
 {
+    if place == 0 && begins_with_mark(text) {
+        return Cause::cured(
+            b"a byte order mark stands in front of the line, and a line holds ASCII alone",
+            b"tail -c +4 FILE > NEW",
+        );
+    }
     match text.get(place) {
         Some(b'\r') if place + 1 == text.len() => {
             Cause::said(b"a carriage return ends the line; only a line feed may")
@@ -145,6 +186,16 @@ pub(crate) fn byte_cause(text: &[u8], place: usize) -> Cause
             Cause::said(b"this byte is not ASCII, and a line holds ASCII alone, its comment too")
         }
         _ => Cause::said(b"this byte is no character that prints, no blank and no tab"),
+    }
+}
+
+// The bytes of a byte order mark stand in front.
+fn begins_with_mark(text: &[u8]) -> bool
+    ensures { result ≡ begins_with_mark text.now }
+{
+    match text {
+        [a, b, c, ..] => *a == 0o357 && *b == 0o273 && *c == 0o277,
+        _ => false,
     }
 }
 
@@ -306,7 +357,7 @@ fn early_cause(near: bool, parts: &Line<'_>) -> Cause
 }
 
 // E17 and E18: a symbol that no line, or no earlier one, defines.
-fn symbol_cause(words: &'static [u8], near: bool, parts: &Line<'_>) -> Cause
+pub(crate) fn symbol_cause(words: &'static [u8], near: bool, parts: &Line<'_>) -> Cause
     ensures { cause_in result ≡ symbol_cause words.now near (parts_in parts.now) }
 {
     if let Some(place) = value_in(registers(), text_of(parts.operand)) {
@@ -368,21 +419,21 @@ fn kind_cause(parts: &Line<'_>) -> Cause
             b"SETLOC and a place below 4000 before it",
         )
     } else if has_operator(channel_operators(), parts) {
-        Cause::said(b"% takes a channel, 0 to 777, and @ is none")
+        Cause::said(b"% takes a channel, 0 to 777, and @^ is none")
     } else if has_operator(erasable_operators(), parts) {
-        Cause::said(b"% takes an erasable place, and @ is none")
+        Cause::said(b"% takes an erasable place, and @^ is none")
     } else if has_operator(fixed_operators(), parts) {
-        Cause::said(b"% takes a fixed place, and @ is none")
+        Cause::said(b"% takes a fixed place, and @^ is none")
     } else if has_operator(jump_operators(), parts) {
-        Cause::said(b"% leads to fixed memory, 2000 and up, and @ is not there")
+        Cause::said(b"% leads to fixed memory, 2000 and up, and @^ is not there")
     } else if has_operator(writers(), parts) {
         Cause::cured(
-            b"% writes to erasable memory, and @ is not there",
+            b"% writes to erasable memory, and @^ is not there",
             b"reserve the word there: SETLOC and a place below 4000, and ERASE",
         )
     } else if has_operator(erasable_readers(), parts) {
         Cause::cured(
-            b"% takes a word of erasable memory, and @ is not there",
+            b"% takes a word of erasable memory, and @^ is not there",
             b"copy the word to erasable memory first",
         )
     } else {
@@ -420,14 +471,14 @@ pub(crate) fn text_of(field: Option<Field<'_>>) -> &[u8]
 }
 
 // Whether a text holds a byte.
-fn holds(byte: u8, text: &[u8]) -> bool
+pub(crate) fn holds(byte: u8, text: &[u8]) -> bool
     ensures { result ≡ holds byte text.now }
 {
     text.contains(&byte)
 }
 
 // Whether a text begins with a byte.
-fn begins(byte: u8, text: &[u8]) -> bool
+pub(crate) fn begins(byte: u8, text: &[u8]) -> bool
     ensures { result ≡ begins byte text.now }
 {
     match text.first() {
@@ -436,8 +487,8 @@ fn begins(byte: u8, text: &[u8]) -> bool
     }
 }
 
-// Whether a plus or a minus sign stands first.
-fn is_signed(text: &[u8]) -> bool
+/// Whether a plus or a minus sign stands first.
+pub(crate) fn is_signed(text: &[u8]) -> bool
     ensures { result ≡ is_signed text.now }
 {
     begins(b'+', text) || begins(b'-', text)
@@ -451,7 +502,7 @@ fn is_foreign_comment(text: &[u8]) -> bool
 }
 
 // Whether such a comment stands for the operand or the offset.
-fn has_foreign_comment(parts: &Line<'_>) -> bool
+pub(crate) fn has_foreign_comment(parts: &Line<'_>) -> bool
     ensures { result ≡ has_foreign_comment (parts_in parts.now) }
 {
     is_foreign_comment(text_of(parts.operand)) || is_foreign_comment(text_of(parts.offset))
@@ -514,10 +565,17 @@ pub(crate) fn is_close(closeness: Closeness, text: &[u8], name: &[u8]) -> bool
     ensures { result ≡ is_close closeness text.now name.now }
 {
     match closeness {
-        Closeness::InCapitals => is_in_capitals(text, name),
+        Closeness::InCapitals => text.len() == name.len() && is_in_capitals(text, name),
         Closeness::AsLong => text.len() == name.len() && is_near(text, name),
-        Closeness::Near => is_near(text, name),
+        Closeness::Near => is_about_as_long(text, name) && is_near(text, name),
     }
+}
+
+// Whether a text has one byte more than a name at most, and one less at least.
+fn is_about_as_long(text: &[u8], name: &[u8]) -> bool
+    ensures { result ≡ (nat_le (length text.now) (length name.now + 1) && nat_le (length name.now) (length text.now + 1)) }
+{
+    text.len().abs_diff(name.len()) <= 1
 }
 
 /// Whether a text in capitals is a name.
@@ -629,46 +687,7 @@ const FOREIGN_OPERATORS: [(&str, &str); 27] = [
     ("2OCT", "two words: an OCT for each"),
 ];
 
-const REGISTERS: [(&str, &str); 36] = [
-    ("A", "0"),
-    ("L", "1"),
-    ("Q", "2"),
-    ("EBANK", "3"),
-    ("EB", "3"),
-    ("FBANK", "4"),
-    ("FB", "4"),
-    ("Z", "5"),
-    ("BBANK", "6"),
-    ("BB", "6"),
-    ("ZERO", "7"),
-    ("ARUPT", "10"),
-    ("LRUPT", "11"),
-    ("QRUPT", "12"),
-    ("ZRUPT", "15"),
-    ("BBRUPT", "16"),
-    ("BRUPT", "17"),
-    ("CYR", "20"),
-    ("SR", "21"),
-    ("CYL", "22"),
-    ("EDOP", "23"),
-    ("TIME2", "24"),
-    ("TIME1", "25"),
-    ("TIME3", "26"),
-    ("TIME4", "27"),
-    ("TIME5", "30"),
-    ("TIME6", "31"),
-    ("CDUX", "32"),
-    ("CDUY", "33"),
-    ("CDUZ", "34"),
-    ("OPTY", "35"),
-    ("OPTX", "36"),
-    ("PIPAX", "37"),
-    ("PIPAY", "40"),
-    ("PIPAZ", "41"),
-    ("INLINK", "45"),
-];
-
-fn label_refusers() -> &'static [&'static str]
+pub(crate) fn label_refusers() -> &'static [&'static str]
     ensures { map (λ name. name.now) result.now ≡ label_refusers }
 {
     &LABEL_REFUSERS
@@ -686,7 +705,7 @@ fn decimal_operators() -> &'static [&'static str]
     &DECIMAL_OPERATORS
 }
 
-fn bank_operators() -> &'static [&'static str]
+pub(crate) fn bank_operators() -> &'static [&'static str]
     ensures { map (λ name. name.now) result.now ≡ bank_operators }
 {
     &BANK_OPERATORS
@@ -744,10 +763,4 @@ fn foreign_operators() -> &'static [(&'static str, &'static str)]
     ensures { entries result.now ≡ foreign_operators }
 {
     &FOREIGN_OPERATORS
-}
-
-fn registers() -> &'static [(&'static str, &'static str)]
-    ensures { entries result.now ≡ registers }
-{
-    &REGISTERS
 }

@@ -7,25 +7,28 @@ ghost use Rattle.agc_text.specs.Bytes.{space};
 ghost use Rattle.faults.specs.Kinds.{kind_of_source};
 ghost use Rattle.faults.specs.Warnings.{parts_in};
 ghost use Rattle.faults.specs.Shown.{shown_byte};
-ghost use Rattle.faults.specs.Causes.{filled, filled_byte};
+ghost use Rattle.faults.specs.Causes.{filled, filled_byte, of_line};
 ghost use Rattle.faults.specs.Views.{cause_in};
-ghost use Rattle.faults.specs.Report.{margin_byte, numbered, row_text, marks_text, place_text, kind_text, cause_of, caused_text, message_text, cure_text, finding_text, text_at, shown_finding, shown_line, labels_of, sought_labels, has_label, first_line, count_before, as_error, as_warning, merged, counted, count_text, report};
+ghost use Rattle.faults.specs.Report.{margin_byte, numbered, shown_part, row_text, marks_text, place_text, kind_text, cause_of, caused_text, message_text, cure_text, finding_text, text_at, shown_finding, shown_line, as_label, told_by_line, labels_of, sought_labels, has_label, first_line, count_before, as_error, as_warning, merged, counted, count_text, interpretive_text, warned_before, listed_from, listed_around, told_around, told_text, report};
 
-use crate::causes::{Cause, fault_cause, near_label, text_of, warning_cause};
+use crate::causes::{Cause, near_label, text_of, warning_cause};
+use crate::flight_causes::told_cause;
+use crate::interpretive::{count_before_first, first_and_others, interpretive_cause};
 use crate::kinds::push_kind_of_source;
-use crate::mistakes::{add_field, parts_of};
+use crate::mistakes::add_field;
 use crate::names::NameSet;
+use crate::parts::parts_for;
 use agc_text::{Line, is_text, next_line};
 use arrayvec::ArrayVec;
 use std::alloc::{AllocError, Global};
 use words::push_decimal;
-use yayul::{Finding, Span};
+use yayul::{Finding, Language, Span};
 
 /// How many digits a number has at most.
 pub(crate) const DIGITS: usize = 20;
 
-/// The number of the fault that a label stands twice.
-const TWICE_DEFINED: u8 = 14;
+/// How many bytes of a line are shown at most.
+const MOST_SHOWN: usize = 120;
 
 /// The most faults of a source that are told with labels of other lines.
 const MOST_FAULTS: usize = 100;
@@ -42,24 +45,143 @@ pub enum Severity {
     Warning,
 }
 
-/// The lines of the faults and the warnings of a source, which has this name, in the order of lines, and what is said where it has faults and is a
+/// The lines of the faults and the warnings of a source of a language, which has this name, in the order of lines, and what is said where it has faults and is a
 /// file of another kind.
 #[tactic(auto, unfolding(crate::specs::Report::report))]
 pub fn report(
     alloc: Global,
+    language: Language,
     name: &[u8],
     source: &[u8],
     faults: &[Finding],
     warnings: &[Finding],
 ) -> Result<Vec<u8>, AllocError>
-    ensures { IfOk result (λ text. text.items ≡ report name.now source.now faults.now warnings.now) }
+    ensures { IfOk result (λ text. text.items ≡ report language name.now source.now faults.now warnings.now) }
 {
     let texts = line_texts(alloc, source)?;
-    let labels = sought_labels(alloc, &texts, faults)?;
     let mut out = Vec::new(alloc);
-    push_merged(&mut out, name, &labels, &texts, faults, warnings)?;
+    push_told(alloc, &mut out, language, name, &texts, faults, warnings)?;
     push_kind(&mut out, name, source, &texts, faults)?;
     Ok(out)
+}
+
+// Appends the lines of the faults and of the warnings: those of lines of the interpretive language are told by the first.
+#[tactic(auto, unfolding(crate::specs::Report::told_text))]
+fn push_told(
+    alloc: Global,
+    out: &mut Vec<u8>,
+    language: Language,
+    name: &[u8],
+    texts: &[&[u8]],
+    faults: &[Finding],
+    warnings: &[Finding],
+) -> Result<(), AllocError>
+    ensures { OnOk result (out.new.items ≡ out.old.items ++ told_text language name.now (map (λ t. t.now) texts.now) faults.now warnings.now) }
+{
+    let (earlier, rest) = faults.split_at(count_before_first(language, texts, faults));
+    push_told_around(alloc, out, language, name, texts, earlier, rest, warnings)
+}
+
+// Appends those of some faults, and of faults of which the first is of the interpretive language.
+fn push_told_around(
+    alloc: Global,
+    out: &mut Vec<u8>,
+    language: Language,
+    name: &[u8],
+    texts: &[&[u8]],
+    earlier: &[Finding],
+    rest: &[Finding],
+    warnings: &[Finding],
+) -> Result<(), AllocError>
+    ensures { OnOk result (out.new.items ≡ out.old.items ++ told_around language name.now (map (λ t. t.now) texts.now) earlier.now rest.now warnings.now) }
+{
+    let told = first_and_others(alloc, texts, rest)?;
+    let labels = sought_labels(alloc, language, texts, earlier.len() + told.len())?;
+    let count = rest.len().saturating_sub(told.len()) + 1;
+    push_around(
+        alloc, out, language, name, &labels, texts, count, earlier, &told, warnings,
+    )
+}
+
+// Appends those of some faults, and of faults of which the first is of the interpretive language, and stands for so many.
+fn push_around(
+    alloc: Global,
+    out: &mut Vec<u8>,
+    language: Language,
+    name: &[u8],
+    labels: &NameSet,
+    texts: &[&[u8]],
+    count: usize,
+    earlier: &[Finding],
+    rest: &[Finding],
+    warnings: &[Finding],
+) -> Result<(), AllocError>
+    ensures { OnOk result (out.new.items ≡ out.old.items ++ listed_around language name.now labels.now (map (λ t. t.now) texts.now) count earlier.now rest.now warnings.now) }
+{
+    let (warned, left) = warnings.split_at(warned_before(rest, warnings));
+    push_merged(out, language, name, labels, texts, earlier, warned)?;
+    push_from(alloc, out, language, name, labels, texts, count, rest, left)
+}
+
+// How many of some warnings stand before the line of the first of some faults, all where there is none.
+fn warned_before(faults: &[Finding], warnings: &[Finding]) -> usize
+    ensures value { result ≡ warned_before faults.now warnings.now }
+    ensures within { result ≤ length warnings.now }
+{
+    match faults.split_first() {
+        Some((first, _)) => count_before(first.line, warnings),
+        None => warnings.len(),
+    }
+}
+
+// Appends the lines of faults and warnings, of which the first fault is of the interpretive language, and stands for so many.
+fn push_from(
+    alloc: Global,
+    out: &mut Vec<u8>,
+    language: Language,
+    name: &[u8],
+    labels: &NameSet,
+    texts: &[&[u8]],
+    count: usize,
+    faults: &[Finding],
+    warnings: &[Finding],
+) -> Result<(), AllocError>
+    ensures { OnOk result (out.new.items ≡ out.old.items ++ listed_from language name.now labels.now (map (λ t. t.now) texts.now) count faults.now warnings.now) }
+{
+    match faults.split_first() {
+        Some((first, others)) => {
+            push_interpretive(alloc, out, language, name, texts, count, first)?;
+            push_merged(out, language, name, labels, texts, others, warnings)
+        }
+        None => push_merged(out, language, name, labels, texts, faults, warnings),
+    }
+}
+
+// Appends the lines of the first fault of the interpretive language, which stands for so many.
+fn push_interpretive(
+    alloc: Global,
+    out: &mut Vec<u8>,
+    language: Language,
+    name: &[u8],
+    texts: &[&[u8]],
+    count: usize,
+    first: &Finding,
+) -> Result<(), AllocError>
+    ensures { OnOk result (out.new.items ≡ out.old.items ++ interpretive_text language name.now (map (λ t. t.now) texts.now) count first.now) }
+{
+    let text = text_at(texts, first.line);
+    let mut lines = Vec::new(alloc);
+    push_counted(&mut lines, count, b"line")?;
+    push_caused(
+        out,
+        name,
+        text,
+        &parts_for(language, text),
+        &lines,
+        Severity::Error,
+        first,
+        &interpretive_cause(),
+    )
 }
 
 // Appends what is said of a source with faults that is a file of another kind.
@@ -89,24 +211,29 @@ pub fn counts(alloc: Global, faults: usize, warnings: usize) -> Result<Vec<u8>, 
     Ok(out)
 }
 
-// The labels that faults are told with: those of all lines, where few faults are told.
-fn sought_labels(alloc: Global, texts: &[&[u8]], faults: &[Finding]) -> Result<NameSet, AllocError>
-    ensures { IfOk result (λ labels. labels ≡ sought_labels (map (λ t. t.now) texts.now) faults.now) }
+// The labels that so many faults are told with: those of all lines, where few are told.
+fn sought_labels(
+    alloc: Global,
+    language: Language,
+    texts: &[&[u8]],
+    count: usize,
+) -> Result<NameSet, AllocError>
+    ensures { IfOk result (λ labels. labels ≡ sought_labels language (map (λ t. t.now) texts.now) count) }
 {
-    if faults.len() <= MOST_FAULTS {
-        labels_of(alloc, texts)
+    if count <= MOST_FAULTS {
+        labels_of(alloc, language, texts)
     } else {
         Ok(NameSet::new(alloc))
     }
 }
 
 // The labels of some lines, each once.
-fn labels_of(alloc: Global, texts: &[&[u8]]) -> Result<NameSet, AllocError>
-    ensures { IfOk result (λ labels. labels ≡ labels_of (map (λ t. t.now) texts.now)) }
+fn labels_of(alloc: Global, language: Language, texts: &[&[u8]]) -> Result<NameSet, AllocError>
+    ensures { IfOk result (λ labels. labels ≡ labels_of language (map (λ t. t.now) texts.now)) }
 {
     let mut labels = NameSet::new(alloc);
     for text in texts {
-        add_field(&mut labels, parts_of(text).label)?;
+        add_field(&mut labels, parts_for(language, text).label)?;
     }
     Ok(labels)
 }
@@ -127,22 +254,23 @@ pub(crate) fn line_texts(alloc: Global, source: &[u8]) -> Result<Vec<&[u8]>, All
 // Appends the lines of faults and warnings, in the order of lines.
 fn push_merged(
     out: &mut Vec<u8>,
+    language: Language,
     name: &[u8],
     labels: &NameSet,
     texts: &[&[u8]],
     faults: &[Finding],
     warnings: &[Finding],
 ) -> Result<(), AllocError>
-    ensures { OnOk result (out.new.items ≡ out.old.items ++ flat_map (shown_finding name.now labels.now (map (λ t. t.now) texts.now)) (merged faults.now warnings.now)) }
+    ensures { OnOk result (out.new.items ≡ out.old.items ++ flat_map (shown_finding language name.now labels.now (map (λ t. t.now) texts.now)) (merged faults.now warnings.now)) }
 {
     let mut rest = warnings;
     for fault in faults {
         let (earlier, later) = rest.split_at(count_before(fault.line, rest));
-        push_warnings(out, name, labels, texts, earlier)?;
-        push_shown_finding(out, name, labels, texts, Severity::Error, fault)?;
+        push_warnings(out, language, name, labels, texts, earlier)?;
+        push_shown_finding(out, language, name, labels, texts, Severity::Error, fault)?;
         rest = later;
     }
-    push_warnings(out, name, labels, texts, rest)
+    push_warnings(out, language, name, labels, texts, rest)
 }
 
 // How many of some findings in order stand before a line.
@@ -161,15 +289,24 @@ fn count_before(line: u32, findings: &[Finding]) -> usize
 // Appends the lines of some warnings.
 fn push_warnings(
     out: &mut Vec<u8>,
+    language: Language,
     name: &[u8],
     labels: &NameSet,
     texts: &[&[u8]],
     warnings: &[Finding],
 ) -> Result<(), AllocError>
-    ensures { OnOk result (out.new.items ≡ out.old.items ++ flat_map (shown_finding name.now labels.now (map (λ t. t.now) texts.now)) (map as_warning warnings.now)) }
+    ensures { OnOk result (out.new.items ≡ out.old.items ++ flat_map (shown_finding language name.now labels.now (map (λ t. t.now) texts.now)) (map as_warning warnings.now)) }
 {
     for warning in warnings {
-        push_shown_finding(out, name, labels, texts, Severity::Warning, warning)?;
+        push_shown_finding(
+            out,
+            language,
+            name,
+            labels,
+            texts,
+            Severity::Warning,
+            warning,
+        )?;
     }
     Ok(())
 }
@@ -177,22 +314,24 @@ fn push_warnings(
 // Appends the lines of a finding.
 fn push_shown_finding(
     out: &mut Vec<u8>,
+    language: Language,
     name: &[u8],
     labels: &NameSet,
     texts: &[&[u8]],
     severity: Severity,
     finding: &Finding,
 ) -> Result<(), AllocError>
-    ensures { OnOk result (out.new.items ≡ out.old.items ++ shown_finding name.now labels.now (map (λ t. t.now) texts.now) (severity, finding.now)) }
+    ensures { OnOk result (out.new.items ≡ out.old.items ++ shown_finding language name.now labels.now (map (λ t. t.now) texts.now) (severity, finding.now)) }
 {
     let text = text_at(texts, finding.line);
     push_shown_line(
         out,
+        language,
         name,
         labels,
         texts,
         text,
-        &parts_of(text),
+        &parts_for(language, text),
         severity,
         finding,
     )
@@ -202,6 +341,7 @@ fn push_shown_finding(
 #[tactic(auto, using(words::proofs::Digits::short_decimal), unfolding(crate::specs::Report::shown_line))]
 fn push_shown_line(
     out: &mut Vec<u8>,
+    language: Language,
     name: &[u8],
     labels: &NameSet,
     texts: &[&[u8]],
@@ -210,33 +350,46 @@ fn push_shown_line(
     severity: Severity,
     finding: &Finding,
 ) -> Result<(), AllocError>
-    ensures { OnOk result (out.new.items ≡ out.old.items ++ shown_line name.now labels.now (map (λ t. t.now) texts.now) text.now (parts_in parts.now) (severity, finding.now)) }
+    ensures { OnOk result (out.new.items ≡ out.old.items ++ shown_line language name.now labels.now (map (λ t. t.now) texts.now) text.now (parts_in parts.now) (severity, finding.now)) }
 {
-    let label = text_of(parts.label);
-    if finding.number == TWICE_DEFINED && labels.has(label) {
-        let mut digits = ArrayVec::<u8, DIGITS>::new();
-        push_decimal(&mut digits, first_line(texts, label));
-        push_finding(
-            out,
-            name,
-            text,
-            parts,
-            Some(digits.as_slice()),
-            severity,
-            finding,
-        )
-    } else {
-        let near = near_label(labels, parts, finding);
-        push_finding(out, name, text, parts, near, severity, finding)
+    match told_by_line(labels, parts, finding.number) {
+        Some(label) => {
+            let mut digits = ArrayVec::<u8, DIGITS>::new();
+            push_decimal(&mut digits, first_line(language, texts, label));
+            let line = Some(digits.as_slice());
+            push_finding(out, language, name, text, parts, line, severity, finding)
+        }
+        None => {
+            let near = near_label(labels, parts, finding);
+            push_finding(out, language, name, text, parts, near, severity, finding)
+        }
     }
 }
 
+// The label whose first line a fault is told with.
+fn told_by_line<'a>(labels: &NameSet, parts: &Line<'a>, number: u8) -> Option<&'a [u8]>
+    ensures { option_map (λ label. label.now) result ≡ told_by_line labels.now (parts_in parts.now) number }
+{
+    match number {
+        14 => as_label(labels, text_of(parts.label)),
+        25 | 26 => as_label(labels, text_of(parts.operand)),
+        _ => None,
+    }
+}
+
+// A name, where it is a label.
+fn as_label<'a>(labels: &NameSet, name: &'a [u8]) -> Option<&'a [u8]>
+    ensures { option_map (λ label. label.now) result ≡ as_label labels.now name.now }
+{
+    if labels.has(name) { Some(name) } else { None }
+}
+
 // The number of the first line that has a label.
-fn first_line(texts: &[&[u8]], label: &[u8]) -> u64
-    ensures { result ≡ first_line (map (λ t. t.now) texts.now) label.now }
+fn first_line(language: Language, texts: &[&[u8]], label: &[u8]) -> u64
+    ensures { result ≡ first_line language (map (λ t. t.now) texts.now) label.now }
 {
     for (index, text) in texts.iter().enumerate() {
-        if has_label(text, label) {
+        if has_label(language, text, label) {
             return index as u64 + 1;
         }
     }
@@ -244,10 +397,10 @@ fn first_line(texts: &[&[u8]], label: &[u8]) -> u64
 }
 
 // Whether a line has a label.
-fn has_label(text: &[u8], label: &[u8]) -> bool
-    ensures { result ≡ has_label label.now text.now }
+fn has_label(language: Language, text: &[u8], label: &[u8]) -> bool
+    ensures { result ≡ has_label language label.now text.now }
 {
-    text_of(parts_of(text).label) == label
+    text_of(parts_for(language, text).label) == label
 }
 
 /// The line of a number; one that does not stand is empty.
@@ -289,17 +442,18 @@ fn kind_text(severity: Severity) -> &'static [u8]
 
 // Why it is one, and how it is mended.
 fn cause_of(
+    language: Language,
     severity: Severity,
     near: bool,
     text: &[u8],
     parts: &Line<'_>,
     finding: &Finding,
 ) -> Cause
-    ensures { cause_in result ≡ cause_of severity near text.now (parts_in parts.now) finding.now }
+    ensures { cause_in result ≡ cause_of language severity near text.now (parts_in parts.now) finding.now }
 {
     match severity {
-        Severity::Error => fault_cause(text, parts, near, finding),
-        Severity::Warning => warning_cause(finding.number),
+        Severity::Error => told_cause(language, near, text, parts, finding),
+        Severity::Warning => warning_cause(parts, finding.number),
     }
 }
 
@@ -371,9 +525,36 @@ fn push_filled_byte(
         b'@' => push_shown(out, text_of(parts.operand))?,
         b'!' => out.extend_from_slice(other)?,
         b'~' => out.extend_from_slice(label)?,
+        b'^' => push_of_line(out, label)?,
         _ => out.push(byte)?,
     }
     Ok(())
+}
+
+// Appends where another line stands, in words, by the digits of its number; nothing without them.
+fn push_of_line(out: &mut Vec<u8>, digits: &[u8]) -> Result<(), AllocError>
+    ensures { OnOk result (out.new.items ≡ out.old.items ++ of_line digits.now) }
+{
+    if !digits.is_empty() {
+        out.extend_from_slice(b", of line ")?;
+        out.extend_from_slice(digits)?;
+        out.extend_from_slice(b",")?;
+    }
+    Ok(())
+}
+
+// What is shown of a line.
+fn shown_part(text: &[u8]) -> &[u8]
+    ensures { result.now ≡ shown_part text.now }
+{
+    front(text, MOST_SHOWN)
+}
+
+// The first bytes of a text, so many at most.
+fn front(text: &[u8], most: usize) -> &[u8]
+    ensures { result.now ≡ take most text.now }
+{
+    &text[..most.min(text.len())]
 }
 
 // Appends the line of a fault.
@@ -393,8 +574,9 @@ fn push_marks(out: &mut Vec<u8>, text: &[u8], finding: &Finding) -> Result<(), A
 {
     let Span { start, width } = finding.span;
     out.extend_from_slice(b"      | ")?;
-    push_margin(out, &text[..start.min(text.len())])?;
-    push_repeated(out, width.max(1), b'^')?;
+    push_margin(out, front(text, start))?;
+    let within = width.min(text.len().saturating_sub(start));
+    push_repeated(out, within.max(1), b'^')?;
     out.extend_from_slice(b"\n")?;
     Ok(())
 }
@@ -402,6 +584,7 @@ fn push_marks(out: &mut Vec<u8>, text: &[u8], finding: &Finding) -> Result<(), A
 // Appends the lines of a fault.
 fn push_finding(
     out: &mut Vec<u8>,
+    language: Language,
     name: &[u8],
     text: &[u8],
     parts: &Line<'_>,
@@ -409,9 +592,9 @@ fn push_finding(
     severity: Severity,
     finding: &Finding,
 ) -> Result<(), AllocError>
-    ensures { OnOk result (out.new.items ≡ out.old.items ++ finding_text name.now text.now (parts_in parts.now) (option_map (λ label. label.now) near.entry) severity finding.now) }
+    ensures { OnOk result (out.new.items ≡ out.old.items ++ finding_text language name.now text.now (parts_in parts.now) (option_map (λ label. label.now) near.entry) severity finding.now) }
 {
-    let cause = cause_of(severity, near.is_some(), text, parts, finding);
+    let cause = cause_of(language, severity, near.is_some(), text, parts, finding);
     push_caused(
         out,
         name,
@@ -449,8 +632,9 @@ pub(crate) fn push_caused(
 {
     push_place(out, name, text, finding)?;
     push_message(out, parts, label, severity, finding, cause)?;
-    push_row(out, text, finding)?;
-    push_marks(out, text, finding)?;
+    let shown = shown_part(text);
+    push_row(out, shown, finding)?;
+    push_marks(out, shown, finding)?;
     push_cure(out, parts, label, cause)
 }
 

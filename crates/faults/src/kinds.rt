@@ -128,7 +128,8 @@ fn first_said<'a>(texts: &[&'a [u8]]) -> &'a [u8]
     &[]
 }
 
-fn has_field(text: &[u8]) -> bool
+/// Whether a line has a field.
+pub(crate) fn has_field(text: &[u8]) -> bool
     ensures { result ≡ not (length (fields text.now) == 0) }
 {
     split_field(before_comment(text)).is_some()

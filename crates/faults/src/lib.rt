@@ -2,16 +2,24 @@
 #![tactic(auto)]
 
 mod causes;
+mod cautions;
 mod explaining;
 mod feeds;
 mod findings;
+mod flight_causes;
+mod flow;
+mod interpretive;
 mod kinds;
 mod mistakes;
 mod names;
+mod parts;
 mod refusals;
+mod registers;
 mod slips;
+mod switched;
 
-pub use explaining::{all_headings, explanation};
+pub use cautions::warning_of;
+pub use explaining::{all_headings, explanation, warning_explanation};
 pub use feeds::feed_report;
 pub use findings::{Severity, counts, report};
 pub use mistakes::warnings;

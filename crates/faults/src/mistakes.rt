@@ -1,15 +1,19 @@
 //! What in a source is likely a mistake, though it is no fault.
 
-ghost use Rattle.std.specs.Prelude.{◌≡◌, ◌≤◌, ◌++◌, map, length, take, false, IfOk, OnOk};
+ghost use Rattle.std.specs.Prelude.{◌≡◌, ◌+◌, ◌<◌, ◌≤◌, ◌++◌, [], map, length, drop, IfOk, OnOk};
 ghost use Rattle.std.specs.List.{fold};
 ghost use Rattle.std.specs.Option.{option_map};
 ghost use Rattle.agc_text.specs.Fields.{fields, label_of};
 ghost use Rattle.agc_text.specs.Views.{piece};
 ghost use Rattle.yayul.specs.Survey.{field_at, looked_at, span_of};
-ghost use Rattle.faults.specs.Warnings.{parts_of, parts_in, is_among, has_operator, has_alone, warned_if, at_field, operator_names, label_warnings, readers, is_register_number, index_operators, indexed_after, number_warnings, pair_operators, erase_operators, reserves_one, with_field, with_single, pair_warnings, unused_warnings, names_of, line_warnings, warned_lines, warnings};
+ghost use Rattle.faults.specs.Warnings.{parts_of, parts_for, parts_in, is_among, has_operator, has_alone, warned_if, at_field, operator_names, label_warnings, readers, is_register_number, index_operators, indexed_after, number_warnings, pair_operators, erase_operators, reserves_one, with_field, with_single, pair_warnings, unused_warnings, name_warnings, flow_warnings, operand_warnings, erasable_warnings, fixed_warnings, word_readers, with_read, banks_after, names_of, at_start, line_warnings, warned_lines, warnings};
 
 use crate::findings::line_texts;
+use crate::flow::{Before, is_instruction, warn_of_end, warn_of_vector};
 use crate::names::{NameSet, is_among, is_short};
+use crate::parts::parts_for;
+use crate::registers::warn_of_register;
+use crate::switched::{Banks, Region, is_common};
 use agc_text::{Field, Line, Number, octal_value};
 use std::alloc::{AllocError, Global};
 use yayul::{Finding, Language, Span, most_lines};
@@ -28,9 +32,9 @@ pub fn warnings(
     ensures { IfOk result (λ found. found.items ≡ warnings language unused source.now) }
 {
     let lines = looked_at(alloc, language, source)?;
-    let names = Names::of(alloc, &lines)?;
+    let names = Names::of(alloc, language, &lines)?;
     let mut found = Vec::new(alloc);
-    names.warn(unused, &lines, &mut found)?;
+    names.warn(language, unused, &lines, &mut found)?;
     Ok(found)
 }
 
@@ -51,20 +55,34 @@ struct Names {
     singles: NameSet,
     /// Those that an operand is.
     operands: NameSet,
+    /// Those that are read.
+    read: NameSet,
+    /// What is known of banks.
+    banks: Banks,
+    /// Whether some line may set EB.
+    sets_erasable: bool,
+    /// Whether some line may set FB.
+    sets_fixed: bool,
 }
 
 impl Names {
-    // The names of some lines.
-    fn of(alloc: Global, lines: &[&[u8]]) -> Result<Names, AllocError>
-        ensures { IfOk result (λ names. names ≡ names_of (map (λ text. text.now) lines.now)) }
+    // The names of some lines of a language.
+    fn of(alloc: Global, language: Language, lines: &[&[u8]]) -> Result<Names, AllocError>
+        ensures { IfOk result (λ names. names ≡ names_of language (map (λ text. text.now) lines.now)) }
     {
         let mut names = Names {
             singles: NameSet::new(alloc),
             operands: NameSet::new(alloc),
+            read: NameSet::new(alloc),
+            banks: Banks::new(alloc),
+            sets_erasable: false,
+            sets_fixed: false,
         };
         for text in lines {
-            names.note(&parts_of(text))?;
+            names.note(&parts_for(language, text))?;
         }
+        names.sets_erasable = names.banks.may_set_erasable();
+        names.sets_fixed = names.banks.may_set_fixed();
         Ok(names)
     }
 
@@ -72,28 +90,44 @@ impl Names {
     fn note(&mut self, parts: &Line<'_>) -> Result<(), AllocError>
         ensures singles { OnOk result (self.new.singles ≡ with_single self.old.singles (parts_in parts.now)) }
         ensures operands { OnOk result (self.new.operands ≡ with_field self.old.operands (option_map piece parts.now.operand)) }
+        ensures read { OnOk result (self.new.read ≡ with_read self.old.read (parts_in parts.now)) }
+        ensures banks { OnOk result (self.new.banks ≡ banks_after self.old.banks (parts_in parts.now)) }
     {
         if reserves_one(parts) {
             add_field(&mut self.singles, parts.label)?;
         }
-        add_field(&mut self.operands, parts.operand)
+        if reads_word(parts) {
+            add_field(&mut self.read, parts.operand)?;
+        }
+        add_field(&mut self.operands, parts.operand)?;
+        self.banks.note(parts)
     }
 
     // Appends the warnings of the lines.
     fn warn(
         &self,
+        language: Language,
         unused: bool,
         lines: &[&[u8]],
         found: &mut Vec<Finding>,
     ) -> Result<(), AllocError>
         requires { length lines.now ≤ LINES }
-        ensures { OnOk result (found.new.items ≡ found.old.items ++ warned_lines unused self.now false 1 (map (λ text. text.now) lines.now)) }
+        ensures { OnOk result (found.new.items ≡ found.old.items ++ warned_lines language unused self.now at_start 1 (map (λ text. text.now) lines.now)) }
     {
-        let mut indexed = false;
+        let mut before = Before::at_start();
         for (index, text) in lines.iter().enumerate() {
-            let parts = parts_of(text);
-            self.warn_of(unused, indexed, index as u32 + 1, &parts, found)?;
-            indexed = indexed_after(indexed, &parts);
+            let parts = parts_for(language, text);
+            let after = lines_after(lines, index);
+            self.warn_of(
+                language,
+                unused,
+                before,
+                after,
+                index as u32 + 1,
+                &parts,
+                found,
+            )?;
+            before = before.next(&parts);
         }
         Ok(())
     }
@@ -101,21 +135,122 @@ impl Names {
     // Appends the warnings of a line.
     fn warn_of(
         &self,
+        language: Language,
         unused: bool,
-        indexed: bool,
+        before: Before,
+        after: &[&[u8]],
         line: u32,
         parts: &Line<'_>,
         found: &mut Vec<Finding>,
     ) -> Result<(), AllocError>
-        ensures { OnOk result (found.new.items ≡ found.old.items ++ line_warnings unused self.now indexed line (parts_in parts.now)) }
+        ensures { OnOk result (found.new.items ≡ found.old.items ++ line_warnings language unused self.now before (map (λ text. text.now) after.now) line (parts_in parts.now)) }
+    {
+        self.warn_of_names(unused, line, parts, found)?;
+        self.warn_of_flow(language, before, after, line, parts, found)?;
+        self.warn_of_operand(before, line, parts, found)
+    }
+
+    // Appends those of its label.
+    fn warn_of_names(
+        &self,
+        unused: bool,
+        line: u32,
+        parts: &Line<'_>,
+        found: &mut Vec<Finding>,
+    ) -> Result<(), AllocError>
+        ensures { OnOk result (found.new.items ≡ found.old.items ++ name_warnings unused self.now line (parts_in parts.now)) }
     {
         warn_of_label(line, parts, found)?;
+        warn_of_register(line, parts, found)?;
         if unused {
             warn_of_unused(&self.operands, line, parts, found)?;
         }
-        warn_of_number(indexed, line, parts, found)?;
-        warn_of_pair(&self.singles, line, parts, found)
+        Ok(())
     }
+
+    // Appends those of its operator.
+    fn warn_of_flow(
+        &self,
+        language: Language,
+        before: Before,
+        after: &[&[u8]],
+        line: u32,
+        parts: &Line<'_>,
+        found: &mut Vec<Finding>,
+    ) -> Result<(), AllocError>
+        ensures { OnOk result (found.new.items ≡ found.old.items ++ flow_warnings language self.now before (map (λ text. text.now) after.now) line (parts_in parts.now)) }
+    {
+        if matches!(language, Language::Standard) {
+            warn_of_end(&self.read, after, line, parts, found)?;
+        }
+        warn_of_vector(before, line, parts, found)
+    }
+
+    // Appends those of its operand.
+    fn warn_of_operand(
+        &self,
+        before: Before,
+        line: u32,
+        parts: &Line<'_>,
+        found: &mut Vec<Finding>,
+    ) -> Result<(), AllocError>
+        ensures { OnOk result (found.new.items ≡ found.old.items ++ operand_warnings self.now before line (parts_in parts.now)) }
+    {
+        warn_of_number(before.indexed, line, parts, found)?;
+        warn_of_pair(&self.singles, line, parts, found)?;
+        self.warn_of_erasable(line, parts, found)?;
+        self.warn_of_fixed(before.region, line, parts, found)
+    }
+
+    // Appends that of a word in a switched erasable bank, where no line sets EB.
+    fn warn_of_erasable(
+        &self,
+        line: u32,
+        parts: &Line<'_>,
+        found: &mut Vec<Finding>,
+    ) -> Result<(), AllocError>
+        ensures { OnOk result (found.new.items ≡ found.old.items ++ erasable_warnings self.now line (parts_in parts.now)) }
+    {
+        match parts.operand {
+            Some(operand) => {
+                let reached = !self.sets_erasable
+                    && is_instruction(parts)
+                    && self.banks.erasable.has(operand.text);
+                warn_if(reached, line, 6, operand, found)
+            }
+            None => Ok(()),
+        }
+    }
+
+    // Appends that of a place in a switched bank of fixed memory, where no line sets FB.
+    fn warn_of_fixed(
+        &self,
+        region: Region,
+        line: u32,
+        parts: &Line<'_>,
+        found: &mut Vec<Finding>,
+    ) -> Result<(), AllocError>
+        ensures { OnOk result (found.new.items ≡ found.old.items ++ fixed_warnings self.now region line (parts_in parts.now)) }
+    {
+        match parts.operand {
+            Some(operand) => {
+                let reached = !self.sets_fixed
+                    && is_common(region)
+                    && is_instruction(parts)
+                    && self.banks.fixed.has(operand.text);
+                warn_if(reached, line, 9, operand, found)
+            }
+            None => Ok(()),
+        }
+    }
+}
+
+// The lines after the one at an index.
+fn lines_after<'a, 'b>(lines: &'a [&'b [u8]], index: usize) -> &'a [&'b [u8]]
+    requires { index < length lines.now }
+    ensures { result.now ≡ drop (index + 1) lines.now }
+{
+    &lines[index + 1..]
 }
 
 /// A line taken apart.
@@ -135,8 +270,8 @@ pub(crate) fn add_field(names: &mut NameSet, field: Option<Field<'_>>) -> Result
     }
 }
 
-// Appends a warning of a number at a field of a line, where a condition holds.
-fn warn_if(
+/// Appends a warning of a number at a field of a line, where a condition holds.
+pub(crate) fn warn_if(
     condition: bool,
     line: u32,
     number: u8,
@@ -165,11 +300,18 @@ pub(crate) fn has_operator(names: &[&str], parts: &Line<'_>) -> bool
     }
 }
 
-// Whether the operator is one of some, and no offset stands.
-fn has_alone(names: &[&str], parts: &Line<'_>) -> bool
+/// Whether the operator is one of some, and no offset stands.
+pub(crate) fn has_alone(names: &[&str], parts: &Line<'_>) -> bool
     ensures { result ≡ has_alone (map (λ name. name.now) names.now) (parts_in parts.now) }
 {
     has_operator(names, parts) && parts.offset.is_none()
+}
+
+// Operators that read a word.
+fn reads_word(parts: &Line<'_>) -> bool
+    ensures { result ≡ has_operator word_readers (parts_in parts.now) }
+{
+    has_operator(word_readers(), parts)
 }
 
 // An operator's name as a label.
@@ -200,8 +342,8 @@ fn warn_of_unused(
     }
 }
 
-// Whether a word that adds to the next address stands last before what follows a line.
-fn indexed_after(indexed: bool, parts: &Line<'_>) -> bool
+/// Whether a word that adds to the next address stands last before what follows a line.
+pub(crate) fn indexed_after(indexed: bool, parts: &Line<'_>) -> bool
     ensures { result ≡ indexed_after indexed (parts_in parts.now) }
 {
     if parts.operator.is_some() {
@@ -254,8 +396,8 @@ fn reserves_one(parts: &Line<'_>) -> bool
     has_operator(erase_operators(), parts) && parts.operand.is_none()
 }
 
-// Octal digits of a place that a register or a counter has.
-fn is_register_number(text: &[u8]) -> bool
+/// Octal digits of a place that a register or a counter has.
+pub(crate) fn is_register_number(text: &[u8]) -> bool
     ensures { result ≡ is_register_number text.now }
 {
     matches!(octal_value(text), Some(Number::Small(number)) if number < 0o61)
@@ -270,6 +412,11 @@ pub(crate) fn is_operator(text: &[u8]) -> bool
 
 const READERS: [&str; 10] = [
     "CA", "CAE", "CS", "AD", "MASK", "MSK", "CCS", "MP", "DV", "SU",
+];
+
+const WORD_READERS: [&str; 15] = [
+    "CA", "CAE", "CS", "AD", "MASK", "MSK", "CCS", "MP", "DV", "SU", "CAF", "DCA", "DCS", "INDEX",
+    "NDX",
 ];
 
 const INDEX_OPERATORS: [&str; 2] = ["INDEX", "NDX"];
@@ -291,6 +438,12 @@ fn readers() -> &'static [&'static str]
     ensures { map (λ name. name.now) result.now ≡ readers }
 {
     &READERS
+}
+
+fn word_readers() -> &'static [&'static str]
+    ensures { map (λ name. name.now) result.now ≡ word_readers }
+{
+    &WORD_READERS
 }
 
 fn index_operators() -> &'static [&'static str]

@@ -132,11 +132,11 @@ const CAUSES_10: &[u8] =
 
 - a byte that is neither a printing ASCII character nor a blank nor a tab, in a comment too: lines that end by carriage return and line feed, as Windows writes them
   >  OCT 1\\r
-  Cure: tr -d '\\r' < SRC > NEW
+  Cure, of a source alone: tr -d '\\r' < SRC > NEW
 
 - lines that end by carriage returns alone
   >  OCT 1\\r OCT 2\\r
-  Cure: tr '\\r' '\\n' < SRC > NEW
+  Cure, of a source alone: tr '\\r' '\\n' < SRC > NEW
 
 - a byte order mark at the beginning
   > \\xEF\\xBB\\xBF OCT 1
@@ -153,7 +153,10 @@ const CAUSES_10: &[u8] =
 - a form feed between pages
      OCT 1
   > \\f OCT 2
-  Cure: tr -d '\\f' < SRC > NEW
+  Cure, of a source alone: tr -d '\\f' < SRC > NEW
+
+- a rope image in place of a source
+  Cure: run, trace, cover and debug take it with --image
 ";
 
 const CAUSES_11: &[u8] = b"A line has more than 120 bytes, blanks and comment included.

@@ -20,7 +20,7 @@ tally language unused source = record { errors = length (told language source); 
 -- the faults and the warnings of a source of a language and of this name as text; and how many there are
 abbrev pub reported : Language → List ℕ → Bool → List ℕ → Result (List ℕ × Tally) WorkshopFault
 reported language name unused source =
-    if nat_lt most_bytes (length source) then Err TooLong else Ok (report name source (told language source) (warnings language unused source), tally language unused source)
+    if nat_lt most_bytes (length source) then Err TooLong else Ok (report language name source (told language source) (warnings language unused source), tally language unused source)
 
 -- the fault of a feed of this name as text, where it has one; and how many are told
 abbrev pub feed_reported : List ℕ → List ℕ → Result (List ℕ × ℕ) WorkshopFault

@@ -116,11 +116,11 @@ fn told_of(
     source: &[u8],
     findings: &[Finding],
 ) -> Result<(Vec<u8>, Tally), AllocError>
-    ensures text { IfOk result (λ r. r.0.items ≡ report name.now source.now findings.now (warnings language unused source.now)) }
+    ensures text { IfOk result (λ r. r.0.items ≡ report language name.now source.now findings.now (warnings language unused source.now)) }
     ensures count { IfOk result (λ r. r.1 ≡ record { errors = length findings.now; warnings = length (warnings language unused source.now) }) }
 {
     let warnings = warnings(alloc, language, source, unused)?;
-    let text = report(alloc, name, source, findings, &warnings)?;
+    let text = report(alloc, language, name, source, findings, &warnings)?;
     let tally = Tally {
         errors: findings.len(),
         warnings: warnings.len(),

@@ -33,7 +33,7 @@ pub use engine::{
     MOST_STEPS, Summary, may_run, run_and_tell, run_engine, run_image_engine, run_program,
 };
 pub use fault::{WorkshopFault, report};
-pub use faults::{Refusal, all_headings, explanation, refusal_of};
+pub use faults::{Refusal, all_headings, explanation, refusal_of, warning_explanation, warning_of};
 pub use naming::read_names;
 pub use noting::run_with_notes;
 pub use origin::Origin;

@@ -1,4 +1,4 @@
-use Rattle.std.proofs.Common.{◌≡◌, ◌∙◌, ℕ, List, None, Some, ap, sym, arith, find, nat_le, slice_get, option_map}
+use Rattle.std.proofs.Common.{◌≡◌, ◌∙◌, None, Some, ap, sym, arith, find, nat_le, slice_get, option_map}
 use Rattle.agc_text.specs.Fields.{before_comment, fields, runs_after}
 use Rattle.agc_text.specs.Views.{end_of, piece}
 use Rattle.agc_text.proofs.Runs.{runs_is}

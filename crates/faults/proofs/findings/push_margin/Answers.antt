@@ -1,4 +1,4 @@
-use Rattle.std.proofs.Common.{◌∙◌, ◌∷◌, [], ◌++◌, ap, get_or, arith}
+use Rattle.std.proofs.Common.{◌∙◌, ◌∷◌, [], ◌++◌, ap, arith}
 use Rattle.faults.specs.Report.{margin_byte}
 use Rattle.faults.proofs.GrowingTexts.{grown}
 use Rattle.faults.proofs.findings.push_margin.Goals as goal

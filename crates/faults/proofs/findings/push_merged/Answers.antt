@@ -11,7 +11,7 @@ nothing = record { line = 0; number = 0; span = record { start = 0; width = 0 } 
 
 pub loop-fault-preserved : goal.loop-fault-preserved
 loop-fault-preserved c =
-    let shown = shown_finding c.args.name.now c.args.labels.now (map (λ t. t.now) c.args.texts.now) in
+    let shown = shown_finding c.args.language c.args.name.now c.args.labels.now (map (λ t. t.now) c.args.texts.now) in
     let faults = c.args.faults.now in
     let i = c.loop-fault.fault-index in
     let rest = c.loop-fault.rest.now in

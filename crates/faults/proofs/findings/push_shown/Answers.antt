@@ -1,4 +1,4 @@
-use Rattle.std.proofs.Common.{◌∙◌, ◌∷◌, [], ◌++◌, ap, get_or, arith}
+use Rattle.std.proofs.Common.{◌∙◌, ◌∷◌, [], ◌++◌, ap, arith}
 use Rattle.faults.specs.Shown.{shown_byte}
 use Rattle.faults.proofs.GrowingTexts.{grown}
 use Rattle.faults.proofs.findings.push_shown.Goals as goal

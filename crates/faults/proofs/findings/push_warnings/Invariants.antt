@@ -5,4 +5,4 @@ use Rattle.faults.proofs.findings.push_warnings.Given as goal
 
 abbrev pub invariant-loop-warning : goal.invariant-loop-warning
 invariant-loop-warning l =
-    l.out.items ≡ l.initial.out.items ++ flat_map (shown_finding l.name l.labels (map (λ t. t.now) l.texts)) (map as_warning (take l.warning-index l.warnings))
+    l.out.items ≡ l.initial.out.items ++ flat_map (shown_finding l.language l.name l.labels (map (λ t. t.now) l.texts)) (map as_warning (take l.warning-index l.warnings))

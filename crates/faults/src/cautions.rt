@@ -1,0 +1,119 @@
+//! What the numbers of warnings mean: the rows of the manual's table of them.
+
+ghost use Rattle.std.specs.Prelude.{◌≡◌, false, MatchOption};
+ghost use Rattle.faults.specs.Refusals.{warning_meaning, is_warned};
+
+use crate::refusals::Refusal;
+
+/// The numbers, rising.
+pub const WARNING_NUMBERS: [u8; 9] = [1, 2, 3, 4, 5, 6, 7, 8, 9];
+
+/// The warning of a number, where there is one, and what draws it.
+pub fn warning_of(number: u8) -> Option<Refusal>
+    ensures { MatchOption result (is_warned number ≡ false) (λ r. r.number ≡ number) }
+{
+    let causes: &'static [u8] = match number {
+        1 => CAUSES_1,
+        2 => CAUSES_2,
+        3 => CAUSES_3,
+        4 => CAUSES_4,
+        5 => CAUSES_5,
+        6 => CAUSES_6,
+        7 => CAUSES_7,
+        8 => CAUSES_8,
+        9 => CAUSES_9,
+        _ => return None,
+    };
+    Some(Refusal { number, causes })
+}
+
+/// What a number means, in a line.
+pub(crate) fn warning_meaning(number: u8) -> &'static [u8]
+    ensures { result.now ≡ warning_meaning number }
+{
+    match number {
+        1 => b"an operator's name stands as a label",
+        2 => b"a number is read as a register or a counter",
+        3 => b"two words are taken of a name for one",
+        4 => b"the program runs on to a constant, or where no word stands",
+        5 => b"a vector's words run on into the next vector",
+        6 => b"a switched erasable bank is reached, and no line sets EB",
+        7 => b"a register's name stands for another place",
+        8 => b"no operand names a label",
+        9 => b"a switched bank of fixed memory is reached, and no line sets FB",
+        _ => b"",
+    }
+}
+
+const CAUSES_1: &[u8] = b"
+- an operator's name in the first column, where it is a label
+  > RETURN
+  Cure: a blank before it
+";
+
+const CAUSES_2: &[u8] = b"
+- CA, CAE, CS, AD, MASK, MSK, CCS, MP, DV or SU of an octal number from 0 to 60, without an offset, and not after INDEX: a register or a counter, and not the number
+  >  CA 5
+  Cure: FIVE OCT 5, and CA FIVE
+";
+
+const CAUSES_3: &[u8] = b"
+- DXCH, DAS, DCA or DCS, without an offset, of a label beside which ERASE stands alone, and reserves one word
+     SETLOC 100
+    X ERASE
+     SETLOC 4000
+  >  DXCH X
+  Cure: X ERASE +1
+";
+
+const CAUSES_4: &[u8] = b"
+- an instruction after which the program runs on to a constant, or where no word stands: the next line with a word or another location has a constant or an address, or none stands. Not told of an instruction that leaves, as TC, TCF, RETURN, RESUME, DTCB, DTCF, TCAA, XLQ and XXALQ do, and TS, XCH, LXCH, QXCH and DXCH of a register's number, Z, FB, FBANK, BB or BBANK; of one whose label is read, as by CAF, and that is executed elsewhere; and with --flight
+  > F CA O
+    O OCT 1
+  Cure: TCF or RETURN behind it, and constants elsewhere
+";
+
+const CAUSES_5: &[u8] = b"
+- the fifth word after SETLOC to a vector, 4004 to 4050, where the fourth goes on to it: an interrupt enters there
+     SETLOC 4004
+     CA X
+     CA X
+     CA X
+     CA X
+  >  TS X
+    D TCF D
+    X OCT 1
+  Cure: four words that end in TCF, and the routine elsewhere
+";
+
+const CAUSES_6: &[u8] = b"
+- an instruction on a label beside which ERASE stands after a SETLOC to 1400 to 3777, a switched bank, where no line of the source sets EB, by TS, XCH, LXCH, QXCH or DXCH of 2, 3, 5 or 6 or of a name that EQUALS or = gives one of these numbers, by DTCB or DTCF
+     SETLOC 2000
+    V ERASE
+     SETLOC 4000
+  >  TS V
+    D TCF D
+  Cure: CA NAME and TS 3, where NAME ECADR V stands
+";
+
+const CAUSES_7: &[u8] = b"
+- the name of a register or a counter, ZERO left out, as a label of another place: beside a word, ERASE or nothing, or EQUALS or = of another number
+     SETLOC 100
+  > Q ERASE
+  Cure: Q EQUALS 2
+";
+
+const CAUSES_8: &[u8] = b"
+- with --unused: a label that no operand names
+  > X OCT 5
+  Cure: take it out, or name it
+";
+
+const CAUSES_9: &[u8] = b"
+- an instruction in bank 2 or 3 on a label of another bank after BANK, 0 left out, where FB stands at first, while no line of the source sets FB, by these operators of 3 to 6 or of such a name, by DTCB or DTCF
+  >  TC R
+    D TCF D
+     BANK 10
+    R RETURN
+  Cure: CA NAME and TS 4, where NAME FCADR R stands
+";

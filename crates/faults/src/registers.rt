@@ -1,0 +1,122 @@
+//! The registers and the counters by their names, and such a name that stands for another place.
+
+ghost use Rattle.std.specs.Prelude.{◌≡◌, ◌++◌, false, map, OnOk};
+ghost use Rattle.std.specs.Option.{option_map_or};
+ghost use Rattle.agc_text.specs.Tables.{value_in};
+ghost use Rattle.faults.specs.Registers.{registers};
+ghost use Rattle.faults.specs.Views.{entries};
+ghost use Rattle.faults.specs.Warnings.{parts_in, is_same_number, common_names, is_elsewhere, register_warnings};
+
+use crate::causes::value_in;
+use crate::mistakes::{has_alone, has_operator, warn_if};
+use crate::names::is_among;
+use crate::switched::value_operators;
+use agc_text::{Line, Number, octal_value};
+use std::alloc::AllocError;
+use yayul::Finding;
+
+/// A register's name that stands for another place.
+pub(crate) fn warn_of_register(
+    line: u32,
+    parts: &Line<'_>,
+    found: &mut Vec<Finding>,
+) -> Result<(), AllocError>
+    ensures { OnOk result (found.new.items ≡ found.old.items ++ register_warnings line (parts_in parts.now)) }
+{
+    match parts.label {
+        Some(label) => {
+            let taken = !is_among(common_names(), label.text) && is_taken(label.text, parts);
+            warn_if(taken, line, 7, label, found)
+        }
+        None => Ok(()),
+    }
+}
+
+// Whether a register's name stands for another place on a line.
+fn is_taken(name: &[u8], parts: &Line<'_>) -> bool
+    ensures { result ≡ option_map_or (λ place. is_elsewhere place (parts_in parts.now)) (value_in registers name.now) false }
+{
+    match value_in(registers(), name) {
+        Some(place) => is_elsewhere(place, parts),
+        None => false,
+    }
+}
+
+// Whether a line stands for a place or has a word, or gives another number than this.
+fn is_elsewhere(place: &[u8], parts: &Line<'_>) -> bool
+    ensures { result ≡ is_elsewhere place.now (parts_in parts.now) }
+{
+    if !has_operator(value_operators(), parts) {
+        return true;
+    }
+    match parts.operand {
+        Some(operand) => {
+            has_alone(value_operators(), parts)
+                && octal_value(operand.text).is_some()
+                && !is_same_number(operand.text, place)
+        }
+        None => false,
+    }
+}
+
+fn is_same_number(a: &[u8], b: &[u8]) -> bool
+    ensures { result ≡ is_same_number a.now b.now }
+{
+    match (octal_value(a), octal_value(b)) {
+        (Some(Number::Small(a)), Some(Number::Small(b))) => a == b,
+        _ => false,
+    }
+}
+
+const COMMON_NAMES: [&str; 1] = ["ZERO"];
+
+const REGISTERS: [(&str, &str); 36] = [
+    ("A", "0"),
+    ("L", "1"),
+    ("Q", "2"),
+    ("EBANK", "3"),
+    ("EB", "3"),
+    ("FBANK", "4"),
+    ("FB", "4"),
+    ("Z", "5"),
+    ("BBANK", "6"),
+    ("BB", "6"),
+    ("ZERO", "7"),
+    ("ARUPT", "10"),
+    ("LRUPT", "11"),
+    ("QRUPT", "12"),
+    ("ZRUPT", "15"),
+    ("BBRUPT", "16"),
+    ("BRUPT", "17"),
+    ("CYR", "20"),
+    ("SR", "21"),
+    ("CYL", "22"),
+    ("EDOP", "23"),
+    ("TIME2", "24"),
+    ("TIME1", "25"),
+    ("TIME3", "26"),
+    ("TIME4", "27"),
+    ("TIME5", "30"),
+    ("TIME6", "31"),
+    ("CDUX", "32"),
+    ("CDUY", "33"),
+    ("CDUZ", "34"),
+    ("OPTY", "35"),
+    ("OPTX", "36"),
+    ("PIPAX", "37"),
+    ("PIPAY", "40"),
+    ("PIPAZ", "41"),
+    ("INLINK", "45"),
+];
+
+fn common_names() -> &'static [&'static str]
+    ensures { map (λ name. name.now) result.now ≡ common_names }
+{
+    &COMMON_NAMES
+}
+
+pub(crate) fn registers() -> &'static [(&'static str, &'static str)]
+    ensures { entries result.now ≡ registers }
+{
+    &REGISTERS
+}

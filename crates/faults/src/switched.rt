@@ -1,0 +1,294 @@
+//! Words of switched banks that are reached while no line sets the register of these banks.
+
+ghost use Rattle.std.specs.Prelude.{◌≡◌, map, false, OnOk};
+ghost use Rattle.std.specs.List.{list_any};
+ghost use Rattle.std.specs.Option.{option_map, option_map_or};
+ghost use Rattle.agc_text.specs.Views.{piece};
+ghost use Rattle.faults.specs.Warnings.{parts_in, region_of_place, region_of_bank, region_at, region_after, is_common, is_switched_erasable, is_switched_fixed, value_operators, with_erasable, with_fixed, is_bank_place, is_bank_number, is_bank_field, with_bank_name, far_operators, with_stored, banks_after, no_banks, may_set_erasable, may_set_fixed};
+
+use crate::causes::bank_operators;
+use crate::flow::{setting_operators, storing_operators};
+use crate::mistakes::{add_field, erase_operators, has_alone, has_operator};
+use crate::names::NameSet;
+use agc_text::{Field, Line, Number, octal_value};
+use std::alloc::{AllocError, Global};
+
+/// Where words stand.
+#[derive(Clone, Copy, Drop)]
+pub(crate) enum Region {
+    /// Banks 2 and 3 of fixed memory, which are reached whatever FB holds.
+    Common,
+    /// A bank of fixed memory that FB leads to, but bank 0.
+    SwitchedFixed,
+    /// A bank of erasable memory that EB leads to.
+    SwitchedErasable,
+    /// Another place, or one that the line does not tell.
+    Elsewhere,
+}
+
+/// A register that holds a bank.
+#[derive(Clone, Copy, Drop)]
+pub(crate) enum BankRegister {
+    /// That of erasable memory.
+    Eb,
+    /// That of fixed memory.
+    Fb,
+}
+
+/// What the lines so far say of banks.
+#[derive(Drop)]
+pub(crate) struct Banks {
+    /// Where words stand.
+    pub(crate) region: Region,
+    /// The labels of words that are reserved in switched erasable banks.
+    pub(crate) erasable: NameSet,
+    /// The labels in switched banks of fixed memory.
+    pub(crate) fixed: NameSet,
+    /// The names of places by which EB is set.
+    pub(crate) erasable_registers: NameSet,
+    /// The names of places by which FB is set.
+    pub(crate) fixed_registers: NameSet,
+    /// Where lines store.
+    pub(crate) stored: NameSet,
+    /// Whether DTCB or DTCF stands.
+    pub(crate) far: bool,
+}
+
+impl Banks {
+    /// What is known before the first line.
+    pub(crate) fn new(alloc: Global) -> Banks
+        ensures { result ≡ no_banks }
+    {
+        Banks {
+            region: Region::Common,
+            erasable: NameSet::new(alloc),
+            fixed: NameSet::new(alloc),
+            erasable_registers: NameSet::new(alloc),
+            fixed_registers: NameSet::new(alloc),
+            stored: NameSet::new(alloc),
+            far: false,
+        }
+    }
+
+    /// Adds what a line says.
+    pub(crate) fn note(&mut self, parts: &Line<'_>) -> Result<(), AllocError>
+        ensures { OnOk result (self.new ≡ banks_after self.old (parts_in parts.now)) }
+    {
+        add_erasable(self.region, &mut self.erasable, parts)?;
+        add_fixed(self.region, &mut self.fixed, parts)?;
+        add_bank_name(BankRegister::Eb, &mut self.erasable_registers, parts)?;
+        add_bank_name(BankRegister::Fb, &mut self.fixed_registers, parts)?;
+        add_stored(&mut self.stored, parts)?;
+        self.far = self.far || has_operator(far_operators(), parts);
+        self.region = region_after(self.region, parts);
+        Ok(())
+    }
+
+    /// Whether some line may set EB.
+    pub(crate) fn may_set_erasable(&self) -> bool
+        ensures { result ≡ may_set_erasable self.now }
+    {
+        self.far || some_sets(BankRegister::Eb, &self.erasable_registers, &self.stored)
+    }
+
+    /// Whether some line may set FB.
+    pub(crate) fn may_set_fixed(&self) -> bool
+        ensures { result ≡ may_set_fixed self.now }
+    {
+        self.far || some_sets(BankRegister::Fb, &self.fixed_registers, &self.stored)
+    }
+}
+
+// Whether a register is set where lines store, by number or by one of some names.
+#[tactic(auto, using(crate::proofs::GrowingTexts::any_here, crate::proofs::GrowingTexts::any_on))]
+fn some_sets(register: BankRegister, names: &NameSet, stored: &NameSet) -> bool
+    ensures { result ≡ list_any (is_bank_field register names.now) stored.now }
+{
+    for index in 0..stored.len() {
+        if is_bank_field(register, names, stored.name_at(index)) {
+            return true;
+        }
+    }
+    false
+}
+
+// Whether a field is the number of a place by which a register is set, or one of some names.
+fn is_bank_field(register: BankRegister, names: &NameSet, text: &[u8]) -> bool
+    ensures { result ≡ is_bank_field register names.now text.now }
+{
+    is_bank_number(register, text) || names.has(text)
+}
+
+fn add_erasable(region: Region, names: &mut NameSet, parts: &Line<'_>) -> Result<(), AllocError>
+    ensures { OnOk result (names.new ≡ with_erasable region names.old (parts_in parts.now)) }
+{
+    if is_switched_erasable(region) && has_operator(erase_operators(), parts) {
+        add_field(names, parts.label)
+    } else {
+        Ok(())
+    }
+}
+
+fn add_fixed(region: Region, names: &mut NameSet, parts: &Line<'_>) -> Result<(), AllocError>
+    ensures { OnOk result (names.new ≡ with_fixed region names.old (parts_in parts.now)) }
+{
+    if is_switched_fixed(region) && !has_operator(value_operators(), parts) {
+        add_field(names, parts.label)
+    } else {
+        Ok(())
+    }
+}
+
+// Adds the label of a line that gives it a place by which a register is set.
+fn add_bank_name(
+    register: BankRegister,
+    names: &mut NameSet,
+    parts: &Line<'_>,
+) -> Result<(), AllocError>
+    ensures { OnOk result (names.new ≡ with_bank_name register names.old (parts_in parts.now)) }
+{
+    if has_alone(value_operators(), parts) && names_bank_place(register, parts.operand) {
+        add_field(names, parts.label)
+    } else {
+        Ok(())
+    }
+}
+
+// Adds where a line stores.
+fn add_stored(names: &mut NameSet, parts: &Line<'_>) -> Result<(), AllocError>
+    ensures { OnOk result (names.new ≡ with_stored names.old (parts_in parts.now)) }
+{
+    if has_operator(storing_operators(), parts) {
+        add_field(names, parts.operand)
+    } else {
+        Ok(())
+    }
+}
+
+// Whether a field is the number of a place by which a register is set.
+fn names_bank_place(register: BankRegister, field: Option<Field<'_>>) -> bool
+    ensures { result ≡ option_map_or (λ p. is_bank_number register p.text) (option_map piece field.entry) false }
+{
+    match field {
+        Some(field) => is_bank_number(register, field.text),
+        None => false,
+    }
+}
+
+// Octal digits of a place by which a register is set.
+fn is_bank_number(register: BankRegister, text: &[u8]) -> bool
+    ensures { result ≡ is_bank_number register text.now }
+{
+    match octal_value(text) {
+        Some(Number::Small(number)) => is_bank_place(register, number),
+        _ => false,
+    }
+}
+
+// A store at a place sets a register; where it exchanges two words, the one after it too.
+fn is_bank_place(register: BankRegister, number: u32) -> bool
+    ensures { result ≡ is_bank_place register number }
+{
+    match register {
+        BankRegister::Eb => number == 2 || number == 3 || number == 5 || number == 6,
+        BankRegister::Fb => (3..=6).contains(&number),
+    }
+}
+
+/// Where words stand after a line.
+pub(crate) fn region_after(region: Region, parts: &Line<'_>) -> Region
+    ensures { result ≡ region_after region (parts_in parts.now) }
+{
+    if has_alone(setting_operators(), parts) {
+        region_at_place(parts.operand)
+    } else if has_operator(setting_operators(), parts) {
+        Region::Elsewhere
+    } else if has_operator(bank_operators(), parts) {
+        region_at_bank(parts.operand)
+    } else {
+        region
+    }
+}
+
+// The region of a field that is a place as SETLOC takes it.
+fn region_at_place(field: Option<Field<'_>>) -> Region
+    ensures { result ≡ region_at region_of_place (option_map piece field.entry) }
+{
+    match field {
+        Some(field) => match octal_value(field.text) {
+            Some(Number::Small(place)) => region_of_place(place),
+            _ => Region::Elsewhere,
+        },
+        None => Region::Elsewhere,
+    }
+}
+
+// The region of a place.
+fn region_of_place(place: u32) -> Region
+    ensures { result ≡ region_of_place place }
+{
+    match place {
+        0o1400..=0o3777 => Region::SwitchedErasable,
+        0o4000..=0o7777 => Region::Common,
+        _ => Region::Elsewhere,
+    }
+}
+
+// The region of a field that is a bank of fixed memory.
+fn region_at_bank(field: Option<Field<'_>>) -> Region
+    ensures { result ≡ region_at region_of_bank (option_map piece field.entry) }
+{
+    match field {
+        Some(field) => match octal_value(field.text) {
+            Some(Number::Small(bank)) => region_of_bank(bank),
+            _ => Region::Elsewhere,
+        },
+        None => Region::Elsewhere,
+    }
+}
+
+// The region of a bank of fixed memory.
+fn region_of_bank(bank: u32) -> Region
+    ensures { result ≡ region_of_bank bank }
+{
+    match bank {
+        2 | 3 => Region::Common,
+        1..=0o43 => Region::SwitchedFixed,
+        _ => Region::Elsewhere,
+    }
+}
+
+/// Of banks 2 and 3.
+pub(crate) fn is_common(region: Region) -> bool
+    ensures { result ≡ is_common region }
+{
+    matches!(region, Region::Common)
+}
+
+fn is_switched_erasable(region: Region) -> bool
+    ensures { result ≡ is_switched_erasable region }
+{
+    matches!(region, Region::SwitchedErasable)
+}
+
+fn is_switched_fixed(region: Region) -> bool
+    ensures { result ≡ is_switched_fixed region }
+{
+    matches!(region, Region::SwitchedFixed)
+}
+
+const VALUE_OPERATORS: [&str; 2] = ["EQUALS", "="];
+
+const FAR_OPERATORS: [&str; 2] = ["DTCB", "DTCF"];
+
+pub(crate) fn value_operators() -> &'static [&'static str]
+    ensures { map (λ name. name.now) result.now ≡ value_operators }
+{
+    &VALUE_OPERATORS
+}
+
+fn far_operators() -> &'static [&'static str]
+    ensures { map (λ name. name.now) result.now ≡ far_operators }
+{
+    &FAR_OPERATORS
+}
