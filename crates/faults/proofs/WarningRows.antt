@@ -63,12 +63,12 @@ shown_in_order : report Standard (codes "a") (source (codes " CA 5; TS FIV;Z")) 
     ++ codes "a:2:2: error E25: TS writes to erasable memory, and FIV is not there;    2 |  TS FIV;      |  ^^;"
     ++ codes "      = reserve the word there: SETLOC and a place below 4000, and ERASE;"
     ++ codes "a:2:2: warning W3: TS takes two words, and ERASE reserves one for FIV;    2 |  TS FIV;      |  ^^;      = FIV ERASE +1 reserves two;"
-    ++ codes "a:3:2: warning W8: no operand names Z;    3 | Z;      |  ^^;")
+    ++ codes "a:3:2: warning W8: no operand names Z;    3 | Z;      |  ^;")
 unfolding report told_text shown_line kind_of_source lines digits runs operators parsed
 shown_in_order = refl
 
 -- a symbol of the wrong kind is told with its line, and one that a later line defines is not taken for another
-told_with_lines : report (codes "a") (source (codes " TS SUM;SUM OCT 0; SETLOC SUX;SUX OCT 1")) (placed 1 25 ∷ placed 3 18 ∷ []) []
+told_with_lines : report Standard (codes "a") (source (codes " TS SUM;SUM OCT 0; SETLOC SUX;SUX OCT 1")) (placed 1 25 ∷ placed 3 18 ∷ []) []
     ≡ source (codes "a:1:2: error E25: TS writes to erasable memory, and SUM, of line 2, is not there;    1 |  TS SUM;      |  ^^;"
     ++ codes "      = reserve the word there: SETLOC and a place below 4000, and ERASE;"
     ++ codes "a:3:2: error E18: SETLOC needs the value of SUX here, and no earlier line defines it;    3 |  SETLOC SUX;      |  ^^;")
