@@ -3,10 +3,10 @@ use Rattle.std.proofs.Common.{◌≡◌, ℕ, zero, suc, ◌+◌, ◌<◌, ◌�
 use Rattle.std.specs.Prelude.{nat_lt}
 use Rattle.std.specs.Option.{option_map}
 use Rattle.std.specs.List.{list_any, position, position_or_len}
-use Rattle.cpu.specs.State.{State, Scenario}
+use Rattle.cpu.specs.State.{State, Scenario, start}
 use Rattle.cpu.specs.Next.{next}
 use Rattle.cpu.specs.Run.{run}
-use Rattle.cpu.proofs.RunLaws.{run-add-one}
+use Rattle.cpu.proofs.RunLaws.{run-zero, run-add-one}
 use Rattle.commands.specs.declared.command.Breakpoint.{Breakpoint}
 use Rattle.commands.specs.declared.command.Breakpoint.TheVariants.{Place, Word, Channel, Bits, Cycles, Returned, Outside, Executed}
 use Rattle.replay.specs.LastHit.{last_hit, first_hit}
@@ -205,8 +205,17 @@ start_by : (h : ℕ → Option ℕ) (b : Option ℕ) → b ≡ h 0 → IfSome (o
 start_by h None is = tt
 start_by h (Some i) is = is
 
-pub start_found : (h : ℕ → Option ℕ) (start : Option (ℕ × ℕ)) → start ≡ option_map (λ i. (0, i)) (h 0) → IfSome start (λ t. Some t.1 ≡ h t.0)
-start_found h start is = rw is (start_by h (h 0) refl)
+pub start_found : (h : ℕ → Option ℕ) (first : Option (ℕ × ℕ)) → first ≡ option_map (λ i. (0, i)) (h 0) → IfSome first (λ t. Some t.1 ≡ h t.0)
+start_found h first is = rw is (start_by h (h 0) refl)
+
+pub start_within : (start : Option (ℕ × ℕ)) (b : Option ℕ) (q : ℕ) → start ≡ option_map (λ i. (0, i)) b → IfSome start (λ t. t.0 ≤ q)
+start_within start None q is = rw is tt
+start_within start (Some i) q is = rw is (omega arith)
+
+-- what holds at the start
+pub at_the_start : (scenario : Scenario) (bs own : List Breakpoint) (m : State) (r : Option ℕ) → bs ≡ own → m ≡ start → r ≡ lowest_hit bs (record { executed = None }) (sight scenario.rope m) → r ≡ hit_at (history scenario) own 0
+unfolding history
+at_the_start scenario bs own m r same is found = found ∙ rw (same, is, run-zero scenario) refl
 
 -- one breakpoint alone
 alone_by : (b : Bool) → is_some (option_map (λ (k : ℕ). k + 1) (cond (nat_lt (cond (not b) (1 + 0) 0) 1) (Some (cond (not b) (1 + 0) 0)) None)) ≡ b
