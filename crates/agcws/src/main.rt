@@ -5,6 +5,7 @@ ghost use Rattle.std.specs.Prelude.{◌≤◌, ◌-◌, ◌^◌, IfSome};
 
 mod command_line;
 mod gathered;
+mod help;
 mod image_file;
 mod target;
 
