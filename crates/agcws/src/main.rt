@@ -11,105 +11,28 @@ mod target;
 
 use clap::ArgMatches;
 use clap::error::ErrorKind;
-use command_line::AS_SOURCE;
-use command_line::ASM;
-use command_line::BANK;
-use command_line::BANK_COUNT;
-use command_line::BANKS;
-use command_line::CHECK;
-use command_line::COMPARE;
-use command_line::COVER;
-use command_line::DEBUG;
-use command_line::END;
-use command_line::EXPLAIN;
-use command_line::EXTENDED;
-use command_line::FEED;
-use command_line::FLIGHT;
-use command_line::FORM;
-use command_line::FROM;
-use command_line::IGNORED_PARITY;
-use command_line::IMAGE;
-use command_line::NEW;
-use command_line::NEW_FORM;
-use command_line::NEW_VERSION;
-use command_line::NOTES;
-use command_line::NUMBER;
-use command_line::OLD;
-use command_line::OLD_FORM;
-use command_line::OLD_VERSION;
-use command_line::ONLY;
-use command_line::PARITY;
-use command_line::PROGRESS;
-use command_line::ROPE;
-use command_line::RUN;
-use command_line::SOURCE;
-use command_line::STEPS;
-use command_line::SUMS;
-use command_line::TO;
-use command_line::TRACE;
-use command_line::UNUSED;
-use command_line::UPGRADE;
-use command_line::VERSION;
-use command_line::VERSION_ONE;
-use command_line::VERSION_TWO;
-use command_line::WITH_SUMS;
-use command_line::WORDS;
-use command_line::command;
+use command_line::{
+    AS_SOURCE, ASM, BANK, BANK_COUNT, BANKS, CHECK, COMPARE, COVER, DEBUG, END, EXPLAIN, EXTENDED,
+    FEED, FLIGHT, FORM, FROM, IGNORED_PARITY, IMAGE, NEW, NEW_FORM, NEW_VERSION, NOTES, NUMBER,
+    OLD, OLD_FORM, OLD_VERSION, ONLY, PARITY, PROGRESS, ROPE, RUN, SOURCE, STEPS, SUMS, TO, TRACE,
+    UNUSED, UPGRADE, VERSION, VERSION_ONE, VERSION_TWO, WITH_SUMS, WORDS, command,
+};
 use gathered::Gathered;
 use image_file::ImageFile;
-use std::alloc::AllocError;
-use std::alloc::Global;
+use std::alloc::{AllocError, Global};
 use std::cell::Cell;
-use std::env;
-use std::fs;
-use std::io;
 use std::process::ExitCode;
+use std::{env, fs, io};
 use target::wrong_target;
-use words::Read;
-use words::ReadAhead;
-use words::Std;
-use words::Write;
-use words::write_all;
-use workshop::Bank;
-use workshop::Form;
-use workshop::InForm;
-use workshop::Language;
-use workshop::Origin;
-use workshop::Refusal;
-use workshop::Summary;
-use workshop::Unheard;
-use workshop::Version;
-use workshop::WorkshopFault;
-use workshop::all_headings;
-use workshop::asm_engine;
-use workshop::asm_with_check_words;
-use workshop::check_feed;
-use workshop::check_source;
-use workshop::compare_engine;
-use workshop::compare_only_engine;
-use workshop::cover_and_tell;
-use workshop::cover_program;
-use workshop::debug_extended;
-use workshop::debug_program;
-use workshop::explanation;
-use workshop::may_run;
-use workshop::parity_engine;
-use workshop::refusal_of;
-use workshop::report;
-use workshop::report_no_room;
-use workshop::run_and_tell;
-use workshop::run_program;
-use workshop::run_with_notes;
-use workshop::source_engine;
-use workshop::sums_engine;
-use workshop::trace_and_tell;
-use workshop::trace_program;
-use workshop::upgrade_engine;
-use workshop::warning_explanation;
-use workshop::warning_of;
-use workshop::words_engine;
-use workshop::write_end;
-use workshop::write_tally;
+use words::{Read, ReadAhead, Std, Write, write_all};
+use workshop::{
+    Bank, Form, InForm, Language, Origin, Refusal, Summary, Unheard, Version, WorkshopFault,
+    all_headings, asm_engine, asm_with_check_words, check_feed, check_source, compare_engine,
+    compare_only_engine, cover_and_tell, cover_program, debug_extended, debug_program, explanation,
+    may_run, parity_engine, refusal_of, report, report_no_room, run_and_tell, run_program,
+    run_with_notes, source_engine, sums_engine, trace_and_tell, trace_program, upgrade_engine,
+    words_engine, write_end, write_tally,
+};
 
 /// The exit status where all is done.
 const DONE: u8 = 0;
@@ -682,7 +605,7 @@ fn explain(rt: &HostRuntime, matches: &ArgMatches<'_>) -> Result<u8, WorkshopFau
     let text = match matches.get_str(NUMBER) {
         None => all_headings(rt.alloc()),
         Some(name) => match (warning_named(name), refusal_named(name)) {
-            (Some(warning), _) => warning_explanation(rt.alloc(), &warning),
+            (Some(warning), _) => workshop::warning_explanation(rt.alloc(), &warning),
             (None, Some(refusal)) => explanation(rt.alloc(), &refusal),
             (None, None) => return refuse_arguments(rt, NO_REFUSAL),
         },
@@ -701,7 +624,7 @@ fn refusal_named(name: &str) -> Option<Refusal> {
 /// The warning of a number as it is named: W4.
 fn warning_named(name: &str) -> Option<Refusal> {
     let number = name.strip_prefix('W')?.parse::<u8>().ok()?;
-    warning_of(number)
+    workshop::warning_of(number)
 }
 
 /// `agcws upgrade OLD NEW`. The file NEW is made at the first write, so that a refused image leaves none. A path of the old
