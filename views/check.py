@@ -987,7 +987,7 @@ def check_package():
 def check_faults(room):
     """What `agcws check` tells of a source leads to its places by the package's matcher, and no other line of it does."""
     pattern = json.loads(text_at(f"{EDITORS}/vscode/package.json"))["contributes"]["problemMatchers"][0]["pattern"]
-    source = write(f"{room}/two faults.agc", b" FROB 1\n SETLOC 4000\n CA X\n")
+    source = write(f"{room}/two faults.agc", b" FROB 1\n SETLOC 4000\n TC X\n")
     found = [re.match(pattern["regexp"], it) for it in pipe.faults_of(source)]
     same("the places of faults", [tuple(it[pattern[part]] for part in ("file", "line", "column", "code")) for it in found if it], [(source, "1", "2", "E15"), (source, "3", "5", "E17")])
     same("faults of a source that has none", pipe.faults_of(LOST[0]), [])

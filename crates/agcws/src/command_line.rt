@@ -239,7 +239,7 @@ fn explain_command<'a>(alloc: Global) -> Result<Command<'a>, AllocError> {
         .about("Tells what the number of a refusal or of a warning means")
         .after_help(EXPLAIN_HELP)
         .arg(Arg::new(alloc, NUMBER).help(
-            "The number, as E17 or 17, or W4 of a warning; all are listed where none is given",
+            "The number, as E17, 17 or W4; all are listed where none is given",
         ))
 }
 
