@@ -88,8 +88,8 @@ def repository(room, edits, harmless=HARMLESS):
         write_text(f"{room}/crates/small/wrong-bodies/{name}.edit", edit_text(old, new))
 
 
-def run(room, *words):
-    return subprocess.run([sys.executable, RUNNER, *words], cwd=room, capture_output=True, text=True, check=False)
+def run(room, *words, **environment):
+    return subprocess.run([sys.executable, RUNNER, *words], cwd=room, capture_output=True, text=True, check=False, env={**os.environ, **environment})
 
 
 def edit_of(name, *functions, apart=()):
@@ -122,6 +122,13 @@ class WholeRuns(unittest.TestCase):
                 ran = run(room)
             self.assertIn(f"small/harmless: BAD EDIT: {wanted}", ran.stdout)
             self.assertEqual((ran.stdout.split("\n")[-2], ran.returncode), ("0 passed, 2 failed", 1), ran.stdout + ran.stderr)
+
+    def test_no_check_is_begun_once_the_time_is_up(self):
+        with tempfile.TemporaryDirectory() as room:
+            repository(room, {name: EDITS[name] for name in ("one_more_adds_two", "text_is_not_there")})
+            ran = run(room, GATE_UNTIL="0")
+        self.assertIn("small: 0 of 2 wrong edits refused in 0 checks; 1 were not tried, since the time was up", ran.stdout)
+        self.assertEqual((ran.stdout.split("\n")[-2], ran.returncode), ("0 passed, 1 failed", 1), ran.stdout + ran.stderr)
 
     def test_reads_alone(self):
         with tempfile.TemporaryDirectory() as room:
