@@ -17,7 +17,7 @@ use Rattle.commands.specs.NamedPlaces.{registers}
 use Rattle.space.specs.Places.{window}
 use Rattle.commands.specs.declared.subject.Subject.TheVariants as subject
 use Rattle.commands.specs.declared.command.Breakpoint.TheVariants as breakpoint
-use Rattle.commands.specs.declared.command.Command.TheVariants.{Registers, Memory, Last, Break, Clear, Step, Add}
+use Rattle.commands.specs.declared.command.Command.TheVariants.{Registers, Memory, Channel, Last, Break, Clear, Step, Add}
 use Rattle.commands.specs.declared.command.ParsedLine.TheVariants.{Nothing, TooLong, WrongCounter}
 use Rattle.commands.specs.declared.extended.ExtendedLine.{ExtendedLine}
 use Rattle.commands.specs.declared.extended.ExtendedLine.TheVariants.{Plain, Common, Says, Help, Breaks, ClearOne, On, AllRegisters, Until, WhyStep, Why, Words, Where, Find, Trace, Inputs, Over, Out, Listed, Values}
@@ -114,7 +114,7 @@ wrong_places : asked (codes "mem 02,2005" ∷ codes "mem E3,1377" ∷ codes "mem
     ∷ codes "mem takes a place, or a place and a count\n"
     ∷ codes "mem takes a place, or a place and a count\n"
     ∷ codes "mem takes a place, or a place and a count\n"
-    ∷ codes "no symbol CH7\n"
+    ∷ codes "why takes nothing, a place, or a place and a count\n"
     ∷ codes "break takes at|exec PLACE, word PLACE W or chan C W [MASK]\n"
     ∷ [])
 unfolding extended_line extended_forms usages forms runs parsed counters sequences registers window
@@ -188,3 +188,14 @@ counters_named : asked (codes "mem TIME3" ∷ codes "last PIPAX" ∷ codes "why 
     ≡ memory 0o26 ∷ Common (Last 0o37) ∷ Why (subject.Place 0o45) 2 ∷ Words (Erasable 0o26) 3 ∷ Says (codes "E50 COMMAND no symbol TIME7\n") ∷ []
 unfolding extended_line extended_forms usages forms runs parsed counters sequences registers window
 counters_named = refl
+
+-- the word on a channel, where no symbol has the name
+channels_named : asked (codes "mem CH012" ∷ codes "mem CH1000" ∷ codes "mem CH" ∷ codes "mem CH012 2" ∷ codes "last CH7" ∷ [])
+    ≡ Common (Channel 0o12)
+    ∷ Says (codes "E50 COMMAND no symbol CH1000\n")
+    ∷ Says (codes "E50 COMMAND no symbol CH\n")
+    ∷ Says (codes "E50 COMMAND mem takes a place, or a place and a count\n")
+    ∷ Says (codes "E50 COMMAND last takes an erasable place\n")
+    ∷ []
+unfolding extended_line extended_forms usages forms runs parsed counters sequences registers window
+channels_named = refl

@@ -9,12 +9,12 @@ use Rattle.space.specs.declared.place.Linear.{Linear}
 use Rattle.commands.specs.Commands.{count_in, channel_in, erasable_number, parsed_in}
 use Rattle.commands.specs.Lines.{command_length}
 use Rattle.commands.specs.NamedPlaces.{named_place, place_first, after_place}
-use Rattle.commands.specs.Subjects.{erasable_first, place_subject, channel_subject}
+use Rattle.commands.specs.Subjects.{channel_named, erasable_first, place_subject, channel_subject}
 use Rattle.commands.specs.Usages.{Usage, usages, help_line}
 use Rattle.commands.specs.declared.subject.Subject.{Subject}
 use Rattle.commands.specs.declared.command.Breakpoint.{Breakpoint}
 use Rattle.commands.specs.declared.command.Breakpoint.TheVariants as breakpoint
-use Rattle.commands.specs.declared.command.Command.TheVariants.{Memory, Last, Break}
+use Rattle.commands.specs.declared.command.Command.TheVariants.{Memory, Channel, Last, Break}
 use Rattle.commands.specs.declared.command.ParsedLine.{ParsedLine}
 use Rattle.commands.specs.declared.command.ParsedLine.TheVariants.{Nothing, TooLong, Unknown, WrongCounter, Known}
 use Rattle.commands.specs.declared.extended.ExtendedLine.{ExtendedLine}
@@ -98,8 +98,12 @@ abbrev pub memory_of : Linear → List (List ℕ) → Option ExtendedLine
 memory_of place [] = Some (Common (Memory place))
 memory_of place (field ∷ more) = option_map (λ k. Words place k) (option_and_then few_in (sole (field ∷ more)))
 
+-- a channel, where no symbol has the name
+abbrev pub channel_form : SymbolTable → ExtendedForm
+channel_form symbols fields = option_map (λ c. Common (Channel c)) (option_and_then (channel_named symbols) (sole fields))
+
 abbrev pub memory_form : SymbolTable → ExtendedForm
-memory_form symbols fields = option_and_then (λ place. memory_of place (after_place fields)) (place_first symbols fields)
+memory_form symbols fields = option_or (option_and_then (λ place. memory_of place (after_place fields)) (place_first symbols fields)) (channel_form symbols fields)
 
 -- a place and a number of words, or the usual one where none is named
 abbrev pub count_after : ℕ → List (List ℕ) → Option ℕ
@@ -191,9 +195,9 @@ place_field name (field ∷ more) =
     else if same_name name (codes "break") then breakpoint_place_field field more
     else None
 
--- it names none, and is no symbol
+-- it names none, and is no symbol and no channel
 abbrev pub is_no_symbol : SymbolTable → List ℕ → Bool
-is_no_symbol symbols field = not (is_some (named_place symbols field)) && not (is_some (value_in symbols field))
+is_no_symbol symbols field = not (is_some (named_place symbols field)) && not (is_some (value_in symbols field)) && not (is_some (channel_named symbols field))
 
 -- the symbol that is missing
 abbrev pub missing_symbol : SymbolTable → Option (List ℕ) → Option (List ℕ)

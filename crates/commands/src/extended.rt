@@ -7,7 +7,7 @@ ghost use Rattle.agc_text.specs.Tables.{value_in};
 ghost use Rattle.commands.specs.Lines.{kept_line};
 ghost use Rattle.commands.specs.Commands.{count_in};
 ghost use Rattle.commands.specs.declared.extended.ExtendedLine.TheVariants as asked;
-ghost use Rattle.commands.specs.Extended.{extended_forms, most_count, sole, with_none, with_word, with_field, with_field_or, help_in, few_in, links_in, why_of, why_form, memory_of, memory_form, count_after, counted_place, place_alone, last_form, broken_at, watches, bits_of, watches_bits, break_form, breakpoint_place_field, place_field, is_no_symbol, missing_symbol, refusal_line, in_words, echoed, extended_in, extended_line, steps_in};
+ghost use Rattle.commands.specs.Extended.{extended_forms, most_count, sole, with_none, with_word, with_field, with_field_or, help_in, few_in, links_in, why_of, why_form, memory_of, channel_form, memory_form, count_after, counted_place, place_alone, last_form, broken_at, watches, bits_of, watches_bits, break_form, breakpoint_place_field, place_field, is_no_symbol, missing_symbol, refusal_line, in_words, echoed, extended_in, extended_line, steps_in};
 
 use crate::command::{Breakpoint, Command, ParsedLine};
 use crate::fields::{channel_in, count_in};
@@ -16,7 +16,7 @@ use crate::named_places::{after_place, named_place, place_first};
 use crate::parsing::parsed_in;
 use crate::phrase::Phrase;
 use crate::places::erasable_number;
-use crate::subject::{Subject, channel_subject, erasable_first, place_subject};
+use crate::subject::{Subject, channel_named, channel_subject, erasable_first, place_subject};
 use crate::usage::{help_of, usage_of};
 use agc_text::{before_comment, next_field, split_field};
 use feed::word_in;
@@ -294,8 +294,23 @@ fn memory_form(symbols: &Symbols, rest: &[u8]) -> Option<ExtendedLine>
     requires { All (λ field. length field ≤ 80) (texts (runs rest.now)) }
     ensures { result ≡ memory_form symbols.now (texts (runs rest.now)) }
 {
-    let place = place_first(symbols, rest)?;
-    memory_of(place, after_place(rest))
+    let request = match place_first(symbols, rest) {
+        Some(place) => memory_of(place, after_place(rest)),
+        None => None,
+    };
+    match request {
+        Some(request) => Some(request),
+        None => channel_form(symbols, rest),
+    }
+}
+
+// `mem` of a channel.
+fn channel_form(symbols: &Symbols, rest: &[u8]) -> Option<ExtendedLine>
+    requires { All (λ field. length field ≤ 80) (texts (runs rest.now)) }
+    ensures { result ≡ channel_form symbols.now (texts (runs rest.now)) }
+{
+    let channel = channel_named(symbols, sole(rest)?)?;
+    Some(ExtendedLine::Common(Command::Channel(channel)))
 }
 
 // `mem` of a place, followed by a number of words or by nothing.
@@ -473,11 +488,13 @@ fn missing_symbol<'a>(symbols: &Symbols, name: &[u8], rest: &'a [u8]) -> Option<
     }
 }
 
-// Whether a field names no place and is no symbol.
+// Whether a field names no place, and is no symbol and no channel.
 fn is_no_symbol(symbols: &Symbols, field: &[u8]) -> bool
     ensures { result ≡ is_no_symbol symbols.now field.now }
 {
-    named_place(symbols, field).is_none() && symbols.symbol(field).is_none()
+    named_place(symbols, field).is_none()
+        && symbols.symbol(field).is_none()
+        && channel_named(symbols, field).is_none()
 }
 
 // The field that names a place.
