@@ -68,7 +68,7 @@ FURTHER_CALLS = {
     ],
 }
 
-# A session of 48 commands, two of which add an input, and seventeen of which only an extended session has.
+# A session of 53 commands, two of which add an input, and twenty-two of which only an extended session has.
 ADDED = b"add 5000 TIME1 PINC"
 COMMANDS = b"""run 100
 break at FIVE
@@ -76,6 +76,8 @@ break word 25 3
 break chan 10 12
 break chan 10 2 7
 break exec FIVE
+break change 24
+break change CH10
 seek
 back 5
 %s

@@ -26,12 +26,12 @@ static const char *const DIVISORS[] = {"0", "1", "3", "999999999"};
 static const char *const TIMES[] = {"1", "4", "600", "999999999"};
 static const char *const COMMANDS[] = {"step", "run", "back", "goto", "seek", "break", "clear", "regs", "mem", "chan", "last", "sym", "changed", "tail", "add", "quit", "breaks", "echo", "help", "why", "where", "find", "inputs"};
 /* (Of step and run none asks for so many steps that a call is slow; others may ask for any.) */
-static const char *const WORDS[] = {"at", "word", "chan", "0", "1", "4", "17", "100", "4000", "02,4001", "43,0017", "SUM", "START", "-1", "TIME1", "PINC", "#", "2,0", "02,4005", "E3,1400", "E0,0024", "A", "Z", "+3", "+1777",
+static const char *const WORDS[] = {"at", "word", "chan", "exec", "change", "0", "1", "4", "17", "100", "4000", "02,4001", "43,0017", "SUM", "START", "-1", "TIME1", "PINC", "#", "2,0", "02,4005", "E3,1400", "E0,0024", "A", "Z", "+3", "+1777",
     "xxxxxxxxxxxxxxxxxxxxxxxxxxxxxxxxxxxxxxxxxxxxxxxxxxxxxxxxxxxxxxxxxxxxxx", "999999999999999", "1099511627775", "9999999999999999"};
 enum { LARGE_WORDS = 3 };
 static const char *const SOUND_COMMANDS[] = {
     "step 1", "step 7", "step 90", "run 3", "run 50", "run 400", "back 1", "back 30", "goto 0", "goto 5", "goto 60", "seek", "break at 4001", "break at FIVE",
-    "break word 5 4002", "break chan 10 12", "break chan 10 2 7", "clear", "clear 1", "breaks", "echo # 1", "help", "help mem", "regs", "regs all", "why", "why 25", "why SUM 40", "why A 3", "why CH010", "why SUM +1", "trace 0", "trace 5", "trace 60", "where", "find S", "find ", "over 40", "over 3", "out 40", "out 5", "inputs", "mem 0 40", "mem 02,4000 9", "mem E3,1400 +2", "mem A", "last L", "break at 02,4001", "break word SUM +1 3", "mem 0", "mem FIVE", "mem 25", "chan 10", "last 0", "last 25", "sym START", "sym FIVE", "changed 0",
+    "break word 5 4002", "break chan 10 12", "break chan 10 2 7", "break exec FIVE", "break change 25", "break change CH10", "clear", "clear 1", "breaks", "echo # 1", "help", "help mem", "regs", "regs all", "why", "why 25", "why SUM 40", "why A 3", "why CH010", "why SUM +1", "trace 0", "trace 5", "trace 60", "where", "find S", "find ", "over 40", "over 3", "out 40", "out 5", "inputs", "mem 0 40", "mem 02,4000 9", "mem E3,1400 +2", "mem A", "last L", "break at 02,4001", "break word SUM +1 3", "mem 0", "mem FIVE", "mem 25", "chan 10", "last 0", "last 25", "sym START", "sym FIVE", "changed 0",
     "changed 3", "tail", "add 50 TIME1 PINC", "add 900 CHAN 15 21", "add 3000 RUPT 4", ""};
 /* Lines that a source of flight programs may have alone; X begins a label of its own. */
 static const char *const FLIGHT_LINES[] = {

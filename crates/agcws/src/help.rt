@@ -347,6 +347,7 @@ With --extended there are these besides, and after E50 COMMAND stands why:
   break chan C W MASK  where a channel has the bits of W where MASK has ones
   break exec PLACE     where the step executed the instruction at PLACE, as an
                        input and an interrupt do not, nor a word that waited
+  break change PLACE   where the step changed the word at PLACE, or on a channel
   where                WHERE, the next instruction's place as a listing has it,
                        and the symbol at it or before it; its row, as list has
                        it; and in an interrupt IN INTERRUPT K BY T, the step

@@ -75,7 +75,7 @@ refusals : asked (codes "mem FIV" ∷ codes "break at FIV" ∷ codes "mem BIG" �
     ∷ Says (codes "E50 COMMAND mem takes a place, or a place and a count\n")
     ∷ Says (codes "E50 COMMAND mem takes a place, or a place and a count\n")
     ∷ Says (codes "E50 COMMAND last takes an erasable place\n")
-    ∷ Says (codes "E50 COMMAND break takes at|exec PLACE, word PLACE W or chan C W [MASK]\n")
+    ∷ Says (codes "E50 COMMAND break takes at|exec|change PLACE, word PLACE W, chan C W [M]\n")
     ∷ Says (codes "E50 COMMAND until takes a number of cycles\n")
     ∷ Says (codes "E50 COMMAND regs takes all, or nothing\n")
     ∷ Says (codes "E50 COMMAND regs takes all, or nothing\n")
@@ -115,7 +115,7 @@ wrong_places : asked (codes "mem 02,2005" ∷ codes "mem E3,1377" ∷ codes "mem
     ∷ codes "mem takes a place, or a place and a count\n"
     ∷ codes "mem takes a place, or a place and a count\n"
     ∷ codes "why takes nothing, a place, or a place and a count\n"
-    ∷ codes "break takes at|exec PLACE, word PLACE W or chan C W [MASK]\n"
+    ∷ codes "break takes at|exec|change PLACE, word PLACE W, chan C W [M]\n"
     ∷ [])
 unfolding extended_line extended_forms usages forms runs parsed counters sequences registers window
 wrong_places = refl
@@ -129,9 +129,9 @@ looks = refl
 -- a channel under a mask
 bits : asked (codes "break chan 10 12" ∷ codes "break chan 10 12 77" ∷ codes "break chan 10 12 77 1" ∷ codes "break chan 10 12 8" ∷ codes "break chan 1000 12 77" ∷ [])
     ≡ Common (Break (breakpoint.Channel 8 0o12)) ∷ Common (Break (breakpoint.Bits 8 0o12 0o77)) ∷ map (λ text. Says (codes "E50 COMMAND " ++ text))
-    (codes "break takes at|exec PLACE, word PLACE W or chan C W [MASK]\n"
-    ∷ codes "break takes at|exec PLACE, word PLACE W or chan C W [MASK]\n"
-    ∷ codes "break takes at|exec PLACE, word PLACE W or chan C W [MASK]\n"
+    (codes "break takes at|exec|change PLACE, word PLACE W, chan C W [M]\n"
+    ∷ codes "break takes at|exec|change PLACE, word PLACE W, chan C W [M]\n"
+    ∷ codes "break takes at|exec|change PLACE, word PLACE W, chan C W [M]\n"
     ∷ [])
 unfolding extended_line extended_forms usages forms runs parsed counters sequences registers window
 bits = refl
@@ -141,12 +141,34 @@ executed : asked (codes "break exec FIVE" ∷ codes "break exec FIVE +1" ∷ cod
     ≡ map (λ place. Common (Break (breakpoint.Executed place))) (Fixed 2 5 ∷ Fixed 2 6 ∷ Fixed 2 5 ∷ Erasable 0o102 ∷ Erasable 0 ∷ [])
     ++ map (λ text. Says (codes "E50 COMMAND " ++ text))
     (codes "no symbol FIV\n"
-    ∷ codes "break takes at|exec PLACE, word PLACE W or chan C W [MASK]\n"
-    ∷ codes "break takes at|exec PLACE, word PLACE W or chan C W [MASK]\n"
-    ∷ codes "break takes at|exec PLACE, word PLACE W or chan C W [MASK]\n"
+    ∷ codes "break takes at|exec|change PLACE, word PLACE W, chan C W [M]\n"
+    ∷ codes "break takes at|exec|change PLACE, word PLACE W, chan C W [M]\n"
+    ∷ codes "break takes at|exec|change PLACE, word PLACE W, chan C W [M]\n"
     ∷ [])
 unfolding extended_line extended_forms usages forms runs parsed counters sequences registers window
 executed = refl
+
+-- a word that changes: at an erasable place in each form, and on a channel, unless a symbol has its name
+changed : asked (codes "break change SUM" ∷ codes "break change SUM +3" ∷ codes "break change 101" ∷ codes "break change E3,1400" ∷ codes "break change A" ∷ codes "break change TIME3" ∷ codes "break change CH012" ∷ codes "break change CH777 # all" ∷ [])
+    ≡ map (λ subject. Common (Break (breakpoint.Changed subject))) (subject.Place 0o101 ∷ subject.Place 0o104 ∷ subject.Place 0o101 ∷ subject.Place 0o1400 ∷ subject.Place 0 ∷ subject.Place 0o26 ∷ subject.Channel 0o12 ∷ subject.Channel 0o777 ∷ [])
+unfolding extended_line extended_forms usages forms runs parsed counters sequences registers window
+changed = refl
+
+-- fixed memory, which never changes, no place, a field too many, and no channel
+not_changed : asked (codes "break change FIVE" ∷ codes "break change 02,4005" ∷ codes "break change" ∷ codes "break change SUM 5" ∷ codes "break change CH012 5" ∷ codes "break change SUM +" ∷ codes "break change SUMM" ∷ codes "break change CH1000" ∷ codes "break changed SUM" ∷ [])
+    ≡ map (λ text. Says (codes "E50 COMMAND " ++ text))
+    (codes "break takes at|exec|change PLACE, word PLACE W, chan C W [M]\n"
+    ∷ codes "break takes at|exec|change PLACE, word PLACE W, chan C W [M]\n"
+    ∷ codes "break takes at|exec|change PLACE, word PLACE W, chan C W [M]\n"
+    ∷ codes "break takes at|exec|change PLACE, word PLACE W, chan C W [M]\n"
+    ∷ codes "break takes at|exec|change PLACE, word PLACE W, chan C W [M]\n"
+    ∷ codes "break takes at|exec|change PLACE, word PLACE W, chan C W [M]\n"
+    ∷ codes "no symbol SUMM\n"
+    ∷ codes "no symbol CH1000\n"
+    ∷ codes "break takes at|exec|change PLACE, word PLACE W, chan C W [M]\n"
+    ∷ [])
+unfolding extended_line extended_forms usages forms runs parsed counters sequences registers window
+not_changed = refl
 
 -- the last steps
 last_steps : asked (codes "trace 5" ∷ codes "trace" ∷ codes "trace x" ∷ codes "trace 5 6" ∷ [])

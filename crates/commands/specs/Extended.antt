@@ -149,7 +149,14 @@ watches_bits (channel ∷ word ∷ []) = None
 watches_bits (channel ∷ word ∷ mask ∷ []) = bits_of (channel_in channel) (word_in word) (word_in mask)
 watches_bits (channel ∷ word ∷ mask ∷ next ∷ more) = None
 
--- `at` and a place; `word`, an erasable place and a word; `chan`, a channel, a word and a mask; or `exec` and a place
+-- an erasable place or, where no symbol has the name, a channel, where no field stands after it
+abbrev pub subject_alone : SymbolTable → List (List ℕ) → Option Subject
+subject_alone symbols [] = None
+subject_alone symbols (field ∷ more) =
+    option_or (if_none (after_place (field ∷ more)) (place_subject symbols (field ∷ more))) (if_none more (channel_subject symbols field))
+
+-- `at` and a place; `word`, an erasable place and a word; `chan`, a channel, a word and a mask; `exec` and a place; or `change`
+-- and an erasable place or a channel
 abbrev pub break_form : SymbolTable → ExtendedForm
 break_form symbols [] = None
 break_form symbols (kind ∷ fields) =
@@ -157,6 +164,7 @@ break_form symbols (kind ∷ fields) =
     else if same_name kind (codes "word") then watches symbols fields
     else if same_name kind (codes "chan") then watches_bits fields
     else if same_name kind (codes "exec") then option_map (λ p. broken_at (breakpoint.Executed p)) (place_alone symbols fields)
+    else if same_name kind (codes "change") then option_map (λ s. broken_at (breakpoint.Changed s)) (subject_alone symbols fields)
     else None
 
 -- the commands that an extended session has besides, but for `echo`

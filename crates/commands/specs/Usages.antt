@@ -23,7 +23,7 @@ usages =
     ∷ (codes "back", usage (codes "a number of steps") (codes "so many steps back"))
     ∷ (codes "goto", usage (codes "a step") (codes "to the step"))
     ∷ (codes "seek", usage (codes "nothing") (codes "back to a breakpoint"))
-    ∷ (codes "break", usage (codes "at|exec PLACE, word PLACE W or chan C W [MASK]") (codes "one breakpoint more"))
+    ∷ (codes "break", usage (codes "at|exec|change PLACE, word PLACE W, chan C W [M]") (codes "one breakpoint more"))
     ∷ (codes "breaks", usage (codes "nothing") (codes "the breakpoints"))
     ∷ (codes "clear", usage (codes "a breakpoint's number, or nothing") (codes "takes it away, or all"))
     ∷ (codes "regs", usage (codes "all, or nothing") (codes "all registers, or most and the next instruction"))

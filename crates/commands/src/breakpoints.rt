@@ -38,6 +38,15 @@ impl Breakpoints {
         }
     }
 
+    /// One alone.
+    pub fn of_one(breakpoint: Breakpoint) -> Breakpoints
+        ensures { result ≡ breakpoint ∷ [] }
+    {
+        let mut breakpoints = Breakpoints::new();
+        breakpoints.push(breakpoint);
+        breakpoints
+    }
+
     /// How many there are.
     pub fn len(&self) -> usize
         ensures value { result ≡ length self.now }

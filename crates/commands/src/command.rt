@@ -1,5 +1,6 @@
 //! What a line of commands asks for.
 
+use crate::subject::Subject;
 use feed::Input;
 use space::place::Linear;
 use space::{Chan, Eras};
@@ -25,6 +26,8 @@ pub enum Breakpoint {
     Outside,
     /// The step executed the instruction at a place.
     Executed(Linear),
+    /// The step changed the word of something.
+    Changed(Subject),
 }
 
 /// A command.

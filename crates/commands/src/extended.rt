@@ -7,7 +7,7 @@ ghost use Rattle.agc_text.specs.Tables.{value_in};
 ghost use Rattle.commands.specs.Lines.{kept_line};
 ghost use Rattle.commands.specs.Commands.{count_in};
 ghost use Rattle.commands.specs.declared.extended.ExtendedLine.TheVariants as asked;
-ghost use Rattle.commands.specs.Extended.{extended_forms, most_count, sole, with_none, with_word, with_field, with_field_or, help_in, few_in, links_in, why_of, why_form, memory_of, channel_form, memory_form, count_after, counted_place, place_alone, last_form, broken_at, watches, bits_of, watches_bits, break_form, breakpoint_place_field, place_field, is_no_symbol, missing_symbol, refusal_line, in_words, echoed, extended_in, extended_line, steps_in};
+ghost use Rattle.commands.specs.Extended.{extended_forms, most_count, sole, with_none, with_word, with_field, with_field_or, help_in, few_in, links_in, why_of, why_form, memory_of, channel_form, memory_form, count_after, counted_place, if_none, place_alone, last_form, broken_at, watches, bits_of, watches_bits, subject_alone, break_form, breakpoint_place_field, place_field, is_no_symbol, missing_symbol, refusal_line, in_words, echoed, extended_in, extended_line, steps_in};
 
 use crate::command::{Breakpoint, Command, ParsedLine};
 use crate::fields::{channel_in, count_in};
@@ -387,8 +387,33 @@ fn break_form(symbols: &Symbols, rest: &[u8]) -> Option<ExtendedLine>
     } else if kind == "exec".as_bytes() {
         let place = place_alone(symbols, more)?;
         Some(broken_at(Breakpoint::Executed(place)))
+    } else if kind == "change".as_bytes() {
+        let subject = subject_alone(symbols, more)?;
+        Some(broken_at(Breakpoint::Changed(subject)))
     } else {
         None
+    }
+}
+
+// An erasable place or a channel, where no field stands after it.
+fn subject_alone(symbols: &Symbols, rest: &[u8]) -> Option<Subject>
+    requires { All (λ field. length field ≤ 80) (texts (runs rest.now)) }
+    ensures { result ≡ subject_alone symbols.now (texts (runs rest.now)) }
+{
+    let (field, more) = split_field(rest)?;
+    match alone(place_subject(symbols, rest), after_place(rest)) {
+        Some(subject) => Some(subject),
+        None => alone(channel_subject(symbols, field), more),
+    }
+}
+
+// A subject, where no field stands after it.
+fn alone(subject: Option<Subject>, rest: &[u8]) -> Option<Subject>
+    ensures { result ≡ if_none (texts (runs rest.now)) subject }
+{
+    match split_field(rest) {
+        None => subject,
+        Some(_) => None,
     }
 }
 

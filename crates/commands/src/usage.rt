@@ -52,7 +52,7 @@ const ROWS: [Row; 30] = [
     ("seek", "nothing", "back to a breakpoint"),
     (
         "break",
-        "at|exec PLACE, word PLACE W or chan C W [MASK]",
+        "at|exec|change PLACE, word PLACE W, chan C W [M]",
         "one breakpoint more",
     ),
     ("breaks", "nothing", "the breakpoints"),

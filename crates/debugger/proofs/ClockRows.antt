@@ -1,7 +1,7 @@
 -- A session that adds inputs to a run that goes on.
 use Rattle.std.proofs.Common.{◌≡◌, ℕ, Bool, true, false, List, [], ◌∷◌, ◌++◌, map, is_some, ap, refl, ◌∙◌}
 use Rattle.std.specs.List.{range_with_len}
-use Rattle.std.specs.Prelude.{codes}
+use Rattle.std.specs.Prelude.{codes, replicate}
 use Rattle.std.specs.Fmt.{digits}
 use Rattle.agc_text.specs.Fields.{runs}
 use Rattle.agc_text.specs.Lines.{lines}
@@ -15,7 +15,8 @@ use Rattle.space.specs.declared.place.Linear.TheVariants.{Fixed}
 use Rattle.cpu.proofs.ClockRun.{loop, loop_words, clock, added, after_0, twelve_and, two, start-held, goes-twelve, goes-fourteen}
 use Rattle.commands.specs.Commands.{parsed_line, forms}
 use Rattle.commands.specs.declared.command.Breakpoint.{Breakpoint}
-use Rattle.commands.specs.declared.command.Breakpoint.TheVariants.{Place, Executed}
+use Rattle.commands.specs.declared.command.Breakpoint.TheVariants.{Place, Executed, Changed}
+use Rattle.commands.specs.declared.subject.Subject.TheVariants as subject
 use Rattle.debugger.specs.Additions.{with_added}
 use Rattle.cpu.specs.ChannelLines.{channel_lines}
 use Rattle.debugger.specs.History.{History, history}
@@ -71,3 +72,16 @@ next_at_the_loop = ap (λ h. holds_after h (Place (Fixed 2 0))) history-before �
 executed_in_the_loop : holds_after (history (loop [])) (Executed (Fixed 2 0)) ≡ false ∷ true ∷ true ∷ true ∷ false ∷ true ∷ false ∷ false ∷ true ∷ true ∷ false ∷ true ∷ false ∷ []
 unfolding lowest_hit place due
 executed_in_the_loop = ap (λ h. holds_after h (Executed (Fixed 2 0))) history-before ∙ refl
+
+-- a pulse changes the counter, and a key the word of its channel; the jump leaves Z what it is
+counted_in_the_loop : holds_after (history (loop [])) (Changed (subject.Place 0o25)) ≡ false ∷ false ∷ false ∷ false ∷ true ∷ false ∷ true ∷ false ∷ false ∷ false ∷ true ∷ false ∷ true ∷ []
+unfolding lowest_hit place due
+counted_in_the_loop = ap (λ h. holds_after h (Changed (subject.Place 0o25))) history-before ∙ refl
+
+key_in_the_loop : holds_after (history (loop [])) (Changed (subject.Channel 0o15)) ≡ false ∷ false ∷ false ∷ false ∷ false ∷ false ∷ false ∷ true ∷ false ∷ false ∷ false ∷ false ∷ false ∷ []
+unfolding lowest_hit place due
+key_in_the_loop = ap (λ h. holds_after h (Changed (subject.Channel 0o15))) history-before ∙ refl
+
+same_in_the_loop : holds_after (history (loop [])) (Changed (subject.Place 5)) ≡ replicate 13 false
+unfolding lowest_hit place due
+same_in_the_loop = ap (λ h. holds_after h (Changed (subject.Place 5))) history-before ∙ refl

@@ -39,7 +39,8 @@ use Rattle.commands.specs.Extended.{extended_line, extended_forms}
 use Rattle.commands.specs.NamedPlaces.{registers}
 use Rattle.commands.specs.Usages.{usages}
 use Rattle.commands.specs.declared.command.Breakpoint.{Breakpoint}
-use Rattle.commands.specs.declared.command.Breakpoint.TheVariants.{Place, Channel, Bits, Cycles, Executed}
+use Rattle.commands.specs.declared.command.Breakpoint.TheVariants.{Place, Channel, Bits, Cycles, Executed, Changed}
+use Rattle.commands.specs.declared.subject.Subject.TheVariants as subject
 use Rattle.commands.specs.declared.extended.ExtendedLine.TheVariants.{Common, On, Until}
 use Rattle.commands.specs.declared.command.Command.{Command}
 use Rattle.commands.specs.declared.command.Command.TheVariants.{Goto, Back, Seek, Memory}
@@ -62,9 +63,9 @@ abbrev session : List (List ℕ) → List ℕ
 session lines = conversation (terms_of symbols five) (extended_line symbols) (first_desk five [] []) lines
 
 -- breakpoints are told, and taken away one by one; those that stay are numbered anew
-breakpoints : session (codes "breaks" ∷ codes "break at FIVE" ∷ codes "break word 101 75" ∷ codes "break chan 10 12" ∷ codes "break chan 10 12 77" ∷ codes "break exec FIVE" ∷ codes "breaks" ∷ codes "clear 2" ∷ codes "clear 5" ∷ codes "clear 0" ∷ codes "breaks" ∷ codes "clear" ∷ codes "breaks" ∷ [])
-    ≡ ended (codes "COUNT 0" ∷ codes "BREAK 1" ∷ codes "BREAK 2" ∷ codes "BREAK 3" ∷ codes "BREAK 4" ∷ codes "BREAK 5" ∷ codes "BREAK 1 at 02,0005" ∷ codes "BREAK 2 word 0101 00075" ∷ codes "BREAK 3 chan 010 00012" ∷ codes "BREAK 4 chan 010 00012 00077" ∷ codes "BREAK 5 exec 02,0005" ∷ codes "COUNT 5" ∷ codes "CLEAR 2" ∷ codes "NONE" ∷ codes "NONE" ∷ codes "BREAK 1 at 02,0005" ∷ codes "BREAK 2 chan 010 00012" ∷ codes "BREAK 3 chan 010 00012 00077" ∷ codes "BREAK 4 exec 02,0005" ∷ codes "COUNT 4" ∷ codes "CLEAR" ∷ codes "COUNT 0" ∷ [])
-unfolding extended_line extended_forms extended_reply usages forms runs parsed counters sequences answer reply digits octal_text
+breakpoints : session (codes "breaks" ∷ codes "break at FIVE" ∷ codes "break word 101 75" ∷ codes "break chan 10 12" ∷ codes "break chan 10 12 77" ∷ codes "break exec FIVE" ∷ codes "break change 101" ∷ codes "break change CH10" ∷ codes "breaks" ∷ codes "clear 2" ∷ codes "clear 5" ∷ codes "clear 5" ∷ codes "clear 5" ∷ codes "clear 0" ∷ codes "breaks" ∷ codes "clear" ∷ codes "breaks" ∷ [])
+    ≡ ended (codes "COUNT 0" ∷ codes "BREAK 1" ∷ codes "BREAK 2" ∷ codes "BREAK 3" ∷ codes "BREAK 4" ∷ codes "BREAK 5" ∷ codes "BREAK 6" ∷ codes "BREAK 7" ∷ codes "BREAK 1 at 02,0005" ∷ codes "BREAK 2 word 0101 00075" ∷ codes "BREAK 3 chan 010 00012" ∷ codes "BREAK 4 chan 010 00012 00077" ∷ codes "BREAK 5 exec 02,0005" ∷ codes "BREAK 6 change 0101" ∷ codes "BREAK 7 change CH010" ∷ codes "COUNT 7" ∷ codes "CLEAR 2" ∷ codes "CLEAR 5" ∷ codes "CLEAR 5" ∷ codes "NONE" ∷ codes "NONE" ∷ codes "BREAK 1 at 02,0005" ∷ codes "BREAK 2 chan 010 00012" ∷ codes "BREAK 3 chan 010 00012 00077" ∷ codes "BREAK 4 exec 02,0005" ∷ codes "COUNT 4" ∷ codes "CLEAR" ∷ codes "COUNT 0" ∷ [])
+unfolding registers window extended_line extended_forms extended_reply usages forms runs parsed counters sequences answer reply digits octal_text
 breakpoints = refl
 
 -- a program that asks tells where a reply ends, and `quit` ends here too
@@ -104,6 +105,23 @@ on_executed : on (history five) 9 8 0 (Executed (linear.Fixed 2 2) ∷ []) ++ on
     ≡ ended (codes "HIT 1" ∷ codes "AT 3 5 02,4003" ∷ codes "HIT 1" ∷ codes "AT 8 13 02,4003" ∷ codes "7 CH 010 00012" ∷ codes "HIT 1" ∷ codes "AT 4 7 02,4004" ∷ codes "HIT 1" ∷ codes "AT 1 2 02,4001" ∷ [])
 unfolding extended_reply grow lowest_hit at_line digits octal_text place channel_lines place_text window due
 on_executed = ap (λ h. on h 9 8 0 (Executed (linear.Fixed 2 2) ∷ []) ++ on h 9 8 3 (Executed (linear.Fixed 2 2) ∷ []) ++ on h 9 3 2 (Place (linear.Fixed 2 4) ∷ Executed (linear.Fixed 2 3) ∷ []) ++ on h 4 8 0 (Executed (linear.Fixed 2 0) ∷ [])) history-five ∙ refl
+
+-- the word was changed by the step that led there: A is 5 after steps 1 and 6, and 10 after 2 and 7; channel 10 has it from step 4
+-- on; L stays, though A and Z change
+on_changed : on (history five) 9 8 0 (Changed (subject.Place 0) ∷ []) ++ on (history five) 9 8 2 (Changed (subject.Place 0) ∷ []) ++ on (history five) 9 8 0 (Changed (subject.Place 1) ∷ Changed (subject.Channel 8) ∷ []) ++ on (history five) 4 8 4 (Changed (subject.Channel 8) ∷ []) ++ on (history five) 8 8 0 (Changed (subject.Place 1) ∷ [])
+    ≡ ended (codes "HIT 1" ∷ codes "AT 1 2 02,4001" ∷ codes "HIT 1" ∷ codes "AT 6 10 02,4001" ∷ codes "HIT 2" ∷ codes "AT 4 7 02,4004" ∷ codes "AT 8 13 02,4003" ∷ codes "AT 8 13 02,4003" ∷ [])
+unfolding extended_reply grow lowest_hit at_line digits octal_text place channel_lines place_text window due
+on_changed =
+    ap (λ h. on h 9 8 0 (Changed (subject.Place 0) ∷ []) ++ on h 9 8 2 (Changed (subject.Place 0) ∷ []) ++ on h 9 8 0 (Changed (subject.Place 1) ∷ Changed (subject.Channel 8) ∷ []) ++ on h 4 8 4 (Changed (subject.Channel 8) ∷ []) ++ on h 8 8 0 (Changed (subject.Place 1) ∷ [])) history-five ∙ refl
+
+-- over new steps, and back, where none has led to the start
+abbrev sought_change : History → ℕ → List ℕ
+sought_change h position = (extended_reply (terms_of symbols five) h (at_step 8 position (Changed (subject.Place 5) ∷ [])) (Common Seek)).text
+
+changed_on_new_steps : on (history five) 9 3 2 (Changed (subject.Channel 8) ∷ []) ++ sought_change (history five) 2 ++ sought_change (history five) 1
+    ≡ ended (codes "7 CH 010 00012" ∷ codes "HIT 1" ∷ codes "AT 4 7 02,4004" ∷ codes "HIT 1" ∷ codes "AT 1 2 02,4001" ∷ codes "NONE" ∷ [])
+unfolding extended_reply reply grow lowest_hit at_line digits octal_text place channel_lines place_text window due
+changed_on_new_steps = ap (λ h. on h 9 3 2 (Changed (subject.Channel 8) ∷ []) ++ sought_change h 2 ++ sought_change h 1) history-five ∙ refl
 
 -- the commands of any session tell the bank too, and other words as ever
 abbrev common : History → Command → List ℕ

@@ -1,19 +1,22 @@
 -- Steps that were tested, and the steps of a history at which breakpoints hold.
-use Rattle.std.proofs.Common.{◌≡◌, ℕ, zero, suc, ◌+◌, ◌<◌, ◌≤◌, ◌||◌, Bool, true, false, cond, not, List, [], ◌∷◌, length, Option, Some, None, IfSome, is_some, refl, sym, ap, ◌∙◌, arith, add-one}
+use Rattle.std.proofs.Common.{◌≡◌, ℕ, map, get_or, zero, suc, ◌+◌, ◌<◌, ◌≤◌, ◌||◌, Bool, true, false, cond, not, List, [], ◌∷◌, length, Option, Some, None, IfSome, is_some, refl, sym, ap, ◌∙◌, arith, add-one}
 use Rattle.std.specs.Prelude.{nat_lt}
 use Rattle.std.specs.Option.{option_map}
 use Rattle.std.specs.List.{list_any, position, position_or_len}
+use Rattle.std.proofs.lemmas.List.{get_or-map}
+use Rattle.space.specs.declared.place.Linear.{Linear}
 use Rattle.cpu.specs.State.{State, Scenario, start}
 use Rattle.cpu.specs.Next.{next}
 use Rattle.cpu.specs.Run.{run}
 use Rattle.cpu.proofs.RunLaws.{run-zero, run-add-one}
 use Rattle.commands.specs.declared.command.Breakpoint.{Breakpoint}
-use Rattle.commands.specs.declared.command.Breakpoint.TheVariants.{Place, Word, Channel, Bits, Cycles, Returned, Outside, Executed}
+use Rattle.commands.specs.declared.command.Breakpoint.TheVariants.{Place, Word, Channel, Bits, Cycles, Returned, Outside, Executed, Changed}
 use Rattle.replay.specs.LastHit.{last_hit, first_hit}
 use Rattle.replay.specs.Found.{or_other, last_found, first_found, found_by}
-use Rattle.debugger.specs.History.{Sight, StepSight, history, sight, step_from, step_to}
-use Rattle.debugger.specs.Growth.{holds, lowest_hit, hit_at}
-use Rattle.debugger.specs.Stopping.{asks, looked, hit_by}
+use Rattle.debugger.specs.History.{Sight, StepSight, history, sight, no_step, step_from, step_to}
+use Rattle.debugger.specs.declared.noted.Noted.{Noted}
+use Rattle.debugger.specs.Growth.{is_executed, holds, lowest_hit, hit_at}
+use Rattle.debugger.specs.Stopping.{asks, looked, hit_by, watched_word, is_other, Tells}
 
 -- a breakpoint that does not ask what the step did holds whatever it did
 unasked : (b : Breakpoint) → asks b ≡ false → (one other : StepSight) (seen : Sight) → holds one seen b ≡ holds other seen b
@@ -25,6 +28,7 @@ unasked (Cycles cycles) n one other seen = refl
 unasked (Returned place inside) n one other seen = refl
 unasked Outside n one other seen = refl
 unasked (Executed place) n one other seen = absurd (let bad : true ≡ false = n in cc)
+unasked (Changed subject) n one other seen = absurd (let bad : true ≡ false = n in cc)
 
 either_parts : (b c : Bool) → (b || c) ≡ false → (b ≡ false) × (c ≡ false)
 either_parts false c e = (refl, e)
@@ -213,7 +217,7 @@ start_within start None q is = rw is tt
 start_within start (Some i) q is = rw is (omega arith)
 
 -- what holds at the start
-pub at_the_start : (scenario : Scenario) (bs own : List Breakpoint) (m : State) (r : Option ℕ) → bs ≡ own → m ≡ start → r ≡ lowest_hit bs (record { executed = None }) (sight scenario.rope m) → r ≡ hit_at (history scenario) own 0
+pub at_the_start : (scenario : Scenario) (bs own : List Breakpoint) (m : State) (r : Option ℕ) → bs ≡ own → m ≡ start → r ≡ lowest_hit bs no_step (sight scenario.rope m) → r ≡ hit_at (history scenario) own 0
 unfolding history
 at_the_start scenario bs own m r same is found = found ∙ rw (same, is, run-zero scenario) refl
 
@@ -232,3 +236,22 @@ same_first_hit f g same from (suc count) = λ i. cond (same from i) (Some from) 
 
 pub first_end : (scenario : Scenario) (end : Breakpoint) (from count : ℕ) → first_hit (λ t. is_some (hit_at (history scenario) (end ∷ []) t)) from count ≡ first_hit (λ t. holds ((history scenario).step t) ((history scenario).after t) end) from count
 first_end scenario end from count = same_first_hit _ _ (λ t. alone end ((history scenario).step t) ((history scenario).after t)) from count
+
+-- what is noted before a step tells of each breakpoint whether it holds after it
+tells_by : (b : Breakpoint) (after s : State) (scenario : Scenario) (executed : Option Linear) (word : Option ℕ) (seen : Sight) → after ≡ (next scenario s).0 → executed ≡ (step_from scenario s).executed → word ≡ watched_word s b
+    → holds (record { executed = executed; changed = is_other word after }) seen b ≡ holds (step_from scenario s) seen b
+tells_by (Place place) after s scenario executed word seen there same is = refl
+tells_by (Word p w) after s scenario executed word seen there same is = refl
+tells_by (Channel c w) after s scenario executed word seen there same is = refl
+tells_by (Bits c w mask) after s scenario executed word seen there same is = refl
+tells_by (Cycles cycles) after s scenario executed word seen there same is = refl
+tells_by (Returned place inside) after s scenario executed word seen there same is = refl
+tells_by Outside after s scenario executed word seen there same is = refl
+tells_by (Executed place) after s scenario executed word seen there same is = ap (λ e. is_executed e place) same
+tells_by (Changed subject) after s scenario executed word seen there same is = rw (is, there) refl
+
+pub noted_tells : (breakpoints : List Breakpoint) (scenario : Scenario) (s : State) (noted : Noted) → noted.executed ≡ (step_from scenario s).executed → noted.words.items ≡ map (watched_word s) breakpoints
+    → Tells breakpoints (Some noted) (next scenario s).0 (step_from scenario s)
+noted_tells breakpoints scenario s noted same is = λ index other seen below.
+    tells_by (get_or breakpoints index other) (next scenario s).0 s scenario noted.executed (get_or noted.words.items index None) seen refl same
+    (ap (λ (words : List (Option ℕ)). get_or words index None) is ∙ get_or-map (watched_word s) breakpoints index other None below)

@@ -4,7 +4,9 @@ use Rattle.std.specs.List.{remove}
 use Rattle.words.specs.Numerals.{octal_text}
 use Rattle.commands.specs.Usages.{usages, help_lines}
 use Rattle.commands.specs.declared.command.Breakpoint.{Breakpoint}
-use Rattle.commands.specs.declared.command.Breakpoint.TheVariants.{Place, Word, Channel, Bits, Cycles, Returned, Outside, Executed}
+use Rattle.commands.specs.declared.command.Breakpoint.TheVariants.{Place, Word, Channel, Bits, Cycles, Returned, Outside, Executed, Changed}
+use Rattle.commands.specs.declared.subject.Subject.{Subject}
+use Rattle.commands.specs.declared.subject.Subject.TheVariants as subject
 use Rattle.commands.specs.declared.extended.ExtendedLine.{ExtendedLine}
 use Rattle.commands.specs.declared.extended.ExtendedLine.TheVariants.{Plain, Common, Says, Help, Breaks, ClearOne, On, AllRegisters, Until, WhyStep, Why, Words, Where, Find, Trace, Inputs, Over, Out, Listed, Values}
 use Rattle.cpu.specs.Run.{run}
@@ -26,6 +28,11 @@ use Rattle.debugger.specs.declared.ending.Ending.TheVariants.{Reached, Hit, NoMe
 use Rattle.commands.specs.Extended.{most_count}
 use Rattle.debugger.specs.Replies.{Desk, Reply, says, here, line, refuses, answer, reply, sought, moves, stands, ending_line, after_text, after_growth, after_steps}
 
+-- an erasable place or a channel as a command names it
+abbrev pub subject_text : Subject → List ℕ
+subject_text (subject.Place p) = octal_text 4 p
+subject_text (subject.Channel c) = codes "CH" ++ octal_text 3 c
+
 -- a breakpoint as the command that sets it
 abbrev pub breakpoint_text : Breakpoint → List ℕ
 breakpoint_text (Place place) = codes "at " ++ place_text place
@@ -36,6 +43,7 @@ breakpoint_text (Cycles cycles) = codes "cycles " ++ decimal cycles
 breakpoint_text (Returned place inside) = codes "returned " ++ place_text place
 breakpoint_text Outside = codes "outside"
 breakpoint_text (Executed place) = codes "exec " ++ place_text place
+breakpoint_text (Changed subject) = codes "change " ++ subject_text subject
 
 -- a line for each, numbered on from so many, and how many there are
 abbrev pub breaks_from : ℕ → List Breakpoint → List ℕ

@@ -10,7 +10,7 @@ use Rattle.replay.specs.Memory.{step_limit}
 use Rattle.cpu.specs.ChannelLines.{channel_line}
 use Rattle.debugger.specs.History.{Sight, StepSight, History}
 use Rattle.commands.specs.declared.command.Breakpoint.{Breakpoint}
-use Rattle.commands.specs.declared.command.Breakpoint.TheVariants.{Place, Word, Channel, Bits, Cycles, Returned, Outside, Executed}
+use Rattle.commands.specs.declared.command.Breakpoint.TheVariants.{Place, Word, Channel, Bits, Cycles, Returned, Outside, Executed, Changed}
 use Rattle.debugger.specs.declared.ending.Ending.{Ending}
 use Rattle.debugger.specs.declared.ending.Ending.TheVariants.{Reached, Hit, NoMemory, Limit}
 
@@ -37,6 +37,7 @@ holds step seen (Cycles cycles) = nat_le cycles seen.cycles
 holds step seen (Returned place inside) = same_place seen.place place && (inside || not seen.inside)
 holds step seen Outside = not seen.inside
 holds step seen (Executed place) = is_executed step.executed place
+holds step seen (Changed subject) = step.changed subject
 
 -- the lowest number, from 1, of the breakpoints that hold
 unfoldable pub lowest_hit : List Breakpoint → StepSight → Sight → Option ℕ

@@ -1,16 +1,19 @@
 -- What can be seen of a run.
-use Rattle.std.specs.Prelude.{ℕ, zero, suc, Bool, List, Option, Some, None}
+use Rattle.std.specs.Prelude.{ℕ, zero, suc, ◌==◌, Bool, false, not, List, Option, Some, None}
+use Rattle.words.specs.Numbers.{correct}
 use Rattle.rope.specs.Places.{Words, word_at}
 use Rattle.space.specs.Cells.{get, get_channel, at, superbank, erasable_bank, fixed_bank}
 use Rattle.space.specs.declared.place.Linear.{Linear}
 use Rattle.cpu.specs.State.{State, Scenario}
 use Rattle.cpu.specs.Effects.{next_address, place_in}
-use Rattle.cpu.specs.Next.{instruction_word}
+use Rattle.cpu.specs.Next.{instruction_word, next}
 use Rattle.cpu.specs.Run.{run, out, outs}
 use Rattle.cpu.specs.Profiles.{account_of}
 use Rattle.cpu.specs.declared.account.Account.{Account}
 use Rattle.cpu.specs.declared.account.Account.TheVariants.{Input, Entry, Waiting, Place}
 use Rattle.cpu.specs.declared.output.Output.{Output}
+use Rattle.commands.specs.declared.subject.Subject.{Subject}
+use Rattle.commands.specs.declared.subject.Subject.TheVariants as subject
 use Rattle.debugger.specs.declared.manner.Manner.{Manner}
 use Rattle.debugger.specs.declared.manner.Manner.TheVariants as manner
 
@@ -46,10 +49,15 @@ sight rope s =
       instruction = instruction_word rope s;
     }
 
--- what is seen of a step: the place whose instruction it executed, if it executed one. An input and an interrupt have none, and a
--- word that waited stands at none
+-- what is seen of a step: the place whose instruction it executed, if it executed one, and whose word it changed. An input and an
+-- interrupt have no such place, and a word that waited stands at none
 pub record StepSight : Type 0 where
   pub executed : Option Linear
+  pub changed : Subject → Bool
+
+-- no step
+abbrev pub no_step : StepSight
+no_step = record { executed = None; changed = λ subject. false }
 
 abbrev pub place_executed : Account → Option Linear
 place_executed Input = None
@@ -57,12 +65,20 @@ place_executed Entry = None
 place_executed Waiting = None
 place_executed (Place place) = Some place
 
+-- the word of an erasable place or of a channel in a state, and that it is another in one state than in another
+abbrev pub word_of : State → Subject → ℕ
+word_of s (subject.Place p) = correct (get s.cells p)
+word_of s (subject.Channel c) = correct (get_channel s.cells c)
+
+abbrev pub differs : State → State → Subject → Bool
+differs before after subject = not (word_of before subject == word_of after subject)
+
 -- the step from a state, and the step that led to the state after so many steps; none has led to the start
 abbrev pub step_from : Scenario → State → StepSight
-step_from scenario s = record { executed = place_executed (account_of scenario s) }
+step_from scenario s = record { executed = place_executed (account_of scenario s); changed = differs s (next scenario s).0 }
 
 abbrev pub step_to : Scenario → ℕ → StepSight
-step_to scenario zero = record { executed = None }
+step_to scenario zero = no_step
 step_to scenario (suc t) = step_from scenario (run scenario t)
 
 -- a run as it is seen: the words of fixed memory, the state after each number of steps, and the step that led there, the output

@@ -2,16 +2,17 @@
 
 ghost use Rattle.std.specs.Prelude.{◌≡◌};
 ghost use Rattle.rope.specs.Places.{Words};
-ghost use Rattle.debugger.specs.History.{sight};
-ghost use Rattle.debugger.specs.Growth.{holds, lowest_hit, is_executed};
+ghost use Rattle.debugger.specs.History.{StepSight, sight};
+ghost use Rattle.debugger.specs.Growth.{holds, lowest_hit};
+ghost use Rattle.debugger.specs.Stopping.{Tells, noted_step};
 
+use crate::noted::Noted;
 use commands::Breakpoint;
 use cpu::Machine;
-use space::Linear;
 
-/// Whether a breakpoint holds after a step that executed the instruction at a place, or at none.
-fn holds(breakpoint: Breakpoint, executed: &Option<Linear>, machine: &Machine) -> bool
-    ensures { (rope : Words) → result ≡ holds (record { executed = executed.now }) (sight rope machine.now) breakpoint }
+/// Whether the breakpoint of an index holds after a step, by what was noted before it.
+fn holds(breakpoint: Breakpoint, noted: &Option<Noted>, index: usize, machine: &Machine) -> bool
+    ensures { (rope : Words) → result ≡ holds (noted_step noted.now index machine.now) (sight rope machine.now) breakpoint }
 {
     match breakpoint {
         Breakpoint::Place(place) => machine.next_place() == place,
@@ -25,35 +26,29 @@ fn holds(breakpoint: Breakpoint, executed: &Option<Linear>, machine: &Machine) -
             machine.next_place() == place && (inside || !machine.inside())
         }
         Breakpoint::Outside => !machine.inside(),
-        Breakpoint::Executed(place) => is_executed(executed, &place),
+        Breakpoint::Executed(place) => match noted {
+            Some(noted) => noted.has_executed(&place),
+            None => false,
+        },
+        Breakpoint::Changed(subject) => match noted {
+            Some(noted) => noted.has_changed(index, subject, machine),
+            None => false,
+        },
     }
 }
 
-/// Whether a place is the one whose instruction was executed.
-fn is_executed(executed: &Option<Linear>, place: &Linear) -> bool
-    ensures { result ≡ is_executed executed.now place.now }
-{
-    match executed {
-        Some(executed) => executed == place,
-        None => false,
-    }
-}
-
-/// The lowest number, counted from 1, of the breakpoints that hold after a step that executed the instruction at a place, or at
-/// none.
+/// The lowest number, counted from 1, of the breakpoints that hold after a step, by what was noted before it.
 pub(crate) fn lowest_hit(
     breakpoints: &[Breakpoint],
-    executed: &Option<Linear>,
+    noted: &Option<Noted>,
     machine: &Machine,
 ) -> Option<u64>
-    ensures { (rope : Words) → result ≡ lowest_hit breakpoints.now (record { executed = executed.now }) (sight rope machine.now) }
+    ensures { (rope : Words) (step : StepSight) → Tells breakpoints.now noted.now machine.now step → result ≡ lowest_hit breakpoints.now step (sight rope machine.now) }
 {
-    let mut number = 1;
-    for breakpoint in breakpoints {
-        if holds(*breakpoint, executed, machine) {
-            return Some(number);
+    for (index, breakpoint) in breakpoints.iter().enumerate() {
+        if holds(*breakpoint, noted, index, machine) {
+            return Some(index as u64 + 1);
         }
-        number += 1;
     }
     None
 }

@@ -10,7 +10,7 @@ ghost use Rattle.debugger.specs.Terms.{Terms};
 ghost use Rattle.commands.specs.declared.extended.ExtendedLine.TheVariants as asked;
 ghost use Rattle.debugger.specs.Replies.{last_of, tail_length, line, hit_text, at_line_of};
 ghost use Rattle.debugger.specs.PlaceTexts.{place_text};
-ghost use Rattle.debugger.specs.ExtendedReplies.{breakpoint_text, breaks_from, next_stop};
+ghost use Rattle.debugger.specs.ExtendedReplies.{breakpoint_text, breaks_from, next_stop, subject_text};
 ghost use Rattle.debugger.specs.History.{history};
 ghost use Rattle.debugger.specs.Growth.{hit_at};
 ghost use Rattle.debugger.specs.Conversation.{effort, to_asked};
@@ -26,7 +26,7 @@ use crate::standing::find;
 use crate::stops::{Stops, led_to};
 use crate::texts::{Text, hit_and_at_line, number_line, text_line};
 use arrayvec::ArrayVec;
-use commands::{Breakpoint, Breakpoints, ExtendedLine, help_text};
+use commands::{Breakpoint, Breakpoints, ExtendedLine, Subject, help_text};
 use replay::{Keeper, Session};
 use space::place::Linear;
 use symbols::Symbols;
@@ -130,7 +130,7 @@ impl Desk {
         ensures looked { HasLooked session.old session.new session.old.n }
     {
         let count = steps.min(session.steps() - self.position);
-        let stops = Stops::at(self.breakpoints.as_slice());
+        let stops = Stops::at(&self.breakpoints);
         led_to(session.seek_step_on(self.position, count, &stops))
     }
 
@@ -164,13 +164,7 @@ impl Desk {
         ensures failures { W.failures out.new ≡ failures_after (W.failures out.old) result }
     {
         let more = steps.saturating_sub(session.steps() - self.position);
-        match grow(
-            session,
-            &mut self.tail,
-            self.breakpoints.as_slice(),
-            more,
-            out,
-        ) {
+        match grow(session, &mut self.tail, &self.breakpoints, more, out) {
             Ok(ending) => {
                 self.position += steps.min(session.steps() - self.position);
                 self.tell_ending(Manner::Extended, session, ending, out)
@@ -252,6 +246,25 @@ fn push_breakpoint(text: &mut BreaksText, breakpoint: Breakpoint)
         Breakpoint::Executed(place) => {
             push_all(text, b"exec ");
             push_place(text, place);
+        }
+        Breakpoint::Changed(subject) => {
+            push_all(text, b"change ");
+            push_subject(text, subject);
+        }
+    }
+}
+
+/// Adds an erasable place or a channel as a command names it.
+fn push_subject(text: &mut BreaksText, subject: Subject)
+    requires { array_vec_len text.old ≤ 1009 }
+    ensures items { text.new.items ≡ text.old.items ++ subject_text subject }
+    ensures short { array_vec_len text.new ≤ array_vec_len text.old + 5 }
+{
+    match subject {
+        Subject::Place(place) => push_octal(text, 4, place.number()),
+        Subject::Channel(channel) => {
+            push_all(text, b"CH");
+            push_octal(text, 3, channel.number());
         }
     }
 }

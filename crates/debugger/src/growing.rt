@@ -14,7 +14,7 @@ use crate::breakpoints::lowest_hit;
 use crate::ending::Ending;
 use crate::stops::{look, looks_at};
 use crate::tail::Tail;
-use commands::Breakpoint;
+use commands::Breakpoints;
 use cpu::{Machine, Output, Processor, write_channel_line};
 use replay::{Keeper, Refusal, Session, Stepper, Stop};
 use words::{Write, WriteFailed};
@@ -26,7 +26,7 @@ const STEPS_BETWEEN_FLUSHES: u32 = 1 << 20;
 pub(crate) fn grow<K: Keeper, W: Write>(
     session: &mut Session<K>,
     tail: &mut Tail,
-    breakpoints: &[Breakpoint],
+    breakpoints: &Breakpoints,
     more: u64,
     out: &mut W,
 ) -> Result<Ending, WriteFailed>
@@ -75,9 +75,9 @@ fn ending_of(stop: Stop, hit: Option<u64>) -> Result<Ending, WriteFailed>
 #[derive(Drop)]
 struct Teller<'a, W: Write> {
     tail: &'a mut Tail,
-    breakpoints: &'a [Breakpoint],
+    breakpoints: &'a Breakpoints,
 
-    /// Whether one of them asks what a step did. Else nothing is looked at before a step.
+    /// Whether one of them asks what a step did. Else nothing is noted before a step.
     looks: bool,
 
     out: &'a mut W,
@@ -101,7 +101,7 @@ impl<'a, W: Write> Stepper for Teller<'a, W> {
 
     #[inline(always)]
     fn make_step(&mut self, processor: &mut Processor, machine: &mut Machine) -> bool {
-        let executed = look(self.looks, processor, machine);
+        let noted = look(self.looks, self.breakpoints, processor, machine);
         let output = processor.step(machine);
         if tell(self.tail, output, self.out).is_err()
             || hand_on_in_time(&mut self.until_flush, self.out).is_err()
@@ -109,7 +109,7 @@ impl<'a, W: Write> Stepper for Teller<'a, W> {
             self.hit = None;
             return true;
         }
-        match lowest_hit(self.breakpoints, &executed, machine) {
+        match lowest_hit(self.breakpoints.as_slice(), &noted, machine) {
             Some(number) => {
                 self.hit = Some(number);
                 true

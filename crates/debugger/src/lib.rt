@@ -18,6 +18,7 @@ mod laws;
 mod link_texts;
 mod links;
 mod manner;
+mod noted;
 mod retracing;
 mod routines;
 mod rows;

@@ -103,7 +103,7 @@ impl Desk {
             return None;
         }
         let _limited = session.steps();
-        let stops = Stops::at(self.breakpoints.as_slice());
+        let stops = Stops::at(&self.breakpoints);
         let found = led_to(session.seek_step_back(self.position - 1, &stops));
         if found.is_some() {
             return found;

@@ -14,6 +14,7 @@ use crate::ending::Ending;
 use crate::growing::grow;
 use crate::manner::Manner;
 use crate::texts::ending_and_at_line;
+use commands::Breakpoints;
 use replay::{Keeper, Session};
 use words::{Write, WriteFailed, write_all};
 
@@ -35,7 +36,7 @@ impl Desk {
         ensures failures { W.failures out.new ≡ failures_after (W.failures out.old) result }
     {
         let more = steps.saturating_sub(session.steps() - self.position);
-        let ending = grow(session, &mut self.tail, &[], more, out)?;
+        let ending = grow(session, &mut self.tail, &Breakpoints::new(), more, out)?;
         self.position += steps.min(session.steps() - self.position);
         self.tell_ending(manner, session, ending, out)
     }
@@ -56,8 +57,7 @@ impl Desk {
         ensures session { HasGoneOn session.old session.new }
         ensures failures { W.failures out.new ≡ failures_after (W.failures out.old) result }
     {
-        let breakpoints = self.breakpoints.as_slice();
-        let ending = grow(session, &mut self.tail, breakpoints, steps, out)?;
+        let ending = grow(session, &mut self.tail, &self.breakpoints, steps, out)?;
         self.position = session.steps();
         self.tell_ending(manner, session, ending, out)
     }

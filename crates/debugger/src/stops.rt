@@ -4,27 +4,27 @@ ghost use Rattle.std.specs.Prelude.{◌≡◌, ◌+◌, ◌<◌, ◌^◌, Option
 ghost use Rattle.std.specs.Option.{option_map};
 ghost use Rattle.std.specs.List.{list_any};
 ghost use Rattle.cpu.specs.State.{FitsRun};
-ghost use Rattle.debugger.specs.History.{step_from};
-ghost use Rattle.debugger.specs.Stopping.{asks, looked};
+ghost use Rattle.cpu.specs.Next.{next};
+ghost use Rattle.debugger.specs.Stopping.{Tells, asks, looked};
 
 use crate::breakpoints::lowest_hit;
-use commands::Breakpoint;
-use cpu::{Account, Machine, Processor};
+use crate::noted::Noted;
+use commands::{Breakpoint, Breakpoints};
+use cpu::{Machine, Processor};
 use replay::{StepTest, make_step};
-use space::Linear;
 
 /// Where steps are to stop: at the first after which one of some breakpoints holds.
 #[derive(Clone, Copy, Drop)]
 pub(crate) struct Stops<'a> {
-    breakpoints: &'a [Breakpoint],
+    breakpoints: &'a Breakpoints,
 
-    /// Whether one of them asks what a step did. Else nothing is looked at before a step.
+    /// Whether one of them asks what a step did. Else nothing is noted before a step.
     looks: bool,
 }
 
 impl<'a> Stops<'a> {
     /// Steps that stop at some breakpoints.
-    pub(crate) fn at(breakpoints: &'a [Breakpoint]) -> Stops<'a>
+    pub(crate) fn at(breakpoints: &'a Breakpoints) -> Stops<'a>
         ensures breakpoints { result.breakpoints.now ≡ breakpoints.now }
         ensures looks { result.looks ≡ list_any asks breakpoints.now }
     {
@@ -35,15 +35,20 @@ impl<'a> Stops<'a> {
     }
 }
 
-/// The place whose instruction the next step executes, if it is to be looked at.
+/// What some breakpoints ask of the next step, if any of them asks.
 #[inline(always)]
-pub(crate) fn look(looks: bool, processor: &Processor, machine: &Machine) -> Option<Linear>
-    ensures { FitsRun processor.now.scenario machine.now → result ≡ (looked looks processor.now.scenario machine.now).executed }
+pub(crate) fn look(
+    looks: bool,
+    breakpoints: &Breakpoints,
+    processor: &Processor,
+    machine: &Machine,
+) -> Option<Noted>
+    ensures { FitsRun processor.now.scenario machine.now → Tells breakpoints.now result (next processor.now.scenario machine.now).0 (looked looks processor.now.scenario machine.now) }
 {
     if !looks {
         return None;
     }
-    place_executed(processor, machine)
+    Some(Noted::asked_by(breakpoints, processor, machine))
 }
 
 /// The steps that tested ones lead to, where something was found of one.
@@ -67,30 +72,18 @@ pub(crate) fn step_of(found: Option<(u64, u64)>) -> Option<u64>
     }
 }
 
-/// The place whose instruction the next step executes, if it executes one.
-fn place_executed(processor: &Processor, machine: &Machine) -> Option<Linear>
-    ensures { FitsRun processor.now.scenario machine.now → result ≡ (step_from processor.now.scenario machine.now).executed }
-{
-    match processor.account(machine) {
-        Account::Place(place) => Some(place),
-        Account::Input => None,
-        Account::Entry => None,
-        Account::Waiting => None,
-    }
-}
-
 /// Whether one of some breakpoints asks what a step did.
-pub(crate) fn looks_at(breakpoints: &[Breakpoint]) -> bool
+pub(crate) fn looks_at(breakpoints: &Breakpoints) -> bool
     ensures { result ≡ list_any asks breakpoints.now }
 {
-    breakpoints.iter().any(asks)
+    breakpoints.as_slice().iter().any(asks)
 }
 
 /// Whether a breakpoint asks what a step did.
 fn asks(breakpoint: &Breakpoint) -> bool
     ensures { result ≡ asks breakpoint.now }
 {
-    matches!(breakpoint, Breakpoint::Executed(_))
+    matches!(breakpoint, Breakpoint::Executed(_) | Breakpoint::Changed(_))
 }
 
 impl<'a> StepTest for Stops<'a> {
@@ -99,8 +92,8 @@ impl<'a> StepTest for Stops<'a> {
     ghost finds = { λ stops scenario state. hit_by stops.breakpoints.now stops.looks scenario state };
 
     fn test_step(&self, processor: &mut Processor, machine: &mut Machine) -> Option<u64> {
-        let executed = look(self.looks, processor, machine);
+        let noted = look(self.looks, self.breakpoints, processor, machine);
         make_step(processor, machine);
-        lowest_hit(self.breakpoints, &executed, machine)
+        lowest_hit(self.breakpoints.as_slice(), &noted, machine)
     }
 }

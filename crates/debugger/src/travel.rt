@@ -22,7 +22,7 @@ use crate::routines::{Routines, entered};
 use crate::stops::{Stops, led_to, step_of};
 use crate::texts::{Text, number_line, push_at_line, text_line};
 use arrayvec::ArrayVec;
-use commands::Breakpoint;
+use commands::{Breakpoint, Breakpoints};
 use cpu::{Machine, Processor};
 use replay::{Keeper, Session};
 use words::{Write, WriteFailed, write_all};
@@ -139,7 +139,7 @@ impl Desk {
         ensures looked { HasLooked session.old session.new session.old.n }
     {
         let count = steps.min(session.steps() - self.position);
-        let ends = [*end];
+        let ends = Breakpoints::of_one(*end);
         let stops = Stops::at(&ends);
         step_of(led_to(session.seek_step_on(self.position, count, &stops)))
     }
@@ -180,7 +180,7 @@ impl Desk {
         ensures spends { session.new.meter + 2 * session.old.n ≤ session.old.meter + 3 * session.new.n }
         ensures failures { W.failures out.new ≡ failures_after (W.failures out.old) result }
     {
-        let breakpoints = [*end];
+        let breakpoints = Breakpoints::of_one(*end);
         let more = steps.saturating_sub(session.steps() - self.position);
         match grow(session, &mut self.tail, &breakpoints, more, out) {
             Ok(ending) => {

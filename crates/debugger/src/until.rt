@@ -17,7 +17,7 @@ use crate::ending::Ending;
 use crate::growing::grow;
 use crate::manner::Manner;
 use crate::texts::{Text, at_line};
-use commands::{Breakpoint, MOST_COUNT};
+use commands::{Breakpoint, Breakpoints, MOST_COUNT};
 use replay::{Keeper, Session};
 use words::{Write, WriteFailed, write_all};
 
@@ -75,7 +75,7 @@ impl Desk {
         ensures spends { session.new.meter + 2 * session.old.n ≤ session.old.meter + 3 * session.new.n }
         ensures failures { W.failures out.new ≡ failures_after (W.failures out.old) result }
     {
-        let breakpoints = [Breakpoint::Cycles(cycles)];
+        let breakpoints = Breakpoints::of_one(Breakpoint::Cycles(cycles));
         match grow(session, &mut self.tail, &breakpoints, MOST_COUNT, out) {
             Ok(ending) => {
                 self.position = session.steps();

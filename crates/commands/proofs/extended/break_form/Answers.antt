@@ -10,3 +10,6 @@ watches-requires c = others-short 80 _ c.in_ok-kind.kind.now (texts (runs c.in_o
 
 pub place_alone-requires-then-eq-4 : goal.place_alone-requires-then-eq-4
 place_alone-requires-then-eq-4 c = others-short 80 _ c.in_ok-kind.kind.now (texts (runs c.in_ok-kind.more.now)) c.requires c.in_ok-kind.ensures
+
+pub subject_alone-requires : goal.subject_alone-requires
+subject_alone-requires c = others-short 80 _ c.in_ok-kind.kind.now (texts (runs c.in_ok-kind.more.now)) c.requires c.in_ok-kind.ensures

@@ -1,20 +1,24 @@
-use Rattle.std.proofs.Common.{◌≡◌, ◌∙◌, sym, ap, true, arith}
-use Rattle.commands.specs.declared.command.Breakpoint.TheVariants.{Channel}
+use Rattle.std.proofs.Common.{◌∙◌, ◌+◌, sym, ap, refl, arith}
+use Rattle.commands.specs.declared.command.Breakpoint.TheVariants.{Outside}
 use Rattle.debugger.specs.History.{sight}
 use Rattle.debugger.specs.Growth.{holds, lowest_hit}
+use Rattle.debugger.specs.Stopping.{noted_step}
 use Rattle.debugger.proofs.Breaking.{first_found, none_found}
 use Rattle.debugger.proofs.breakpoints.lowest_hit.Goals as goal
 
 pub returns-then-holds : goal.returns-then-holds
 unfolding lowest_hit
-returns-then-holds c = λ rope.
-    let here : holds (record { executed = c.args.executed.now }) (sight rope c.args.machine.now) c.breakpoint-item.result ≡ true = sym (c.if-holds.ensures rope) in
-    first_found (holds (record { executed = c.args.executed.now }) (sight rope c.args.machine.now)) c.args.breakpoints.now c.loop-breakpoint.breakpoint-index c.loop-breakpoint.number c.breakpoint-item.result c.loop-breakpoint-test.true c.loop-breakpoint.invariant.0
-    (λ k h. c.loop-breakpoint.invariant.1 rope k c.breakpoint-item.result h)
-    (ap (holds (record { executed = c.args.executed.now }) (sight rope c.args.machine.now)) (sym c.breakpoint-item.is) ∙ here)
+returns-then-holds c = λ rope step tells.
+    let i = c.loop-index.index in
+    let item = c.index-breakpoints-index.result in
+    let seen = sight rope c.args.machine.now in
+    first_found (holds step seen) c.args.breakpoints.now i (i + 1) item c.loop-index-test.true refl
+    (λ k below. sym (tells k item seen (omega (arith, below, c.loop-index-test.true))) ∙ c.loop-index.invariant rope k item below)
+    (sym (tells i item seen c.loop-index-test.true) ∙ ap (holds (noted_step c.args.noted.now i c.args.machine.now) seen) (sym c.index-breakpoints-index.is) ∙ sym (c.if-holds.ensures rope))
 
 pub returns : goal.returns
 unfolding lowest_hit
-returns c = λ rope.
-    none_found (holds (record { executed = c.args.executed.now }) (sight rope c.args.machine.now)) c.args.breakpoints.now c.loop-breakpoint.breakpoint-index (Channel 0 0) (omega arith)
-    (λ k h. c.loop-breakpoint.invariant.1 rope k (Channel 0 0) h)
+returns c = λ rope step tells.
+    let seen = sight rope c.args.machine.now in
+    none_found (holds step seen) c.args.breakpoints.now c.loop-index.index Outside (omega (arith, c.loop-index-test.false, c.loop-index.auto.index-end))
+    (λ k below. sym (tells k Outside seen (omega (arith, below, c.loop-index.auto.index-end))) ∙ c.loop-index.invariant rope k Outside below)

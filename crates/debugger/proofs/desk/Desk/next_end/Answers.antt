@@ -1,8 +1,7 @@
-use Rattle.std.proofs.Common.{◌≡◌, ◌∙◌, ◌+◌, ◌-◌, ◌^◌, ◌∷◌, [], min, ap, sym, refl, arith}
+use Rattle.std.proofs.Common.{◌≡◌, ◌∙◌, ◌+◌, ◌-◌, ◌^◌, ◌∷◌, [], min, ap, sym, arith}
 use Rattle.std.specs.List.{list_any}
-use Rattle.std.specs.Option.{option_map}
 use Rattle.debugger.specs.Stopping.{asks}
-use Rattle.debugger.proofs.StopLemmas.{next_led_on, first_end, within_by, led_by_within, step_within}
+use Rattle.debugger.proofs.StopLemmas.{next_led_on, first_end, within_by, step_within}
 use Rattle.debugger.proofs.desk.Desk.next_end.Goals as goal
 
 pub led_to-requires : goal.led_to-requires
@@ -13,7 +12,7 @@ returns-clause-next g c =
     let s = c.args.session.now in
     let stops = c.at-stops.result in
     let count : c.min-count.result ≡ min c.args.steps (s.n - c.args.self.now.position) = omega (arith, c.steps.ensures.value, c.min-count.ensures) in
-    let both = next_led_on s.scenario stops.breakpoints.now (c.args.end.now ∷ []) stops.looks c.args.self.now.position c.min-count.result (min c.args.steps (s.n - c.args.self.now.position)) c.seek_step_on.result c.at-stops.ensures.breakpoints (c.at-stops.ensures.looks ∙ ap (list_any asks) (sym c.at-stops.ensures.breakpoints)) count c.seek_step_on.ensures.first in
+    let both = next_led_on s.scenario stops.breakpoints.now (c.args.end.now ∷ []) stops.looks c.args.self.now.position c.min-count.result (min c.args.steps (s.n - c.args.self.now.position)) c.seek_step_on.result (c.at-stops.ensures.breakpoints ∙ c.of_one-ends.ensures) (c.at-stops.ensures.looks ∙ ap (list_any asks) (sym c.at-stops.ensures.breakpoints)) count c.seek_step_on.ensures.first in
     rw (c.step_of.ensures, c.led_to.ensures) (both.0 ∙ first_end s.scenario c.args.end.now (c.args.self.now.position + 1) (min c.args.steps (s.n - c.args.self.now.position)))
 
 pub returns-clause-within : goal.returns-clause-within

@@ -12,7 +12,7 @@ returns-clause-next g c =
     let s = c.args.session.now in
     let stops = c.at-stops.result in
     let count : c.min-count.result ≡ min c.args.steps (s.n - c.args.self.now.position) = omega (arith, c.steps.ensures.value, c.min-count.ensures) in
-    let both = next_led_on s.scenario stops.breakpoints.now c.args.self.now.breakpoints stops.looks c.args.self.now.position c.min-count.result (min c.args.steps (s.n - c.args.self.now.position)) c.seek_step_on.result (c.at-stops.ensures.breakpoints ∙ c.as_slice.ensures) (c.at-stops.ensures.looks ∙ ap (list_any asks) (sym c.at-stops.ensures.breakpoints)) count c.seek_step_on.ensures.first in
+    let both = next_led_on s.scenario stops.breakpoints.now c.args.self.now.breakpoints stops.looks c.args.self.now.position c.min-count.result (min c.args.steps (s.n - c.args.self.now.position)) c.seek_step_on.result c.at-stops.ensures.breakpoints (c.at-stops.ensures.looks ∙ ap (list_any asks) (sym c.at-stops.ensures.breakpoints)) count c.seek_step_on.ensures.first in
     rw c.led_to.ensures both.0
 
 pub returns-clause-hit : goal.returns-clause-hit
@@ -20,7 +20,7 @@ returns-clause-hit g c =
     let s = c.args.session.now in
     let stops = c.at-stops.result in
     let count : c.min-count.result ≡ min c.args.steps (s.n - c.args.self.now.position) = omega (arith, c.steps.ensures.value, c.min-count.ensures) in
-    let both = next_led_on s.scenario stops.breakpoints.now c.args.self.now.breakpoints stops.looks c.args.self.now.position c.min-count.result (min c.args.steps (s.n - c.args.self.now.position)) c.seek_step_on.result (c.at-stops.ensures.breakpoints ∙ c.as_slice.ensures) (c.at-stops.ensures.looks ∙ ap (list_any asks) (sym c.at-stops.ensures.breakpoints)) count c.seek_step_on.ensures.first in
+    let both = next_led_on s.scenario stops.breakpoints.now c.args.self.now.breakpoints stops.looks c.args.self.now.position c.min-count.result (min c.args.steps (s.n - c.args.self.now.position)) c.seek_step_on.result c.at-stops.ensures.breakpoints (c.at-stops.ensures.looks ∙ ap (list_any asks) (sym c.at-stops.ensures.breakpoints)) count c.seek_step_on.ensures.first in
     rw c.led_to.ensures both.1
 
 pub returns-clause-within : goal.returns-clause-within
