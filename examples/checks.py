@@ -64,6 +64,38 @@ SAID = [
     ("\xef\xbb\xbf OCT 1", [(1, 1, "E10: a byte order mark stands in front of the line, and a line holds ASCII alone", "tail -c +4 FILE > NEW")]),
     (" OCT 1 # \xdc", [(1, 10, "E10: this byte is not ASCII, and a line holds ASCII alone, its comment too", "")]),
 ]
+# Forms of flight programs, a stroke between two lines, and what is said of the first fault of each in the standard language, and with --flight, which takes most.
+FORMS = [
+    (" +3 OCT 1", (1, 2, "E15: +3 is no operator", "a label begins in the first column: no blank before +3"), None),
+    (" COUNT* $$/EXEC", (1, 2, "E15: COUNT* is no operator", ""), None),
+    (" BNKSUM 05", (1, 2, "E15: BNKSUM is no operator", ""), None),
+    (" SUBRO X", (1, 2, "E15: SUBRO is no operator", ""), None),
+    (" MEMORY 120000 - 167777", (1, 2, "E15: MEMORY is no operator", ""), None),
+    ("TAG EQUALS", (1, 5, "E16: EQUALS needs an operand", ""), None),
+    (" BANK", (1, 2, "E16: BANK needs an operand", ""), None),
+    ("N = M|M EQUALS 5", (1, 5, "E18: = needs the value of M here, and no earlier line defines it", ""), None),
+    (" 2DEC .57735027", (1, 2, "E15: 2DEC is no operator of this assembler", "two words: a DEC for each"), None),
+    (" DEC 1.0 E4 B-14", (1, 6, "E16: DEC takes one number, and nothing after it", "a comment begins with #"), None),
+    (" 1DNADR X|X EQUALS 100", (1, 2, "E15: 1DNADR is no operator", ""), None),
+    (" -6DNADR 154", (1, 2, "E15: -6DNADR is no operator", ""), None),
+    (" BBCON X|X OCT 1", (1, 2, "E15: BBCON is no operator", ""), None),
+    (" GENADR X|X OCT 1", (1, 2, "E15: GENADR is no operator", ""), None),
+    (" VN 0633", (1, 2, "E15: VN is no operator", ""), None),
+    (" SETLOC 100|-PHASE1 ERASE", (2, 1, "E13: -PHASE1 begins with a sign, as no label may", ""), None),
+    (" TC 10000", (1, 5, "E26: 10000 is past the last address or number", ""), None),
+    (" OCT -20000", (1, 6, "E16: OCT takes no sign", "DEC takes one; a minus complements the word"), None),
+    (" OCTAL 37777", (1, 2, "E15: OCTAL is no operator", ""), None),
+    (" 2OCT 0000500000", (1, 2, "E15: 2OCT is no operator of this assembler", "two words: an OCT for each"), None),
+    (" OCT 1 # " + 120 * "x", (1, 121, "E11: the line has more than 120 bytes", "part the comment into two lines"), None),
+    (" MM 37", (1, 2, "E15: MM is no operator", ""), (1, 2, "E15: MM is not taken: what yaYUL makes of it is not known for sure", "OCT makes a word")),
+    (" LXCH 0 -1", (1, 7, "E26: this leads out of its bank, or of the numbers", ""), (1, 7, "E26: an address below 0 is not taken: what yaYUL makes of it is not known for sure", "")),
+    (" INDEX 1| CAF 0", (2, 6, "E25: CAF takes a fixed place, and 0 is none", ""), (2, 6, "E25: CAF of an erasable place is not taken: what yaYUL makes of it is not known for sure", "CA 0")),
+    (" SETLOC 100|X ERASE 0 - 7", (2, 9, "E16: ERASE takes nothing, or a plus sign and a number", "ERASE reserves one word, ERASE +1 two"),
+     (2, 9, "E16: ERASE takes nothing, or a plus sign and a number: what yaYUL makes of a range is not known for sure", "ERASE reserves one word, ERASE +1 two")),
+    ("$FILE.agc", (1, 1, "E13: $FILE.agc has a $, which no label may have", ""), (1, 1, "E13: $FILE.agc has a $, which no label may have", "")),
+    (" AD -MAXADRS", (1, 5, "E16: -MAXADRS is no sign with a number, which stands alone and moves on from this line", "NAME +1 is the word after NAME; CS loads a complement"),
+     (1, 5, "E17: no line defines -MAXADRS", "-MAXADRS is one name; a blank stands before an offset")),
+]
 # Feeds, a stroke between two lines, and what is said of each: the line and the column of its first fault, the number with its words, and the cure where one is sure; the first are the mistakes of the manual's rows.
 FEEDS = [
     ("", None),
@@ -233,6 +265,13 @@ def check_said(program, room, told):
         told(f"what check says of {shown}", got == wanted, f"wanted {wanted}, got {got}")
 
 
+def check_forms(program, room, told):
+    for shown, *wanted in FORMS:
+        path = written(f"{room}/form.agc", shown.replace("|", "\n").encode() + b"\n")
+        got = [next(iter(said_by(program, path, *options)), None) for options in ((), ("--flight",))]
+        told(f"what check says of the form {shown}", got == wanted, f"wanted {wanted}, got {got}")
+
+
 def written(path, text):
     with open(path, "wb") as file:
         file.write(text)
@@ -385,6 +424,7 @@ def check_agreement(program, room, told, count=400, seed="agreement"):
 def check_checks(program, room, told, manual):
     check_mistakes(program, room, told)
     check_said(program, room, told)
+    check_forms(program, room, told)
     check_silent(program, room, told)
     check_feeds(program, room, told)
     check_files(program, room, told)
