@@ -4,6 +4,7 @@ mod Fields
 mod Rows
 mod FlightRows
 mod ListingRows
+mod PlaceRows
 mod Least
 mod LeastOfSet
 mod Labels
@@ -17,6 +18,7 @@ mod WholeSource
 mod BankEnds
 mod Decimals
 mod RowTexts
+mod PlaceLines
 mod Names
 mod NamedRows
 mod Nearest

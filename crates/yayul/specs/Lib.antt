@@ -10,6 +10,7 @@ pub mod Program
 pub mod Survey
 pub mod Told
 pub mod Listing
+pub mod PlaceRows
 pub mod Named
 pub mod Laws
 pub mod Inside

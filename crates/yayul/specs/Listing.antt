@@ -72,9 +72,13 @@ columns words shown =
     option_map_or (λ p. word_columns words p.0 p.1) (slice_get shown.words 0)
     (option_map_or (λ place. place_text place ++ blanks 6) shown.place (blanks 13))
 
--- what stands on a row before the text of its line
+-- what stands on a row before the text of its line: its number, what its columns have, and blanks where there is a text
+abbrev pub front_with : ℕ → List ℕ → List ℕ → List ℕ
+front_with number columns text = number_column number ++ columns ++ (if length text == 0 then [] else codes "  ")
+
+-- the same by what the line shows
 abbrev pub row_front : ℕ → Words → Shown → List ℕ → List ℕ
-row_front number words shown text = number_column number ++ columns words shown ++ (if length text == 0 then [] else codes "  ")
+row_front number words shown text = front_with number (columns words shown) text
 
 -- the row of a further word, which has the number of its line and no text
 abbrev pub further_row : ℕ → Words → ℕ × ℕ → List ℕ

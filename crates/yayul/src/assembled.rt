@@ -95,8 +95,19 @@ impl Program {
         ensures rope { result.0 ≡ self.rope }
         ensures source { result.1 ≡ self.source }
     {
+        let (rope, _, rows) = self.split_all();
+        (rope, rows)
+    }
+
+    /// The words in their places, the symbols, and the lines of the source.
+    pub fn split_all(self) -> (Rope, Symbols, SourceRows)
+        ensures rope { result.0 ≡ self.rope }
+        ensures symbols { result.1 ≡ self.symbols }
+        ensures source { result.2 ≡ self.source }
+    {
         (
             self.rope,
+            self.symbols,
             SourceRows::new(self.language, self.source, self.marks),
         )
     }

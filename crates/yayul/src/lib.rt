@@ -27,6 +27,7 @@ mod named;
 mod number;
 mod operand;
 mod operator;
+mod place_rows;
 mod placing;
 mod request;
 mod scaled;

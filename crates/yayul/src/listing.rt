@@ -1,6 +1,6 @@
 //! The listing of a program: a row for each line of its source, and its symbols. No memory is taken.
 
-ghost use Rattle.std.specs.Prelude.{◌≡◌, ◌+◌, ◌<◌, ◌≤◌, ◌++◌, ℕ, List, Some, length, true, codes, decimal, map, drop, slice_get};
+ghost use Rattle.std.specs.Prelude.{◌≡◌, ◌+◌, ◌<◌, ◌≤◌, ◌==◌, ◌++◌, ℕ, List, [], Some, if◌then◌else◌, length, true, codes, decimal, map, drop, slice_get};
 ghost use Rattle.std.specs.List.{flat_map};
 ghost use Rattle.agc_text.specs.Lines.{lines};
 ghost use Rattle.arrayvec.specs.ArrayVec.{array_vec_len};
@@ -28,7 +28,7 @@ const NUMBER_PLACES: usize = 5;
 
 /// The most bytes of a row before the text of its line: 20 digits, a blank, a place of 7 bytes, a blank, a word of 5 digits,
 /// and two blanks.
-const FRONT: usize = 36;
+pub(crate) const FRONT: usize = 36;
 
 /// The most bytes of a symbol's row: a name, a blank, a value and a line feed.
 const SYMBOL_ROW: usize = 23;
@@ -95,7 +95,11 @@ fn write_first_row<M: Margin, W: Write>(
 }
 
 // Writes the front of a row, its text and a line feed.
-fn write_row<W: Write>(front: &[u8], text: &[u8], writer: &mut W) -> Result<(), WriteFailed>
+pub(crate) fn write_row<W: Write>(
+    front: &[u8],
+    text: &[u8],
+    writer: &mut W,
+) -> Result<(), WriteFailed>
     ensures written { W.told ≡ true → Writes (W.written writer.old) (W.written writer.new) (front.now ++ text.now ++ codes "\n") result }
     ensures failures { W.failures writer.new ≡ failures_after (W.failures writer.old) result }
 {
@@ -144,7 +148,12 @@ fn write_further_rows<M: Margin, W: Write>(
 }
 
 // The row of a second word.
-fn further_row(number: u64, rope: &Rope, bank: Bank, offset: Offset) -> ArrayVec<u8, FRONT>
+pub(crate) fn further_row(
+    number: u64,
+    rope: &Rope,
+    bank: Bank,
+    offset: Offset,
+) -> ArrayVec<u8, FRONT>
     ensures { result.items ≡ further_row number rope.now (bank, offset) }
 {
     let mut line = number_column(number);
@@ -154,20 +163,28 @@ fn further_row(number: u64, rope: &Rope, bank: Bank, offset: Offset) -> ArrayVec
 }
 
 // What stands on a row before the text of its line.
-fn row_front(number: u64, rope: &Rope, mark: &Mark, text: &[u8]) -> ArrayVec<u8, FRONT>
+pub(crate) fn row_front(number: u64, rope: &Rope, mark: &Mark, text: &[u8]) -> ArrayVec<u8, FRONT>
     ensures { result.items ≡ row_front number rope.now (shown_by_mark mark.now) text.now }
 {
     let mut line = number_column(number);
     push_mark(&mut line, rope, mark);
-    if !text.is_empty() {
-        push_all(&mut line, b"  ");
-    }
+    push_gap(&mut line, text);
     line
+}
+
+// Appends the blanks before a text, where there is one.
+pub(crate) fn push_gap(line: &mut ArrayVec<u8, FRONT>, text: &[u8])
+    requires { array_vec_len line.old ≤ 34 }
+    ensures { line.new.items ≡ line.old.items ++ (if length text.now == 0 then [] else codes "  ") }
+{
+    if !text.is_empty() {
+        push_all(line, b"  ");
+    }
 }
 
 // The number of a line, and a blank.
 #[tactic(auto, using(words::proofs::Digits::short_decimal), unfolding(crate::specs::Listing::number_column))]
-fn number_column(number: u64) -> ArrayVec<u8, FRONT>
+pub(crate) fn number_column(number: u64) -> ArrayVec<u8, FRONT>
     ensures items { result.items ≡ number_column number }
     ensures short { array_vec_len result ≤ 21 }
 {
@@ -215,7 +232,7 @@ fn push_word(line: &mut ArrayVec<u8, FRONT>, rope: &Rope, bank: Bank, offset: Of
 
 // Appends a place.
 #[tactic(auto, unfolding(crate::specs::Listing::place_text))]
-fn push_place(line: &mut ArrayVec<u8, FRONT>, place: Linear)
+pub(crate) fn push_place(line: &mut ArrayVec<u8, FRONT>, place: Linear)
     requires { array_vec_len line.old ≤ 21 }
     ensures items { line.new.items ≡ line.old.items ++ place_text place }
     ensures len { array_vec_len line.new ≡ array_vec_len line.old + 7 }

@@ -2,10 +2,11 @@
 
 ghost use Rattle.std.specs.Prelude.{◌≡◌, [], ◌∷◌, ◌++◌, OnOk, None};
 ghost use Rattle.yayul.specs.Listing.{place_here, words_from, shown};
+ghost use Rattle.yayul.specs.PlaceRows.{shows};
 ghost use Rattle.yayul.specs.Inside.Representation.{shown_by_mark};
 
 use crate::language::{Content, Location, Operation, Statement};
-use space::{Bank, Eras, Offset};
+use space::{Bank, Eras, Linear, Offset};
 use std::alloc::{AllocError, Global};
 use std::marker::Model;
 
@@ -39,6 +40,22 @@ impl Mark {
             | Operation::Bank(..)
             | Operation::Equals(_)
             | Operation::Ebank(_) => Mark::Nothing,
+        }
+    }
+
+    /// Whether a line that shows this shows a place.
+    pub(crate) fn shows(&self, place: &Linear) -> bool
+        ensures { result ≡ shows place.now (shown_by_mark self.now) }
+    {
+        match (self, place) {
+            (Mark::Erasable(shown), Linear::Erasable(number)) => shown == number,
+            (Mark::Word(bank, offset), Linear::Fixed(..)) => {
+                *place == Linear::Fixed(*bank, *offset)
+            }
+            (Mark::Words(bank, first, second), Linear::Fixed(..)) => {
+                *place == Linear::Fixed(*bank, *first) || *place == Linear::Fixed(*bank, *second)
+            }
+            _ => false,
         }
     }
 

@@ -1,19 +1,23 @@
 //! The lines of a source as rows of its listing.
 
-ghost use Rattle.std.specs.Prelude.{◌≡◌, true, map};
+ghost use Rattle.std.specs.Prelude.{◌≡◌, true, map, is_some, IfOk};
 ghost use Rattle.agc_text.specs.Lines.{lines};
 ghost use Rattle.words.specs.Devices.{Writes, failures_after};
 ghost use Rattle.yayul.specs.Layout.{start};
 ghost use Rattle.yayul.specs.Listing.{rows};
+ghost use Rattle.yayul.specs.PlaceRows.{line_of, no_source, row_after};
 ghost use Rattle.yayul.specs.Inside.Representation.{lines_show, shown_by_mark};
 
 use crate::language::Language;
 use crate::listing::write_rows;
 use crate::margin::Margin;
 use crate::mark::Marks;
+use crate::place_rows::{first_to_show, line_after, write_place_row};
 use rope::Rope;
+use space::Linear;
+use std::alloc::Global;
 use std::marker::Model;
-use words::{Write, WriteFailed};
+use words::{Word, Write, WriteFailed, write_all};
 
 /// The lines of a source, with what a listing shows beside each.
 #[derive(Drop)]
@@ -49,6 +53,52 @@ impl SourceRows {
             source,
             marks,
         }
+    }
+
+    /// No lines. Nothing is allocated.
+    pub fn none(alloc: Global) -> SourceRows
+        ensures { result ≡ no_source }
+    {
+        SourceRows {
+            language: Language::Standard,
+            source: Vec::new(alloc),
+            marks: Marks::new(alloc),
+        }
+    }
+
+    /// Writes the row of a place after some bytes, where a line shows the place, and answers whether one does. The word is that which
+    /// stands at the place. No memory is taken.
+    ///
+    /// After a failure a beginning of it was written.
+    pub fn write_row_of<W: Write>(
+        &self,
+        front: &[u8],
+        rope: &Rope,
+        word: Word,
+        place: Linear,
+        writer: &mut W,
+    ) -> Result<bool, WriteFailed>
+        ensures written { W.told ≡ true → Writes (W.written writer.old) (W.written writer.new) (row_after front.now self.now rope.now word place) result }
+        ensures some { IfOk result (λ some. some ≡ is_some (line_of self.now place)) }
+        ensures failures { W.failures writer.new ≡ failures_after (W.failures writer.old) result }
+    {
+        let marks = self.marks.as_slice();
+        let index = first_to_show(marks, &place);
+        if index == marks.len() {
+            return Ok(false);
+        }
+        let text = line_after(&self.source, index);
+        write_all(writer, front)?;
+        write_place_row(
+            rope,
+            place,
+            word,
+            index as u64 + 1,
+            text,
+            &marks[index],
+            writer,
+        )?;
+        Ok(true)
     }
 
     /// Writes the rows of all lines, each after its margin. The words are those of the rope. No memory is taken.
