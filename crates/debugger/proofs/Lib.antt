@@ -19,6 +19,7 @@ mod Scripts
 mod FiveRows
 mod ClockRows
 mod ExtendedRows
+mod WhyRows
 pub mod RequestNumbers
 pub mod FirstHit
 mod Retraced

@@ -71,8 +71,8 @@ last_lines symbols scenario (suc t) h =
     let xs = target_spots scenario t in
     rw e (ap (λ (y : List ℕ). y ++ end_from symbols true (before_step scenario t xs)) (append-nil (link_line symbols scenario t xs)))
 
--- what a link costs: a search, and two looks
-pub cost_more : (first at sought shown n t left links : ℕ) → 0 < left → at + 4 * left * n ≤ first + 4 * links * n → sought + 2 * t < at + 2 * n → shown ≤ sought + 2 * (n - t) → t ≤ n
-    → shown + 4 * (left - 1) * n ≤ first + 4 * links * n
+-- what a link costs: a search, two looks, and a search for what entered an interrupt
+pub cost_more : (first at sought shown n t left links : ℕ) → 0 < left → at + 6 * left * n ≤ first + 6 * links * n → sought + 2 * t < at + 2 * n → shown ≤ sought + (2 * (n - t) + 2 * n) → t ≤ n
+    → shown + 6 * (left - 1) * n ≤ first + 6 * links * n
 cost_more first at sought shown n t zero links some so_far search look within = absurd (omega (arith, some))
 cost_more first at sought shown n t (suc left) links some so_far search look within = let e : suc left - 1 ≡ left = omega arith in rw e (omega arith)

@@ -80,10 +80,11 @@ unfoldable pub lines_heard : Reading → List (List ℕ) → List (List ℕ)
 lines_heard read [] = []
 lines_heard read (line ∷ more) = line ∷ (if is_end (read line) then [] else lines_heard read more)
 
--- how many times the steps that were made a request executes, at most, besides new ones: of `why` each link four times, and
--- its last search once; of `where` and `out` four times
+-- how many times the steps that were made a request executes, at most, besides new ones: of `why` each link six times, and
+-- its last search once, or five times of one step; of `where` and `out` four times
 abbrev pub effort : ExtendedLine → ℕ
-effort (Why subject k) = 4 * k + 1
+effort (Why subject k) = 6 * k + 1
+effort WhyStep = 5
 effort Where = 4
 effort (Out k) = 4
 effort request = 3

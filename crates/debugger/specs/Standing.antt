@@ -1,5 +1,5 @@
 -- Where the next instruction stands; symbols by the beginnings of their names; and words one after another.
-use Rattle.std.specs.Prelude.{ℕ, zero, suc, ◌+◌, ◌-◌, not, Bool, List, [], ◌∷◌, ◌++◌, length, take, min, Option, None, Some, codes, decimal, if◌then◌else◌}
+use Rattle.std.specs.Prelude.{ℕ, zero, suc, ◌+◌, ◌-◌, Bool, List, [], ◌∷◌, ◌++◌, length, take, min, Option, None, Some, codes, decimal, if◌then◌else◌}
 use Rattle.std.specs.List.{flat_map, range_with_len}
 use Rattle.std.specs.Option.{option_map, option_or}
 use Rattle.agc_text.specs.Tables.{same_name}
@@ -13,13 +13,12 @@ use Rattle.yayul.specs.Listing.{place_text}
 use Rattle.cpu.specs.State.{State, Scenario}
 use Rattle.cpu.specs.Effects.{next_address, place_in}
 use Rattle.cpu.specs.Run.{run}
-use Rattle.replay.specs.LastHit.{last_hit}
 use Rattle.trace.specs.TraceLines.{symbol_at, short_octal}
 use Rattle.debugger.specs.declared.rows.RowKind.{RowKind}
 use Rattle.debugger.specs.History.{Sight, History, sight}
 use Rattle.debugger.specs.Replies.{line, memory_word}
 use Rattle.debugger.specs.Rows.{list_row, row_text}
-use Rattle.debugger.specs.Whys.{kind_part}
+use Rattle.debugger.specs.Whys.{kind_part, last_outside}
 
 -- how many places stand before a place, in its bank or in erasable memory; and the place so many before it
 abbrev pub places_before : Linear → ℕ
@@ -50,10 +49,6 @@ nearest_text (Some symbol) = codes " " ++ symbol.0 ++ distance_text symbol.1
 -- the line of the next instruction's place: as a listing has it, and by a symbol
 abbrev pub where_line : SymbolTable → State → List ℕ
 where_line symbols s = let place = place_in s (next_address s) in line (codes "WHERE " ++ place_text place ++ nearest_text (nearest_symbol symbols place))
-
--- the last step before p steps that no interrupt was served after
-abbrev pub last_outside : Scenario → ℕ → Option ℕ
-last_outside scenario p = last_hit (λ t. not (run scenario t).inside) p
 
 -- the line of the interrupt that is served, and of the step that entered it: the one after that step
 abbrev pub entered_line : SymbolTable → Scenario → ℕ → List ℕ

@@ -1,5 +1,5 @@
 -- How a word came to be what it is, as text: the steps of a chain, the last first, each with what it wrote and what it read.
-use Rattle.std.specs.Prelude.{ℕ, suc, zero, ◌+◌, ◌==◌, ◌&&◌, ◌||◌, Bool, true, false, List, [], ◌∷◌, ◌++◌, map, filter, length, unwrap_or, codes, decimal, if◌then◌else◌}
+use Rattle.std.specs.Prelude.{ℕ, suc, zero, ◌+◌, ◌==◌, ◌&&◌, ◌||◌, not, Bool, Option, None, Some, true, false, List, [], ◌∷◌, ◌++◌, map, filter, length, unwrap_or, codes, decimal, if◌then◌else◌}
 use Rattle.std.specs.List.{flat_map, range_with_len}
 use Rattle.std.specs.Ordering.{nat_cmp}
 use Rattle.std.specs.FinSet as set
@@ -17,6 +17,7 @@ use Rattle.cpu.specs.declared.spot.Spot.{Spot}
 use Rattle.cpu.specs.declared.spot.Spot.TheVariants.{Cell, InRope}
 use Rattle.cpu.specs.declared.next_step.NextStep.{NextStep}
 use Rattle.cpu.specs.declared.next_step.NextStep.TheVariants.{Takes, Enters, Executes}
+use Rattle.replay.specs.LastHit.{last_hit}
 use Rattle.replay.specs.Whys.{why_steps}
 use Rattle.trace.specs.TraceLines.{cell_name, cell_reading, fetched_text, input_text, place_name}
 use Rattle.commands.specs.declared.subject.Subject.{Subject}
@@ -113,16 +114,35 @@ cells_part symbols after cs = or_nothing (flat_map (cell_text symbols after.cell
 abbrev pub reads_part : SymbolTable → Words → State → List Spot → List ℕ
 reads_part symbols rope before xs = or_nothing (flat_map (spot_text symbols rope before.cells) xs)
 
--- the line of a step, by its number and these parts
-abbrev pub by_line : ℕ → List ℕ → List ℕ → List ℕ → List ℕ
-by_line number kind cells read =
-    line (codes "BY " ++ decimal number ++ codes " " ++ kind ++ codes " :" ++ cells ++ codes " FROM" ++ read)
+-- the last step before p steps that no interrupt was served after
+abbrev pub last_not : (ℕ → Bool) → ℕ → Option ℕ
+last_not inside p = last_hit (λ t. not (inside t)) p
+
+abbrev pub last_outside : Scenario → ℕ → Option ℕ
+last_outside scenario p = last_not (λ t. (run scenario t).inside) p
+
+-- the mark of the step after t steps: where it stands in an interrupt, the number of the step that entered this, which is the one
+-- after the last outside
+abbrev pub entered_mark : Option ℕ → List ℕ
+entered_mark None = []
+entered_mark (Some t) = codes " IN " ++ decimal (t + 1)
+
+abbrev pub mark_by : (ℕ → Bool) → ℕ → List ℕ
+mark_by inside t = if inside t then entered_mark (last_not inside t) else []
+
+abbrev pub mark_part : Scenario → ℕ → List ℕ
+mark_part scenario t = mark_by (λ u. (run scenario u).inside) t
+
+-- the line of a step, by its number, these parts and its mark
+abbrev pub by_line : ℕ → List ℕ → List ℕ → List ℕ → List ℕ → List ℕ
+by_line number kind cells read mark =
+    line (codes "BY " ++ decimal number ++ codes " " ++ kind ++ codes " :" ++ cells ++ codes " FROM" ++ read ++ mark)
 
 -- the line of the step after t steps, and of the cells that it writes
 unfoldable pub step_line : SymbolTable → Scenario → ℕ → List ℕ → List ℕ
 step_line symbols scenario t cs =
     by_line (t + 1) (kind_part symbols scenario (run scenario t)) (cells_part symbols (run scenario (t + 1)) cs)
-    (reads_part symbols scenario.rope (run scenario t) (reads (link_at scenario t) cs))
+    (reads_part symbols scenario.rope (run scenario t) (reads (link_at scenario t) cs)) (mark_part scenario t)
 
 -- the same, of those among some spots
 abbrev pub link_line : SymbolTable → Scenario → ℕ → List Spot → List ℕ

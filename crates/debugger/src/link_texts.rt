@@ -1,13 +1,13 @@
 //! The text of a step of a chain.
 
-ghost use Rattle.std.specs.Prelude.{◌≡◌, ◌+◌, ◌*◌, ◌≤◌, ◌++◌, Bool, length, unwrap_or, codes};
+ghost use Rattle.std.specs.Prelude.{◌≡◌, ◌+◌, ◌*◌, ◌<◌, ◌≤◌, ◌^◌, ◌++◌, Bool, Some, length, unwrap_or, codes};
 ghost use Rattle.std.specs.List.{flat_map};
 ghost use Rattle.arrayvec.specs.ArrayVec.{array_vec_len};
 ghost use Rattle.space.specs.declared.place.Linear.TheVariants.{Fixed};
 ghost use Rattle.cpu.specs.State.{FitsRun};
 ghost use Rattle.trace.specs.TraceLines.{place_name};
 ghost use Rattle.debugger.specs.PlaceTexts.{place_text};
-ghost use Rattle.debugger.specs.Whys.{cell_text, fixed_text, spot_text, kind_part, cells_part, reads_part, by_line, end_text, cells_of};
+ghost use Rattle.debugger.specs.Whys.{cell_text, fixed_text, spot_text, kind_part, cells_part, reads_part, entered_mark, by_line, end_text, cells_of};
 
 use crate::links::{Cells, cells_of};
 use arrayvec::ArrayVec;
@@ -29,7 +29,7 @@ const PART: usize = 960;
 /// The cells or the spots of a step, each with its word.
 pub(crate) type Part = ArrayVec<u8, PART>;
 
-/// The most bytes of the line of a step: two parts, what the step is, its number, and what stands between.
+/// The most bytes of the line of a step: two parts, what the step is, its number, its mark, and what stands between.
 const LINK_LINE: usize = 2_048;
 
 /// The line of a step.
@@ -176,10 +176,30 @@ fn fixed_text(symbols: &Symbols, processor: &Processor, bank: Bank, offset: Offs
     text
 }
 
-/// The line of a step, by its number and its parts.
+/// The mark of a step in the interrupt that the step after so many entered.
 #[tactic(auto, using(words::proofs::Digits::short_decimal))]
-pub(crate) fn by_line(number: u64, kind: &Piece, cells: &Part, reads: &Part) -> LinkLine
-    ensures { result.items ≡ by_line number kind.now.items cells.now.items reads.now.items }
+pub(crate) fn entered_mark(outside: u64) -> Piece
+    requires { outside + 1 < 2 ^ 64 }
+    ensures items { result.items ≡ entered_mark (Some outside) }
+    ensures short { array_vec_len result ≤ 24 }
+{
+    let mut mark = ArrayVec::new();
+    push_all(&mut mark, b" IN ");
+    push_decimal(&mut mark, outside + 1);
+    mark
+}
+
+/// The line of a step, by its number, its parts and its mark.
+#[tactic(auto, using(words::proofs::Digits::short_decimal))]
+pub(crate) fn by_line(
+    number: u64,
+    kind: &Piece,
+    cells: &Part,
+    reads: &Part,
+    mark: &Piece,
+) -> LinkLine
+    requires { array_vec_len mark.now ≤ 24 }
+    ensures { result.items ≡ by_line number kind.now.items cells.now.items reads.now.items mark.now.items }
 {
     let mut line = ArrayVec::new();
     push_all(&mut line, b"BY ");
@@ -190,6 +210,7 @@ pub(crate) fn by_line(number: u64, kind: &Piece, cells: &Part, reads: &Part) -> 
     push_all(&mut line, cells.as_slice());
     push_all(&mut line, b" FROM");
     push_all(&mut line, reads.as_slice());
+    push_all(&mut line, mark.as_slice());
     push_all(&mut line, b"\n");
     line
 }

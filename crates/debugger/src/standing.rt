@@ -7,8 +7,8 @@ ghost use Rattle.cpu.specs.Run.{run};
 ghost use Rattle.trace.specs.TraceLines.{octal_digits};
 ghost use Rattle.debugger.specs.History.{history, sight};
 ghost use Rattle.debugger.specs.Replies.{memory_word};
-ghost use Rattle.debugger.specs.Whys.{kind_part};
-ghost use Rattle.debugger.specs.Standing.{places_before, place_before, nearest_symbol, distance_text, nearest_text, where_line, entered_line, entered_text, last_outside, inside_text, where_text, begins_with, found_line, found_text, places_from, place_after, word_there, words_from, words_text, next_row, rows_text};
+ghost use Rattle.debugger.specs.Whys.{kind_part, last_outside};
+ghost use Rattle.debugger.specs.Standing.{places_before, place_before, nearest_symbol, distance_text, nearest_text, where_line, entered_line, entered_text, inside_text, where_text, begins_with, found_line, found_text, places_from, place_after, word_there, words_from, words_text, next_row, rows_text};
 ghost use Rattle.debugger.specs.Executions.{HasLooked};
 
 use crate::desk::Desk;

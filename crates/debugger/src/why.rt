@@ -1,20 +1,22 @@
 //! `why`: how a word came to be what it is.
 
 ghost use Rattle.std.specs.Prelude.{◌≡◌, List, ◌+◌, ◌-◌, ◌*◌, ◌<◌, ◌≤◌, ◌++◌, ◌^◌, true};
+ghost use Rattle.arrayvec.specs.ArrayVec.{array_vec_len};
 ghost use Rattle.words.specs.Devices.{Writes, failures_after};
 ghost use Rattle.cpu.specs.Run.{run};
 ghost use Rattle.cpu.specs.Chains.{cells_among, link_at, before_step};
 ghost use Rattle.std.specs.FinSet.{empty};
 ghost use Rattle.cpu.specs.Links.{targets, place_spots};
 ghost use Rattle.cpu.specs.declared.spot.Spot.{Spot};
-ghost use Rattle.debugger.specs.Whys.{why_text, last_text, link_line, subject_spots, target_spots, kind_part, cells_part, reads_part, reads, those_in, cells_before};
+ghost use Rattle.debugger.specs.Whys.{why_text, last_text, link_line, subject_spots, target_spots, kind_part, cells_part, reads_part, mark_part, reads, those_in, cells_before};
 ghost use Rattle.debugger.specs.Executions.{HasLooked};
 
 use crate::desk::Desk;
 use crate::link_texts::{
-    LinkLine, Part, Piece, by_line, cells_part, end_text, kind_part, reads_part,
+    LinkLine, Part, Piece, by_line, cells_part, end_text, entered_mark, kind_part, reads_part,
 };
 use crate::links::{Link, Targets, all_among, link_of};
+use arrayvec::ArrayVec;
 use commands::Subject;
 use cpu::{Cell, CellSet};
 use replay::{Keeper, Session};
@@ -34,7 +36,7 @@ impl Desk {
     ) -> Result<(), WriteFailed>
         requires { self.now.position ≤ session.old.n }
         ensures writes { W.told ≡ true → Writes (W.written out.old) (W.written out.new) (why_text symbols.now session.old.scenario links self.now.position (subject_spots subject)) result }
-        ensures looked { HasLooked session.old session.new ((4 * links + 1) * session.old.n) }
+        ensures looked { HasLooked session.old session.new ((6 * links + 1) * session.old.n) }
         ensures failures { W.failures out.new ≡ failures_after (W.failures out.old) result }
     {
         let mut pending = subject_cells(subject);
@@ -64,7 +66,7 @@ impl Desk {
     ) -> Result<(), WriteFailed>
         requires { self.now.position ≤ session.old.n }
         ensures writes { W.told ≡ true → Writes (W.written out.old) (W.written out.new) (last_text symbols.now session.old.scenario self.now.position) result }
-        ensures looked { HasLooked session.old session.new (3 * session.old.n) }
+        ensures looked { HasLooked session.old session.new (5 * session.old.n) }
         ensures failures { W.failures out.new ≡ failures_after (W.failures out.old) result }
     {
         if self.position == 0 {
@@ -124,6 +126,7 @@ struct Begun {
     kind: Piece,
     cells: Targets,
     reads: Part,
+    inside: bool,
 }
 
 /// The line of the step after so many, of some cells that are followed. Those from which these come are followed on.
@@ -137,11 +140,12 @@ fn link_line<K: Keeper>(
     requires fits { step + 1 < 2 ^ 64 }
     ensures line { (xs : List Spot) → pending.old ≡ cells_among xs → result.items ≡ link_line symbols.now session.old.scenario step xs }
     ensures pending { (xs : List Spot) → pending.old ≡ cells_among xs → pending.new ≡ cells_among (before_step session.old.scenario step xs) }
-    ensures looked { HasLooked session.old session.new (2 * (session.old.n - step)) }
+    ensures looked { HasLooked session.old session.new (2 * (session.old.n - step) + 2 * session.old.n) }
 {
     let begun = begun_at(session, symbols, step, pending);
     let cells = cells_after(session, symbols, step + 1, &begun.cells);
-    by_line(step + 1, &begun.kind, &cells, &begun.reads)
+    let mark = mark_part(session, step, begun.inside);
+    by_line(step + 1, &begun.kind, &cells, &begun.reads, &mark)
 }
 
 /// What is told of the step after so many before it is made.
@@ -156,6 +160,7 @@ fn begun_at<K: Keeper>(
     ensures kind { result.kind.items ≡ kind_part symbols.now session.old.scenario (run session.old.scenario step) }
     ensures cells { result.cells.items ≡ those_in (targets (link_at session.old.scenario step)) pending.old }
     ensures reads { result.reads.items ≡ reads_part symbols.now session.old.scenario.rope (run session.old.scenario step) (reads (link_at session.old.scenario step) result.cells.items) }
+    ensures inside { result.inside ≡ (run session.old.scenario step).inside }
     ensures pending { pending.new ≡ cells_before (link_at session.old.scenario step) pending.old }
     ensures looked { HasLooked session.old session.new (session.old.n - step) }
 {
@@ -166,9 +171,27 @@ fn begun_at<K: Keeper>(
                 kind: kind_part(symbols, processor, machine),
                 reads: reads_part(symbols, processor, machine, spots.as_slice()),
                 cells,
+                inside: machine.inside(),
             }
         }
         Err(_) => unreachable!(),
+    }
+}
+
+/// The mark of the step after so many, which stands in an interrupt or not.
+fn mark_part<K: Keeper>(session: &mut Session<K>, step: u64, inside: bool) -> Piece
+    requires within { step < session.old.n }
+    requires known { inside ≡ (run session.old.scenario step).inside }
+    ensures items { result.items ≡ mark_part session.old.scenario step }
+    ensures short { array_vec_len result ≤ 24 }
+    ensures looked { HasLooked session.old session.new (2 * session.old.n) }
+{
+    if !inside {
+        return ArrayVec::new();
+    }
+    match session.seek_back(step, |machine| !machine.inside()) {
+        Some(outside) => entered_mark(outside),
+        None => ArrayVec::new(),
     }
 }
 

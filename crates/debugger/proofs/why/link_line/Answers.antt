@@ -7,7 +7,7 @@ use Rattle.debugger.proofs.why.link_line.Goals as goal
 pub returns-clause-line : goal.returns-clause-line
 unfolding step_line
 returns-clause-line g c = λ xs is.
-    rw (c.by_line.ensures, c.begun_at-begun.ensures.kind, c.begun_at-begun.ensures.reads, c.cells_after-cells.ensures.items, c.begun_at-begun.ensures.looked.scenario, c.begun_at-begun.ensures.cells, is) refl
+    rw (c.by_line.ensures, c.begun_at-begun.ensures.kind, c.begun_at-begun.ensures.reads, c.cells_after-cells.ensures.items, c.mark_part-mark.ensures.items, c.cells_after-cells.ensures.looked.scenario, c.begun_at-begun.ensures.looked.scenario, c.begun_at-begun.ensures.cells, is) refl
 
 pub returns-clause-pending : goal.returns-clause-pending
 returns-clause-pending g c = λ xs is.

@@ -9,7 +9,7 @@ invariant-loop-left g l = record {
   left : l.left ≤ l.fn.links;
   scenario : l.session.scenario ≡ l.fn.session.scenario;
   steps : l.session.n ≡ l.fn.session.n;
-  cost : l.session.meter + 4 * l.left * l.fn.session.n ≤ l.fn.session.meter + 4 * l.fn.links * l.fn.session.n;
+  cost : l.session.meter + 6 * l.left * l.fn.session.n ≤ l.fn.session.meter + 6 * l.fn.links * l.fn.session.n;
   failures : g.W.Write.failures l.out ≡ g.W.Write.failures l.fn.out;
   told : g.W.Write.told ≡ true → ToldLinks l.symbols l.fn.session.scenario (why_text l.symbols l.fn.session.scenario l.fn.links l.self.position (subject_spots l.fn.subject)) (g.W.Write.written l.fn.out) (g.W.Write.written l.out) l.left l.before l.pending;
 }
