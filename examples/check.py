@@ -21,6 +21,7 @@ language stands in a source whose listing is compared, and each instruction in a
 
 The last line is 'N passed, M failed'."""
 
+import fcntl
 import os
 import random
 import re
@@ -30,6 +31,7 @@ import signal
 import subprocess
 import sys
 import tempfile
+import termios
 import time
 
 sys.dont_write_bytecode = True
@@ -47,8 +49,12 @@ from traces import check_trace
 
 PROGRAM = f"{ROOT}/crates/agcws/out/agcws"
 IMAGE_BYTES = 73728
-# The most seconds that a reply is awaited, that one is after a wrong one, and that one of a later session is.
-WAIT, WAIT_AFTER_WRONG, WAIT_LATER = 60, 0.1, 2
+# The most seconds that a reply is awaited while the program goes on, and that one is after such a wait in vain.
+WAIT, WAIT_LATER = 60, 2
+# So many seconds pass until a program that is silent is looked at.
+LOOK = 0.02
+# The most parts of a wrong reply that are read, so that the next reply is told apart.
+MOST_PARTS = 1000
 
 
 def agcws(*words):
@@ -60,25 +66,52 @@ def agcws(*words):
 class Session:
     """A session of `agcws debug` through pipes: the replies to each command are awaited before the next one is sent."""
 
-    # The most seconds that a reply is awaited, by what was replied so far in any session
+    # The most seconds that a reply is awaited, by what has come so far in any session
     longest = WAIT
 
     def __init__(self, source, feed, *options):
         self.ran = subprocess.Popen([PROGRAM, "debug", *options, source, feed], stdin=subprocess.PIPE, stdout=subprocess.PIPE, stderr=subprocess.PIPE)
-        self.wait = Session.longest
 
     def ask(self, label, command, replies):
-        """Sends a command with its line feed, and compares as many bytes as the replies have."""
-        os.write(self.ran.stdin.fileno(), command)
+        """Sends a command with its line feed, and compares as many bytes as the replies have. Nothing is awaited after a byte that is another, or where the program waits itself."""
+        try:
+            os.write(self.ran.stdin.fileno(), command)
+        except BrokenPipeError:
+            pass  # the program has ended
         got = b""
-        while len(got) < len(replies) and select.select([self.ran.stdout], [], [], self.wait)[0]:
-            part = os.read(self.ran.stdout.fileno(), len(replies) - len(got))
-            if not part:
-                break
+        while len(got) < len(replies) and replies.startswith(got) and (part := self.more(len(replies) - len(got))):
             got += part
-        if got != replies:
-            self.wait, Session.longest = WAIT_AFTER_WRONG, WAIT_LATER
         told(f"{label}: {command!r}", got == replies, f"wanted {replies[:300]!r}, got {got[:300]!r}")
+        if got != replies:
+            self.leave_the_rest()
+
+    def leave_the_rest(self):
+        """Reads what else is replied, so that the next reply is told apart; a program that goes on and on is ended."""
+        for _ in range(MOST_PARTS):
+            if not self.more(65536):
+                return
+        self.ran.kill()
+
+    def more(self, most):
+        """At most so many bytes that are replied; none where nothing comes, since the program waits for a command, has ended, or has not replied in time, and is ended."""
+        last = time.monotonic() + Session.longest
+        while not self.has_replied(LOOK):
+            if self.waits() and not self.has_replied(0):
+                return b""
+            if time.monotonic() > last:
+                Session.longest = WAIT_LATER
+                self.ran.kill()
+        return os.read(self.ran.stdout.fileno(), most)
+
+    def has_replied(self, seconds):
+        """Returns whether something can be read, or the program has ended."""
+        return bool(select.select([self.ran.stdout], [], [], seconds)[0])
+
+    def waits(self):
+        """Returns whether the program has read all that was sent to it, and sleeps."""
+        unread = fcntl.ioctl(self.ran.stdin, termios.FIONREAD, bytes(4))
+        with open(f"/proc/{self.ran.pid}/stat", encoding="ascii") as file:
+            return not any(unread) and file.read().rpartition(") ")[2][0] == "S"
 
     def writes(self):
         """How many times the program has called the system to write."""
@@ -356,8 +389,10 @@ def check_documents(room):
     """What the README, the manual, the examples and the worked rows show."""
     os.symlink(PROGRAM, f"{room}/agcws")
     os.symlink(EXAMPLES, f"{room}/examples")
-    for name in ["README.md", "examples/README.md", "examples/rows/sessions.md", "docs/MANUAL.md", "docs/WALKS.md"]:
+    for name in ["README.md", "examples/README.md", "examples/rows/sessions.md", "examples/rows/mistakes.md", "docs/MANUAL.md", "docs/WALKS.md"]:
         Document(room, name).check()
+    words = len(text_of("docs/WALKS.md").split())
+    told("docs/WALKS.md has 600 words at most", words <= 600, f"{words}")
     fences = re.findall(r"^```.*$", text_of("docs/MANUAL.md"), re.M)
     told("each block of the manual says what it is", "```" not in fences[::2] and set(fences[1::2]) == {"```"})
 

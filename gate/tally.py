@@ -1,6 +1,8 @@
 """Counts checks: how many have passed, and which have failed."""
 import os
+import signal
 import sys
+import traceback
 
 passed, failed = 0, []
 
@@ -20,6 +22,22 @@ def end():
     print(f"{passed} passed, {len(failed)} failed")
     sys.stdout.flush()
     return 1 if failed else 0
+
+
+def tried(part, *given, most_seconds):
+    """Does a part, and tells where it breaks off, or has no end within some seconds. What else it does then has some more."""
+
+    def end_part(*_):
+        raise TimeoutError(f"no end within {most_seconds} seconds")
+
+    signal.signal(signal.SIGALRM, end_part)
+    signal.setitimer(signal.ITIMER_REAL, most_seconds, 5)
+    try:
+        part(*given)
+    except Exception:
+        told(part.__name__, False, traceback.format_exc())
+    finally:
+        signal.setitimer(signal.ITIMER_REAL, 0)
 
 
 def is_built(program):

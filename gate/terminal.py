@@ -6,6 +6,8 @@ import signal
 import time
 
 CTRL_C = b"\x03"
+# The most bytes that are awaited in vain.
+MOST_SHOWN = 65536
 
 
 class Terminal:
@@ -20,10 +22,10 @@ class Terminal:
             os.execv(program, [program, *words])
 
     def type(self, typed, awaited=b"", most_seconds=20):
-        """Types some bytes, and answers what is shown from then on, up to what is awaited and what comes with it."""
+        """Types some bytes, and answers what is shown from then on, up to what is awaited and what comes with it. Where much is shown without it, no more is awaited."""
         os.write(self.terminal, typed)
         shown = b""
-        while awaited not in shown and select.select([self.terminal], [], [], most_seconds)[0]:
+        while awaited not in shown and len(shown) < MOST_SHOWN and select.select([self.terminal], [], [], most_seconds)[0]:
             try:
                 shown += os.read(self.terminal, 1000)
             except OSError:

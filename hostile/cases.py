@@ -15,12 +15,15 @@ IMAGE_BYTES, MOST_BYTES = 73728, 1 << 18
 KINDS = ["source", "feed", "commands", "image"]
 REFUSALS = {"source": range(10, 27), "feed": (30, 31, 32, 33, 35), "commands": (), "image": (3, 4, 5)}
 FIVE, KEY_ECHO, LOST_SUM, SECONDS = (f"{EXAMPLES}/{name}.agc" for name in ("five_plus_five", "key_echo", "lost_sum", "seconds"))
-NAMES = f"{EXAMPLES}/names.lst"
+NAMES, DOWNLIST = f"{EXAMPLES}/names.lst", f"{EXAMPLES}/flight/downlist.agc"
+# Operators of flight programs alone, each as it is written.
+FLIGHT_OPERATORS = "COUNT* BNKSUM SUBRO MEMORY OCTAL 2OCT VN 2DEC GENADR REMADR 1DNADR 6DNADR DNCHAN -CADR -GENADR -CCS -1DNADR -2CADR BBCON".split()
 # The refusals of a table of names, and of the image without an end that is read after it.
 TABLE_REFUSALS = (4, 36)
+FLIGHT = [f"{EXAMPLES}/flight/{name}.agc" for name in ("bankcall", "downlist", "waitlist")]
 EMPTY, CLOCK, KEYS = (f"{EXAMPLES}/{name}.feed" for name in ("empty", "clock", "key_echo"))
 
-# The calls by which the cases of a kind are tried in turn: 'case' is the case, 'twin' an image that differs a little from it, 'made' a file that is not there yet.
+# The calls by which the cases of a kind are tried in turn: 'case' is the case, 'twin' an image that differs a little from it, 'rope' an image, 'made' a file that is not there yet.
 # Where neither stands, the case is standard input.
 CALLS = {
     "source": [["asm", "case", "made"], ["run", "case", EMPTY, "200"], ["asm", "--rope=1", "case", "made"], ["run", "--end", "case", CLOCK, "300"], ["debug", "case", CLOCK]],
@@ -44,11 +47,32 @@ CALLS = {
 
 # Calls by which cases are tried besides, in processes of their own alone.
 FURTHER_CALLS = {
-    "source": [["asm", "--flight", "case", "made"], ["run", "--flight", "case", EMPTY, "200"], ["words", "--symbols", "case", "--rope=1", "/dev/zero"]],
-    "feed": [["debug", "--image", "--symbols", "case", "--rope=1", "/dev/zero", EMPTY]],
+    "source": [
+        ["asm", "--flight", "case", "made"],
+        ["run", "--flight", "case", EMPTY, "200"],
+        ["words", "--symbols", "case", "--rope=1", "/dev/zero"],
+        ["asm", "--sums", "case", "made"],
+        ["asm", "--flight", "--sums", "--rope=1", "case", "made"],
+        ["trace", "--from=20", "--to=150", "case", CLOCK, "200"],
+        ["trace", "--flight", "case", CLOCK, "200"],
+        ["cover", "--flight", "case", CLOCK, "200"],
+        ["debug", "--flight", "--extended", "case", CLOCK],
+        ["compare", "--only", "case", "rope"],
+        ["compare", "--only", "--flight", "--parity=ignore", "--new-form=hardware", "case", "rope"],
+    ],
+    "feed": [
+        ["debug", "--image", "--symbols", "case", "--rope=1", "/dev/zero", EMPTY],
+        ["trace", "--progress", KEY_ECHO, "case", "300"],
+        ["cover", LOST_SUM, "case", "300"],
+        ["debug", "--extended", "--flight", DOWNLIST, "case"],
+    ],
+    "commands": [["debug", "--extended", "--flight", DOWNLIST, KEYS], ["debug", "--extended", "--image", "--symbols", NAMES, "rope", KEYS], ["debug", "--image", "rope", EMPTY]],
     "image": [
         ["parity", "case"],
         ["parity", "--form=hardware", "case"],
+        ["words", "--where", "case"],
+        ["trace", "--image", "--form=hardware", "--parity=ignore", "case", EMPTY, "300"],
+        ["compare", "--only", "--flight", DOWNLIST, "case"],
         ["words", "--source", "--parity=ignore", "case"],
         ["words", "--form=hardware", "case", "02"],
         ["sums", "--parity=ignore", "--form=hardware", "case"],
@@ -153,10 +177,10 @@ def with_ending(ending):
 
 
 def operators():
-    """The operators of the source language, as an example has each."""
+    """The operators of the source language, as an example has each, and those of flight programs."""
     with open(f"{EXAMPLES}/operators.agc", encoding="utf-8") as lines:
         fields = [re.match(r"[^#\s]*[ \t]+([^#\s]+)", it) for it in lines]
-    return list(dict.fromkeys(it[1] for it in fields if it))
+    return list(dict.fromkeys([*(it[1] for it in fields if it), *FLIGHT_OPERATORS]))
 
 
 class Made:
@@ -167,12 +191,13 @@ class Made:
         write(f"{room}/operators.h", "".join(f'    "{it}",\n' for it in operators()).encode())
         self.generator, self.in_process = build(room, "generator"), build(room, "in_process", "generator")
         self.commands = write(f"{room}/commands", COMMANDS)
-        self.sound = {"source": with_ending(".agc"), "feed": with_ending(".feed"), "commands": [self.commands], "image": []}
+        self.sound = {"source": with_ending(".agc") + FLIGHT, "feed": with_ending(".feed"), "commands": [self.commands], "image": []}
         for number, source in enumerate(with_ending(".agc")):
             for version in "12":
                 image = f"{room}/image-{number}-{version}"
                 subprocess.run([PROGRAM, "asm", "--rope", version, source, image], check=True, stdout=subprocess.DEVNULL)
                 self.sound["image"].append(image)
+        self.rope = self.sound["image"][-1]
 
 
 def build(room, name, *others):

@@ -10,7 +10,7 @@ memory   each single request for memory is refused, by itself and with all after
 devices  full devices, closed pipes, folders, files that aren't there or may not be read, devices without an end, closed standard streams, no file or memory to be had
 sizes    one byte, line or input too many, or a byte too few
 bytes    N sources, feeds, command files and images (cases.py; if not said 600 of each, and 20,000 where CI is true), each in a process of its own: it ends in time and in little memory, with a refusal
-         that exists; and `check` tells a fault of each source exactly where `asm` does, and that one among its own, with `--flight` and without; what is taken without is taken with it, to the same listing. What hostile/long_run tries in one process gives the same answers; and in one process N more of each are tried with a failure besides
+         that exists; and `check` tells a fault of each source exactly where `asm` does, and that one among its own, with `--flight` and without; what is taken without is taken with it, to the same listing; and of a feed the fault that `run` tells. What hostile/long_run tries in one process gives the same answers; and in one process N more of each are tried with a failure besides
 
 The last line is 'N passed, M failed'. The built programs are crates/agcws/out/agcws, or what AGCWS names, and crates/vector_session/out/vector_session, or what VECTOR_SESSION names; `./check` leaves both, and `rt run`
 in a crate's folder makes its own."""
@@ -36,7 +36,7 @@ sys.path[:0] = [HERE, f"{ROOT}/gate", f"{ROOT}/examples"]
 import cases
 import in_process
 import rows
-from cases import ADDED, COMMANDS, EMPTY, FIVE, IMAGE_BYTES, PROGRAM, REFUSALS
+from cases import ADDED, COMMANDS, DOWNLIST, EMPTY, FIVE, IMAGE_BYTES, PROGRAM, REFUSALS
 from files import read, write
 from tally import end, told
 
@@ -46,8 +46,7 @@ MOST_SECONDS = 10
 MOST_MEMORY, MEMORY_PER_BYTE = 64 << 20, 64
 # The program that goes through a session whose images stand in a vector.
 VECTOR_SESSION = os.environ.get("VECTOR_SESSION", f"{ROOT}/crates/vector_session/out/vector_session")
-# A source in the language of flight programs, and the options of each language.
-DOWNLIST = f"{ROOT}/examples/flight/downlist.agc"
+# The options of each language.
 LANGUAGES = ((), ("--flight",))
 # So many cases of each kind are answered alike in one process and each in its own.
 ALIKE = 600
@@ -105,7 +104,7 @@ def memory(room):
     for words in (("asm", source, old, "--rope", "1"), ("asm", source, new), ("asm", FIVE, other)):
         agcws(*words)
     names = ("--symbols", write(f"{room}/names", agcws("asm", source, new)[1]))
-    sessions_of = {"debug": ("debug", source, feed), "debug --image": ("debug", "--image", new, feed), "debug --extended": ("debug", "--extended", source, feed), "debug with names": ("debug", "--image", *names, new, feed)}
+    sessions_of = {"debug": ("debug", source, feed), "debug --image": ("debug", "--image", new, feed), "debug --extended": ("debug", "--extended", source, feed), "debug --flight": ("debug", "--extended", "--flight", DOWNLIST, feed), "debug with names": ("debug", "--image", *names, new, feed)}
     calls = {
         "asm": ("asm", source, made),
         "run": ("run", source, feed, "300"),
@@ -135,7 +134,14 @@ def memory(room):
         "sums in both orders": ("sums", "--forms", new),
         "where an image is refused": ("words", "--where", "--rope", "1", new),
         "parity": ("parity", old),
+        "parity of the hardware's form": ("parity", "--form", "hardware", new),
+        "words of the hardware's form": ("words", "--form", "hardware", "--parity", "ignore", new, "02"),
         "asm --flight": ("asm", "--flight", DOWNLIST, made),
+        "run --flight --notes": ("run", "--flight", "--notes", DOWNLIST, feed, "300"),
+        "trace --flight": ("trace", "--flight", "--from", "20", "--progress", DOWNLIST, feed, "300"),
+        "cover --flight": ("cover", "--flight", DOWNLIST, feed, "300"),
+        "check --flight": ("check", "--flight", DOWNLIST, feed),
+        "compare with a flight source": ("compare", "--only", "--flight", DOWNLIST, other),
         "run --flight": ("run", "--flight", DOWNLIST, feed, "300"),
         "check": ("check", source),
         "check of a source with faults": ("check", feed),
@@ -143,6 +149,8 @@ def memory(room):
         "check of feeds": ("check", source, feed, old),
         "explain": ("explain",),
         "explain of a number": ("explain", "E16"),
+        "explain of a warning": ("explain", "W4"),
+        "help of a command": ("help", "run"),
         "a refused source": ("run", feed, feed, "300"),
         "a refused image": ("words", source),
         "--help": ("--help",),
@@ -315,12 +323,15 @@ def devices(room):
     os.mkdir(folder)
     image, other = write(f"{room}/image", bytes(IMAGE_BYTES)), f"{room}/other"
     agcws("asm", "--rope", "1", FIVE, other)
-    # Calls that write some output, the last two a session's.
+    # Calls that write some output, the last five a session's.
     writing = [("run", FIVE, EMPTY, "100"), ("trace", FIVE, EMPTY, "100"), ("cover", FIVE, EMPTY, "100"), ("run", "--end", FIVE, EMPTY, "100"), ("run", "--progress", FIVE, EMPTY, "100"), ("run", "--notes", FIVE, EMPTY, "100"), ("run", "--image", "--rope=1", other, EMPTY, "100"), ("asm", FIVE, made), ("words", "--rope=1", image)]
     writing += [("asm", "--flight", DOWNLIST, made), ("run", "--flight", DOWNLIST, EMPTY, "100")]
     writing += [("check", FIVE), ("check", FIVE, EMPTY, FIVE), ("check", "--unused", FIVE), ("explain",), ("explain", "17")]
     writing += [("compare", "--old=1", "--new=1", image, other), ("sums", "--rope=1", image), ("sums", "--forms", "--rope=1", image), ("words", "--symbols", EMPTY, "--rope=1", image), ("trace", "--image", "--symbols", EMPTY, "--rope=1", other, EMPTY, "100"), ("cover", "--image", "--symbols", EMPTY, "--rope=1", other, EMPTY, "100"), ("parity", image), ("--help",), ("words", "--help"), ("--version",)]
-    writing += [("debug", FIVE, EMPTY), ("debug", "--image", "--rope=1", other, EMPTY)]
+    writing += [("words", "--source", "--rope=1", image), ("words", "--where", "--rope=1", image), ("parity", "--form=hardware", image), ("explain", "W4"), ("help", "run"), ("check", "--flight", DOWNLIST), ("compare", "--only", "--new=1", FIVE, image), ("compare", "--only", "--flight", "--new=1", DOWNLIST, image)]
+    writing += [("trace", "--flight", "--from=2", DOWNLIST, EMPTY, "40"), ("cover", "--flight", DOWNLIST, EMPTY, "40"), ("run", "--flight", "--notes", DOWNLIST, EMPTY, "100")]
+    sessions = [("debug", FIVE, EMPTY), ("debug", "--image", "--rope=1", other, EMPTY), ("debug", "--extended", FIVE, EMPTY), ("debug", "--flight", DOWNLIST, EMPTY), ("debug", "--extended", "--image", "--symbols", EMPTY, "--rope=1", other, EMPTY)]
+    writing += sessions
     outputs_that_fail(writing)
     for words in (("asm", FIVE, "/dev/full"), ("asm", "--sums", FIVE, "/dev/full"), ("upgrade", image, "/dev/full"), ("asm", FIVE, folder), ("upgrade", image, folder), ("asm", FIVE, f"{folder}/none/rope"), ("upgrade", image, f"{folder}/none/rope")):
         status, out, err = agcws(*words)
@@ -332,14 +343,17 @@ def devices(room):
         reading += [("words", "--symbols", bad, "--rope=1", image), ("words", "--symbols", EMPTY, bad), ("trace", "--image", "--symbols", bad, "--rope=1", other, EMPTY, "1"), ("cover", "--image", "--symbols", bad, "--rope=1", other, EMPTY, "1"), ("debug", "--image", "--symbols", bad, "--rope=1", other, EMPTY)]
         reading += [("compare", bad, image), ("compare", "--old=1", image, bad), ("run", "--image", bad, EMPTY, "1"), ("run", "--image", "--rope=1", image, bad, "1")]
         reading += [("debug", "--image", bad, EMPTY), ("debug", "--image", "--rope=1", image, bad), ("check", bad), ("check", FIVE, bad), ("check", FIVE, EMPTY, bad)]
+        reading += [("debug", "--extended", bad, EMPTY), ("debug", "--extended", FIVE, bad), ("debug", "--flight", bad, EMPTY), ("asm", "--flight", bad, made), ("asm", "--sums", bad, made), ("run", "--flight", bad, EMPTY, "1"), ("run", "--notes", bad, EMPTY, "1"), ("run", "--notes", FIVE, bad, "1")]
+        reading += [("trace", "--flight", bad, EMPTY, "1"), ("trace", "--image", bad, EMPTY, "1"), ("cover", "--flight", bad, EMPTY, "1"), ("cover", "--image", bad, EMPTY, "1"), ("check", "--flight", bad), ("compare", "--only", bad, image), ("compare", "--only", FIVE, bad), ("words", "--source", bad), ("words", "--where", bad), ("parity", "--form=hardware", bad)]
         for words in reading:
             answer = agcws(*words)
             told(f"devices: {name_of(words)}", answer == (3, b"", E6), f"{answer}")
     told("devices: a file that cannot be read leaves no image", not os.path.exists(made))
-    inputs_that_fail(folder, writing[-2:])
+    inputs_that_fail(folder, sessions)
     no_streams(made)
     os.remove(made)
     endless_inputs(made)
+    endless_commands()
     few_of_the_system(writing)
     without_rights(room, image)
 
@@ -352,7 +366,7 @@ def outputs_that_fail(writing):
             told(f"devices: {name_of(words)}, on a full device", (ran.returncode, ran.stderr) == (3, E7), f"{ran.returncode} {ran.stderr!r}")
             ran = subprocess.run([PROGRAM, *words], input=b"run 100\n", stdout=subprocess.DEVNULL, stderr=subprocess.PIPE, timeout=60, preexec_fn=lambda: os.close(1))
             told(f"devices: {name_of(words)}, with its output closed", (ran.returncode, ran.stderr) == (3, E7), f"{ran.returncode} {ran.stderr!r}")
-        for words in (("run", "--end", FIVE, EMPTY, "9"), ("run", FIVE, FIVE, "9"), ("words", FIVE), ("run",), ("debug", FIVE, FIVE)):
+        for words in (("run", "--end", FIVE, EMPTY, "9"), ("run", FIVE, FIVE, "9"), ("words", FIVE), ("words", "--where", FIVE), ("check", FIVE, FIVE, "/dev/zero"), ("explain", "E99"), ("trace", FIVE, EMPTY, "9", "--from=5", "--to=4"), ("run",), ("debug", FIVE, FIVE), ("debug", "--extended", FIVE, FIVE)):
             right = agcws(*words)
             for label, settings in (("full", {"stderr": full}), ("closed", {"preexec_fn": lambda: os.close(2)})):
                 ran = subprocess.run([PROGRAM, *words], stdin=subprocess.DEVNULL, stdout=subprocess.PIPE, timeout=60, **settings)
@@ -397,9 +411,19 @@ def endless_inputs(made):
         (("trace", FIVE, zeros, "1"), b"E34"),
         (("cover", FIVE, zeros, "1"), b"E34"),
         (("asm", zeros, made), b"E34"),
+        (("asm", "--flight", zeros, made), b"E34"),
+        (("check", zeros), b"E34"),
+        (("check", "--flight", zeros), b"E34"),
+        (("check", FIVE, zeros), b"E34"),
+        (("compare", "--only", zeros, zeros), b"E34"),
+        (("compare", "--only", FIVE, zeros), b"E5"),
         (("debug", FIVE, zeros), b"E34"),
         (("upgrade", zeros, made), b"E4"),
         (("words", "--rope=1", zeros), b"E4"),
+        (("words", "--source", "--rope=1", zeros), b"E4"),
+        (("words", "--parity=ignore", "--form=hardware", zeros), b"E4"),
+        (("trace", "--image", "--rope=1", zeros, EMPTY, "1"), b"E4"),
+        (("cover", "--image", "--rope=1", zeros, EMPTY, "1"), b"E4"),
         (("words", zeros), b"E5"),
         (("sums", "--rope=1", zeros), b"E4"),
         (("sums", "--forms", "--rope=1", zeros), b"E4"),
@@ -415,6 +439,17 @@ def endless_inputs(made):
     with open(zeros, "rb") as endless:
         ran = subprocess.run([PROGRAM, "debug", FIVE, EMPTY], stdin=endless, capture_output=True, timeout=60)
     told("devices: commands without an end", (ran.returncode, ran.stdout, ran.stderr) == (0, b"E51 LONG\n", b"agcws: commands end after 16777216 bytes\n"), f"{ran.returncode} {ran.stdout[-200:]} {ran.stderr}")
+
+
+def endless_commands():
+    """Commands without an end are read on in an extended session, in the memory that was taken at first."""
+    with open("/dev/zero", "rb") as endless, subprocess.Popen([PROGRAM, "debug", "--extended", FIVE, EMPTY], stdin=endless, stdout=subprocess.PIPE, stderr=subprocess.PIPE) as ran:
+        time.sleep(2)
+        with open(f"/proc/{ran.pid}/status", encoding="ascii") as file:
+            most = int(re.search(r"VmHWM:\s+(\d+) kB", file.read())[1]) << 10
+        is_going = ran.poll() is None
+        ran.kill()
+        told("devices: commands of an extended session without an end", is_going and most <= MOST_MEMORY and not ran.stderr.read(), f"{is_going}, {most} bytes of memory")
 
 
 def few_of_the_system(writing):
@@ -445,6 +480,14 @@ def without_rights(room, image):
         (("asm", locked, made), E6),
         (("asm", feed, locked), E7),
         (("debug", locked, feed), E6),
+        (("trace", locked, feed, "1"), E6),
+        (("cover", locked, feed, "1"), E6),
+        (("run", "--notes", locked, feed, "1"), E6),
+        (("check", locked), E6),
+        (("check", feed, locked), E6),
+        (("parity", locked), E6),
+        (("compare", "--only", locked, image), E6),
+        (("words", "--symbols", locked, "--rope=1", image), E6),
         (("words", locked), E6),
         (("sums", locked), E6),
         (("compare", "--old=1", image, locked), E6),
@@ -464,7 +507,7 @@ def sizes(room):
     most = 8_388_608
     zeros = write(f"{room}/zeros", bytes(IMAGE_BYTES))
     large = write(f"{room}/large", b"#" * 100 + b"\n" * (most - 99))
-    for words in (("run", large, EMPTY, "1"), ("run", FIVE, large, "1"), ("trace", FIVE, large, "1"), ("asm", large, f"{room}/rope"), ("debug", FIVE, large), ("run", "--image", "--rope=1", zeros, large, "1"), ("debug", "--image", "--rope=1", zeros, large), ("words", "--symbols", large, "--rope=1", zeros), ("trace", "--image", "--symbols", large, "--rope=1", zeros, EMPTY, "1")):
+    for words in (("run", large, EMPTY, "1"), ("run", FIVE, large, "1"), ("trace", FIVE, large, "1"), ("asm", large, f"{room}/rope"), ("debug", FIVE, large), ("run", "--image", "--rope=1", zeros, large, "1"), ("debug", "--image", "--rope=1", zeros, large), ("words", "--symbols", large, "--rope=1", zeros), ("trace", "--image", "--symbols", large, "--rope=1", zeros, EMPTY, "1"), ("cover", FIVE, large, "1"), ("run", "--notes", FIVE, large, "1"), ("check", large), ("check", FIVE, EMPTY, large), ("compare", "--only", large, zeros), ("debug", "--extended", FIVE, large), ("asm", "--flight", large, f"{room}/rope")):
         answer = agcws(*words)
         told(f"sizes: {words[0]} of {most + 1} bytes", answer == (1, b"", b"agcws: E34\n"), f"{answer}")
     whole = write(f"{room}/whole", b" SETLOC 4000\n TCF 4000\n" + b"#\n" * 65_534)
@@ -507,8 +550,14 @@ def image_sizes(room, zeros):
         for words in (
             ("words", "--rope=1", image),
             ("sums", "--rope=1", image),
+            ("sums", "--forms", "--rope=1", image),
             ("parity", image),
+            ("parity", "--form=hardware", image),
             ("words", "--parity=ignore", image),
+            ("words", "--symbols", EMPTY, "--rope=1", image),
+            ("trace", "--image", "--rope=1", image, EMPTY, "1"),
+            ("cover", "--image", "--rope=1", image, EMPTY, "1"),
+            ("debug", "--extended", "--image", "--rope=1", image, EMPTY),
             ("words", "--source", "--rope=1", image),
             ("compare", "--only", "--new=1", FIVE, image),
             ("compare", "--old=1", "--new=1", image, zeros),
@@ -524,12 +573,18 @@ def image_sizes(room, zeros):
 # Bytes
 
 
+# A refusal; one with the place of the first bad parity, where that is asked for; and of a bank without room for check words.
+REFUSED = re.compile(rb"agcws: E(\d+)(?: LINE [1-9]\d*)?\n")
+REFUSED_WHERE = re.compile(rb"agcws: E(?:(5)\nagcws: BYTE \d*[02468] [0-4][0-7],[2-7][0-7]{3}\n|([34])\n)")
+NO_ROOM = re.compile(rb"agcws: bank [0-4][0-7] has no room for check words: they take 3 places after its last word\n")
+
+
 class Worker:
     """Runs cases in a room of its own: what each call answers, its time, and its memory."""
 
     def __init__(self, made, seed):
         self.room = tempfile.mkdtemp(prefix="hostile-", dir="/dev/shm" if os.path.isdir("/dev/shm") else None)
-        self.maker, self.commands = cases.Maker(made, seed), made.commands
+        self.maker, self.commands, self.rope = cases.Maker(made, seed), made.commands, made.rope
         self.case, self.twin, self.made, self.out, self.err = (f"{self.room}/{name}" for name in ("case", "twin", "made", "out", "err"))
 
     def run(self, words, commands):
@@ -552,7 +607,7 @@ class Worker:
             write(self.twin, self.maker.twin(kind, number, content))
         if os.path.exists(self.made):
             os.remove(self.made)
-        paths = {"case": self.case, "twin": self.twin, "made": self.made}
+        paths = {"case": self.case, "twin": self.twin, "made": self.made, "rope": self.rope}
         return self.run([paths.get(it, it) for it in words], self.commands if "case" in words else self.case), len(content)
 
     def try_case(self, kind, number):
@@ -570,9 +625,11 @@ class Worker:
             is_made = has_made and os.path.getsize(self.made) == IMAGE_BYTES if "made" in words else not has_made
             is_silent = re.fullmatch(rb"END STEPS \d+ CYCLES \d+ OUTPUTS \d+ Z [0-7]{4}\n", err) if "--end" in words else not err
             return "" if is_silent and is_made else f"done, with {err!r}"
-        number = re.fullmatch(rb"agcws: E(\d+)(?: LINE [1-9]\d*)?\n", err)
+        if "--sums" in words and status == 1 and NO_ROOM.fullmatch(err):
+            return "" if not out and not has_made else "refused, with some output"
+        number = (REFUSED_WHERE if "--where" in words else REFUSED).fullmatch(err)
         refusals = cases.TABLE_REFUSALS if "--symbols" in words and kind != "image" else REFUSALS[kind]
-        if status != 1 or not number or int(number[1]) not in refusals:
+        if status != 1 or not number or int(number[number.lastindex]) not in refusals:
             return f"status {status}, {err!r}"
         return "" if not out and not has_made else "refused, with some output"
 
@@ -608,6 +665,7 @@ def hostile_bytes(room, count, seed):
         told(f"bytes: {kind}, {len(wrong)} of {count}", not wrong, f"seed {seed}, the first: {wrong[:5]}")
         print(f"bytes: {count} of {kind}: {time.monotonic() - started:.0f} s; the slowest call took {slowest:.2f} s, the largest {largest >> 10} KiB", flush=True)
     checks(made, count, seed)
+    checks_of_feeds(made, count, seed)
     readings(made, count, seed)
     alike(made, seed)
     with_failures(made, count, seed)
@@ -656,6 +714,32 @@ def checks(made, count, seed):
     told(f"bytes: check, {len(wrong)} of {count}", not wrong and 0 < taken < refused < count, f"seed {seed}, {refused} refused, {taken} of them taken with --flight, the first: {wrong[:5]}")
 
 
+def some_feeds(made, seed, first, last):
+    """Feeds of which `check` does not tell the fault that `run` tells, alone and on its line; and how many are refused."""
+    worker, wrong, refused = Worker(made, seed), [], 0
+    try:
+        for number in range(first, last):
+            write(worker.case, worker.maker.case("feed", number))
+            one = ONE_FAULT.fullmatch(worker.run(["run", FIVE, worker.case, "0"], worker.case)[2])
+            status, out, err, _, _ = worker.run(["check", FIVE, worker.case], worker.case)
+            found = [(int(line), int(kind)) for line, kind in TOLD_FAULT.findall(out)]
+            refused += bool(one)
+            if (status, found, err) != ((1, [(int(one[2]), int(one[1]))], b"") if one else (0, [], b"")):
+                wrong.append((number, status, one and one[0], found[:5], err))
+    finally:
+        shutil.rmtree(worker.room)
+    return wrong, refused
+
+
+def checks_of_feeds(made, count, seed):
+    step = max(1, min(1000, count // 8 + 1))
+    with ProcessPoolExecutor() as pool:
+        parts = [pool.submit(some_feeds, made, seed, first, min(first + step, count)) for first in range(0, count, step)]
+        results = [part.result() for part in parts]
+    wrong, refused = [it for part, _ in results for it in part], sum(it for _, it in results)
+    told(f"bytes: check of feeds, {len(wrong)} of {count}", not wrong and 0 < refused < count, f"seed {seed}, {refused} refused, the first: {wrong[:5]}")
+
+
 READ_STEPS = 300
 NOTES = re.compile(rb"(NOTE ((QUOTIENT|SKIP|NOWORD|ERASABLE|NOHANDLER|OTHERBANK) +\S.* STEP [1-9]\d* CYCLES \d+ TIMES [1-9]\d*|INSIDE STEP \d+|WAITING \w+ STEP [1-9]\d* CYCLES \d+)\n)*")
 
@@ -674,7 +758,7 @@ def is_read_alike(run, notes, trace, cover):
 def some_readings(made, seed, kind, first, last):
     """Cases whose run is told in another way by `run --notes`, `trace` or `cover`; and how many run, and how many of these draw notes."""
     worker, wrong, ran, noted = Worker(made, seed), [], 0, 0
-    files = [*(["--image"] if kind == "image" else []), worker.case, cases.CLOCK, str(READ_STEPS)]
+    files = {"source": [worker.case, cases.CLOCK], "image": ["--image", worker.case, cases.CLOCK], "feed": [cases.KEY_ECHO, worker.case]}[kind] + [str(READ_STEPS)]
     try:
         for number in range(first, last):
             write(worker.case, worker.maker.case(kind, number))
@@ -688,9 +772,9 @@ def some_readings(made, seed, kind, first, last):
 
 
 def readings(made, count, seed):
-    """Runs of hostile sources and images, as those tell them that read a run."""
+    """Runs of hostile sources, images and feeds, as those tell them that read a run."""
     step = max(1, min(1000, count // 8 + 1))
-    for kind in ("source", "image"):
+    for kind in ("source", "image", "feed"):
         with ProcessPoolExecutor() as pool:
             parts = [pool.submit(some_readings, made, seed, kind, first, min(first + step, count)) for first in range(0, count, step)]
             results = [part.result() for part in parts]

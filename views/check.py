@@ -22,14 +22,14 @@ sys.path[:1] = [EXAMPLES, f"{ROOT}/gate", VIEWS]
 import check as examples
 import pipe
 from files import write
-from tally import end, is_built, told
+from tally import end, is_built, told, tried
 from terminal import CTRL_C, Terminal
 
 EMPTY = f"{EXAMPLES}/empty.feed"
 LOST = [f"{EXAMPLES}/lost_sum.agc", f"{EXAMPLES}/lost_sum.feed"]
 UNITS_PER_CYCLE = 1_171_875
-# What all takes, at most: a reply whose end is not seen is not waited for.
-MOST_SECONDS = 600
+# What a part takes, at most: a reply whose end is not seen is not waited for.
+MOST_SECONDS = 60
 
 
 def same(label, got, wanted):
@@ -1009,27 +1009,28 @@ def check_readme(room):
 def main():
     if not is_built(examples.PROGRAM):
         return 1
-    signal.alarm(MOST_SECONDS)
     with tempfile.TemporaryDirectory(prefix="agcws-") as room:
-        check_session(room)
-        check_readings(room)
-        check_calls(room)
-        check_talk(room)
-        check_watches(room)
-        check_dap(room)
-        check_shake(room)
-        check_chain(room)
-        check_wave(room)
-        check_dsky()
-        check_bridge(room)
-        check_bridge_parts(room)
-        check_report(room)
-        check_notes(room)
-        check_operators(room)
-        check_grammar()
-        check_package()
-        check_faults(room)
-        check_readme(room)
+        for part in (
+            check_session,
+            check_readings,
+            check_calls,
+            check_talk,
+            check_watches,
+            check_dap,
+            check_shake,
+            check_chain,
+            check_wave,
+            check_bridge,
+            check_bridge_parts,
+            check_report,
+            check_notes,
+            check_operators,
+            check_faults,
+            check_readme,
+        ):
+            tried(part, room, most_seconds=MOST_SECONDS)
+    for part in (check_dsky, check_grammar, check_package):
+        tried(part, most_seconds=MOST_SECONDS)
     return end()
 
 
