@@ -20,11 +20,12 @@ use Rattle.commands.specs.declared.command.Breakpoint.TheVariants as breakpoint
 use Rattle.commands.specs.declared.command.Command.TheVariants.{Registers, Memory, Channel, Last, Break, Clear, Step, Add}
 use Rattle.commands.specs.declared.command.ParsedLine.TheVariants.{Nothing, TooLong, WrongCounter}
 use Rattle.commands.specs.declared.extended.ExtendedLine.{ExtendedLine}
+use Rattle.commands.specs.declared.extended.IndexLines.TheVariants.{Omitted, Told}
 use Rattle.commands.specs.declared.extended.ExtendedLine.TheVariants.{Plain, Common, Says, Help, Breaks, ClearOne, On, AllRegisters, Until, WhyStep, Why, Words, Where, Find, Trace, Inputs, Over, Out, Listed, Values}
 
 -- a place in fixed memory, and a number that is no place
 abbrev symbols : SymbolTable
-symbols = (codes "FIVE", value.Fixed 2 5) ∷ (codes "BIG", value.Num 0o10000) ∷ (codes "SUM", value.Erasable 0o101) ∷ (codes "Q", value.Erasable 0o102) ∷ (codes "CH12", value.Fixed 2 6) ∷ []
+symbols = (codes "FIVE", value.Fixed 2 5) ∷ (codes "BIG", value.Num 0o10000) ∷ (codes "SUM", value.Erasable 0o101) ∷ (codes "Q", value.Erasable 0o102) ∷ (codes "CH12", value.Fixed 2 6) ∷ (codes "index", value.Erasable 0o103) ∷ []
 
 abbrev asked : List (List ℕ) → List ExtendedLine
 asked lines = map (extended_line symbols) lines
@@ -49,19 +50,30 @@ echoes = refl
 
 -- what `why` is about: an erasable place, and where no symbol has the name a register or a channel; and how many links it tells
 whys : asked (codes "why" ∷ codes "why SUM" ∷ codes "why SUM 3" ∷ codes "why 101 999" ∷ codes "why A" ∷ codes "why BB 0" ∷ codes "why Q" ∷ codes "why CH010" ∷ codes "why CH7 2" ∷ [])
-    ≡ WhyStep ∷ Why (subject.Place 0o101) 16 ∷ Why (subject.Place 0o101) 3 ∷ Why (subject.Place 0o101) 999 ∷ Why (subject.Place 0) 16 ∷ Why (subject.Place 6) 0 ∷ Why (subject.Place 0o102) 16 ∷ Why (subject.Channel 8) 16 ∷ Why (subject.Channel 7) 2 ∷ []
+    ≡ WhyStep Omitted ∷ Why (subject.Place 0o101) 16 Omitted ∷ Why (subject.Place 0o101) 3 Omitted ∷ Why (subject.Place 0o101) 999 Omitted ∷ Why (subject.Place 0) 16 Omitted ∷ Why (subject.Place 6) 0 Omitted ∷ Why (subject.Place 0o102) 16 Omitted ∷ Why (subject.Channel 8) 16 Omitted ∷ Why (subject.Channel 7) 2 Omitted ∷ []
 unfolding extended_line extended_forms usages forms runs parsed counters sequences registers window
 whys = refl
 
+-- and whether the lines of INDEX are told. Where `index` stands alone it is the word, though a symbol has this name
+indexed : asked (codes "why index" ∷ codes "why SUM index" ∷ codes "why SUM +1 3 index" ∷ codes "why CH010 index" ∷ codes "why CH7 0 index # told" ∷ codes "why index 3" ∷ codes "why index index" ∷ codes "why index +0" ∷ [])
+    ≡ WhyStep Told ∷ Why (subject.Place 0o101) 16 Told ∷ Why (subject.Place 0o102) 3 Told ∷ Why (subject.Channel 8) 16 Told ∷ Why (subject.Channel 7) 0 Told ∷ Why (subject.Place 0o103) 3 Omitted ∷ Why (subject.Place 0o103) 16 Told ∷ Why (subject.Place 0o103) 16 Omitted ∷ []
+unfolding extended_line extended_forms usages forms runs parsed counters sequences registers window
+indexed = refl
+
+unindexed : asked (codes "why SUM index 3" ∷ codes "why SUM 3 INDEX" ∷ codes "why SUM 3 index index" ∷ codes "why SUM indexes" ∷ [])
+    ≡ replicate 4 (Says (codes "E50 COMMAND why takes [PLACE [K]] [index]\n"))
+unfolding extended_line extended_forms usages forms runs parsed counters sequences registers window
+unindexed = refl
+
 wrong_whys : asked (codes "why FIVE" ∷ codes "why CH12" ∷ codes "why SUMM" ∷ codes "why SUMM 3" ∷ codes "why SUM x" ∷ codes "why SUM 1000" ∷ codes "why SUM 3 4" ∷ codes "why CH1000" ∷ codes "why CH" ∷ [])
     ≡ map (λ text. Says (codes "E50 COMMAND " ++ text))
-    (codes "why takes nothing, a place, or a place and a count\n"
-    ∷ codes "why takes nothing, a place, or a place and a count\n"
+    (codes "why takes [PLACE [K]] [index]\n"
+    ∷ codes "why takes [PLACE [K]] [index]\n"
     ∷ codes "no symbol SUMM\n"
     ∷ codes "no symbol SUMM\n"
-    ∷ codes "why takes nothing, a place, or a place and a count\n"
-    ∷ codes "why takes nothing, a place, or a place and a count\n"
-    ∷ codes "why takes nothing, a place, or a place and a count\n"
+    ∷ codes "why takes [PLACE [K]] [index]\n"
+    ∷ codes "why takes [PLACE [K]] [index]\n"
+    ∷ codes "why takes [PLACE [K]] [index]\n"
     ∷ codes "no symbol CH1000\n"
     ∷ codes "no symbol CH\n"
     ∷ [])
@@ -98,7 +110,7 @@ places = refl
 
 -- in each command that takes one
 every_place : asked (codes "mem SUM +3 5" ∷ codes "mem 02,4005 999" ∷ codes "mem L 0" ∷ codes "last L" ∷ codes "last SUM +1" ∷ codes "why SUM +1" ∷ codes "why E3,1400 +2 4" ∷ codes "break at FIVE +1" ∷ codes "break at 02,4005" ∷ codes "break word Z 5" ∷ codes "break word SUM +3 75" ∷ [])
-    ≡ Words (Erasable 0o104) 5 ∷ Words (Fixed 2 5) 999 ∷ Words (Erasable 1) 0 ∷ Common (Last 1) ∷ Common (Last 0o102) ∷ Why (subject.Place 0o102) 16 ∷ Why (subject.Place 0o1402) 4 ∷ Common (Break (breakpoint.Place (Fixed 2 6))) ∷ Common (Break (breakpoint.Place (Fixed 2 5))) ∷ Common (Break (breakpoint.Word 5 5)) ∷ Common (Break (breakpoint.Word 0o104 0o75)) ∷ []
+    ≡ Words (Erasable 0o104) 5 ∷ Words (Fixed 2 5) 999 ∷ Words (Erasable 1) 0 ∷ Common (Last 1) ∷ Common (Last 0o102) ∷ Why (subject.Place 0o102) 16 Omitted ∷ Why (subject.Place 0o1402) 4 Omitted ∷ Common (Break (breakpoint.Place (Fixed 2 6))) ∷ Common (Break (breakpoint.Place (Fixed 2 5))) ∷ Common (Break (breakpoint.Word 5 5)) ∷ Common (Break (breakpoint.Word 0o104 0o75)) ∷ []
 unfolding extended_line extended_forms usages forms runs parsed counters sequences registers window
 every_place = refl
 
@@ -207,7 +219,7 @@ not_shown = refl
 
 -- counters by their names, where no symbol has these
 counters_named : asked (codes "mem TIME3" ∷ codes "last PIPAX" ∷ codes "why INLINK 2" ∷ codes "mem TIME1 +1 3" ∷ codes "mem TIME7" ∷ [])
-    ≡ memory 0o26 ∷ Common (Last 0o37) ∷ Why (subject.Place 0o45) 2 ∷ Words (Erasable 0o26) 3 ∷ Says (codes "E50 COMMAND no symbol TIME7\n") ∷ []
+    ≡ memory 0o26 ∷ Common (Last 0o37) ∷ Why (subject.Place 0o45) 2 Omitted ∷ Words (Erasable 0o26) 3 ∷ Says (codes "E50 COMMAND no symbol TIME7\n") ∷ []
 unfolding extended_line extended_forms usages forms runs parsed counters sequences registers window
 counters_named = refl
 

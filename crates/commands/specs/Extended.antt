@@ -17,6 +17,8 @@ use Rattle.commands.specs.declared.command.Breakpoint.TheVariants as breakpoint
 use Rattle.commands.specs.declared.command.Command.TheVariants.{Memory, Channel, Last, Break}
 use Rattle.commands.specs.declared.command.ParsedLine.{ParsedLine}
 use Rattle.commands.specs.declared.command.ParsedLine.TheVariants.{Nothing, TooLong, Unknown, WrongCounter, Known}
+use Rattle.commands.specs.declared.extended.IndexLines.{IndexLines}
+use Rattle.commands.specs.declared.extended.IndexLines.TheVariants.{Omitted, Told}
 use Rattle.commands.specs.declared.extended.ExtendedLine.{ExtendedLine}
 use Rattle.commands.specs.declared.extended.ExtendedLine.TheVariants.{Plain, Common, Says, Help, Breaks, ClearOne, On, AllRegisters, Until, WhyStep, Why, Words, Where, Find, Trace, Inputs, Over, Out, Listed, Values}
 
@@ -78,20 +80,33 @@ usual_links = 16
 abbrev pub few_in : List ℕ → Option ℕ
 few_in field = option_and_then (λ k. if nat_le k most_links then Some k else None) (count_in field)
 
--- no more field, or a number of links
-abbrev pub links_in : List (List ℕ) → Option ℕ
-links_in [] = Some usual_links
-links_in (field ∷ more) = option_and_then few_in (sole (field ∷ more))
+-- no more field, or the word `index`: whether the lines of INDEX are told
+abbrev pub index_in : List (List ℕ) → Option IndexLines
+index_in [] = Some Omitted
+index_in (field ∷ more) = if word_alone (codes "index") (sole (field ∷ more)) then Some Told else None
 
--- what a word is asked of, and how many links
+-- a number of links, and then the word `index`, if any
+abbrev pub counted_links : List (List ℕ) → Option (ℕ × IndexLines)
+counted_links [] = None
+counted_links (field ∷ more) = option_and_then (λ k. option_map (λ lines. (k, lines)) (index_in more)) (few_in field)
+
+-- the same, or no number
+abbrev pub links_in : List (List ℕ) → Option (ℕ × IndexLines)
+links_in fields = option_or (option_map (λ lines. (usual_links, lines)) (index_in fields)) (counted_links fields)
+
+-- what a word is asked of, how many links, and whether the lines of INDEX are told
 abbrev pub why_of : Option Subject → List (List ℕ) → Option ExtendedLine
-why_of subject fields = option_and_then (λ s. option_map (λ k. Why s k) (links_in fields)) subject
+why_of subject fields = option_and_then (λ s. option_map (λ r. Why s r.0 r.1) (links_in fields)) subject
 
--- no field; an erasable place or, where no symbol has the name, a channel; or this and a number of links
-abbrev pub why_form : SymbolTable → ExtendedForm
-why_form symbols [] = Some WhyStep
-why_form symbols (field ∷ more) =
+-- an erasable place or, where no symbol has the name, a channel, and what stands after it
+abbrev pub why_place : SymbolTable → ExtendedForm
+why_place symbols [] = None
+why_place symbols (field ∷ more) =
     option_or (why_of (place_subject symbols (field ∷ more)) (after_place (field ∷ more))) (why_of (channel_subject symbols field) more)
+
+-- none of these; and where `index` stands alone it is the word, though a symbol has this name
+abbrev pub why_form : SymbolTable → ExtendedForm
+why_form symbols fields = option_or (option_map (λ lines. WhyStep lines) (index_in fields)) (why_place symbols fields)
 
 -- the word at a place, or so many from there on
 abbrev pub memory_of : Linear → List (List ℕ) → Option ExtendedLine

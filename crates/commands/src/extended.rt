@@ -7,7 +7,7 @@ ghost use Rattle.agc_text.specs.Tables.{value_in};
 ghost use Rattle.commands.specs.Lines.{kept_line};
 ghost use Rattle.commands.specs.Commands.{count_in};
 ghost use Rattle.commands.specs.declared.extended.ExtendedLine.TheVariants as asked;
-ghost use Rattle.commands.specs.Extended.{extended_forms, most_count, sole, with_none, with_word, with_field, with_field_or, help_in, few_in, links_in, why_of, why_form, memory_of, channel_form, memory_form, count_after, counted_place, if_none, place_alone, last_form, broken_at, watches, bits_of, watches_bits, subject_alone, break_form, breakpoint_place_field, place_field, is_no_symbol, missing_symbol, refusal_line, in_words, echoed, extended_in, extended_line, steps_in};
+ghost use Rattle.commands.specs.Extended.{extended_forms, most_count, sole, with_none, with_word, with_field, with_field_or, help_in, few_in, index_in, counted_links, links_in, why_of, why_place, why_form, memory_of, channel_form, memory_form, count_after, counted_place, if_none, place_alone, last_form, broken_at, watches, bits_of, watches_bits, subject_alone, break_form, breakpoint_place_field, place_field, is_no_symbol, missing_symbol, refusal_line, in_words, echoed, extended_in, extended_line, steps_in};
 
 use crate::command::{Breakpoint, Command, ParsedLine};
 use crate::fields::{channel_in, count_in};
@@ -33,6 +33,15 @@ pub const MOST_LINKS: u64 = 999;
 
 /// How many links `why` tells where none is named.
 const USUAL_LINKS: u64 = 16;
+
+/// Whether `why` tells the INDEX that moved an operand.
+#[derive(Clone, Copy, PartialEq, Eq, Debug)]
+pub enum IndexLines {
+    /// It does not.
+    Omitted,
+    /// In a line after that of the step.
+    Told,
+}
 
 /// What a line of an extended session asks for.
 #[derive(Drop)]
@@ -60,9 +69,9 @@ pub enum ExtendedLine {
     /// All registers, with what waits and what is asked for.
     AllRegisters,
     /// What the step did that led to the position.
-    WhyStep,
+    WhyStep(IndexLines),
     /// How the word of something came to be what it is, by at most so many steps.
-    Why(Subject, u64),
+    Why(Subject, u64, IndexLines),
     /// The words from a place on, at most so many.
     Words(Linear, u64),
     /// The inputs that were added.
@@ -248,33 +257,68 @@ fn why_form(symbols: &Symbols, rest: &[u8]) -> Option<ExtendedLine>
     requires { All (λ field. length field ≤ 80) (texts (runs rest.now)) }
     ensures { result ≡ why_form symbols.now (texts (runs rest.now)) }
 {
-    let Some((field, more)) = split_field(rest) else {
-        return Some(ExtendedLine::WhyStep);
-    };
+    match index_in(rest) {
+        Some(lines) => Some(ExtendedLine::WhyStep(lines)),
+        None => why_place(symbols, rest),
+    }
+}
+
+// `why` of an erasable place or a channel.
+fn why_place(symbols: &Symbols, rest: &[u8]) -> Option<ExtendedLine>
+    requires { All (λ field. length field ≤ 80) (texts (runs rest.now)) }
+    ensures { result ≡ why_place symbols.now (texts (runs rest.now)) }
+{
+    let (field, more) = split_field(rest)?;
     match why_of(place_subject(symbols, rest), after_place(rest)) {
         Some(request) => Some(request),
         None => why_of(channel_subject(symbols, field), more),
     }
 }
 
-// `why` of a subject, followed by a number of links or by nothing.
+// `why` of a subject, followed by a number of links, by `index`, by both or by nothing.
 fn why_of(subject: Option<Subject>, rest: &[u8]) -> Option<ExtendedLine>
     requires { All (λ field. length field ≤ 80) (texts (runs rest.now)) }
     ensures { result ≡ why_of subject (texts (runs rest.now)) }
 {
     let subject = subject?;
-    let links = links_in(rest)?;
-    Some(ExtendedLine::Why(subject, links))
+    let (links, lines) = links_in(rest)?;
+    Some(ExtendedLine::Why(subject, links, lines))
 }
 
-// A number of links, or none.
-fn links_in(rest: &[u8]) -> Option<u64>
+// A number of links or none, and whether the lines of INDEX are told.
+fn links_in(rest: &[u8]) -> Option<(u64, IndexLines)>
     requires { All (λ field. length field ≤ 80) (texts (runs rest.now)) }
     ensures links { result ≡ links_in (texts (runs rest.now)) }
 {
-    match split_field(rest) {
-        None => Some(USUAL_LINKS),
-        Some(_) => sole(rest).and_then(few_in),
+    match index_in(rest) {
+        Some(lines) => Some((USUAL_LINKS, lines)),
+        None => counted_links(rest),
+    }
+}
+
+// A number of links, and whether the lines of INDEX are told.
+fn counted_links(rest: &[u8]) -> Option<(u64, IndexLines)>
+    requires { All (λ field. length field ≤ 80) (texts (runs rest.now)) }
+    ensures links { result ≡ counted_links (texts (runs rest.now)) }
+{
+    let (field, more) = split_field(rest)?;
+    let links = few_in(field)?;
+    let lines = index_in(more)?;
+    Some((links, lines))
+}
+
+// Whether the lines of INDEX are told: the word `index`, or no field.
+fn index_in(rest: &[u8]) -> Option<IndexLines>
+    requires { All (λ field. length field ≤ 80) (texts (runs rest.now)) }
+    ensures { result ≡ index_in (texts (runs rest.now)) }
+{
+    if split_field(rest).is_none() {
+        return Some(IndexLines::Omitted);
+    }
+    match sole(rest) {
+        Some(field) if field == "index".as_bytes() => Some(IndexLines::Told),
+        Some(_) => None,
+        None => None,
     }
 }
 

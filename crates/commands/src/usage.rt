@@ -79,7 +79,7 @@ const ROWS: [Row; 30] = [
     ),
     (
         "why",
-        "nothing, a place, or a place and a count",
+        "[PLACE [K]] [index]",
         "the steps that made the word there, last first",
     ),
     (

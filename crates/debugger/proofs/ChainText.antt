@@ -15,7 +15,8 @@ use Rattle.cpu.specs.declared.spot.Spot.{Spot}
 use Rattle.cpu.specs.declared.spot.Spot.TheVariants.{Cell, InRope}
 use Rattle.cpu.proofs.Chaining.{own_source}
 use Rattle.replay.specs.Whys.{and_then, last_writer, why_steps}
-use Rattle.debugger.specs.Whys.{CellSet, those_in, left_in, has_spot, with_spots, reads, with_cells, cells_before, link_line, chain_text, end_from, chained_text, why_text}
+use Rattle.commands.specs.declared.extended.IndexLines.{IndexLines}
+use Rattle.debugger.specs.Whys.{CellSet, those_in, left_in, has_spot, with_spots, reads, with_cells, cells_before, link_lines, chain_text, end_from, chained_text, why_text}
 
 -- whether a cell is among some spots
 has_cell : List Spot → ℕ → Bool
@@ -267,21 +268,21 @@ read_more k cs i c old new whole within is read so_far =
     ∙ so_far
 
 -- the text of a chain
-module _ (symbols : SymbolTable) (scenario : Scenario) (p : ℕ) (xs : List Spot) where
-  pub why_zero : why_text symbols scenario 0 p xs ≡ end_from symbols true xs
+module _ (symbols : SymbolTable) (scenario : Scenario) (lines : IndexLines) (p : ℕ) (xs : List Spot) where
+  pub why_zero : why_text symbols scenario lines 0 p xs ≡ end_from symbols true xs
   unfolding why_text why_steps
   why_zero = refl
 
-  pub why_none : (k : ℕ) → last_writer scenario xs p ≡ None → why_text symbols scenario (suc k) p xs ≡ end_from symbols false xs
+  pub why_none : (k : ℕ) → last_writer scenario xs p ≡ None → why_text symbols scenario lines (suc k) p xs ≡ end_from symbols false xs
   unfolding why_text why_steps
   why_none k none =
       let short : (0 == suc k) ≡ false = grind (arith, nat_tests) in
-      ap (λ (o : Option ℕ). chained_text symbols scenario (suc k) xs (and_then o (λ t. why_steps scenario k t (before_step scenario t xs)))) none
+      ap (λ (o : Option ℕ). chained_text symbols scenario lines (suc k) xs (and_then o (λ t. why_steps scenario k t (before_step scenario t xs)))) none
       ∙ ap (λ b. end_from symbols b xs) short
 
-  pub why_some : (k t : ℕ) → last_writer scenario xs p ≡ Some t → why_text symbols scenario (suc k) p xs ≡ link_line symbols scenario t xs ++ why_text symbols scenario k t (before_step scenario t xs)
+  pub why_some : (k t : ℕ) → last_writer scenario xs p ≡ Some t → why_text symbols scenario lines (suc k) p xs ≡ link_lines symbols scenario lines t xs ++ why_text symbols scenario lines k t (before_step scenario t xs)
   unfolding why_text why_steps
   why_some k t some =
       let ts = why_steps scenario k t (before_step scenario t xs) in
       let one : (suc (length ts) == suc k) ≡ (length ts == k) = grind (arith, nat_tests) in
-      rw (some, one) (append_assoc (link_line symbols scenario t xs) (chain_text symbols scenario (before_step scenario t xs) ts) _)
+      rw (some, one) (append_assoc (link_lines symbols scenario lines t xs) (chain_text symbols scenario lines (before_step scenario t xs) ts) _)

@@ -3,6 +3,7 @@ pub mod StopLemmas
 pub mod ChainText
 pub mod CellNumbers
 pub mod WhyLines
+pub mod Indexing
 pub mod PartByPart
 pub mod Standings
 pub mod Based

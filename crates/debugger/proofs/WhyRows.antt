@@ -1,8 +1,24 @@
 -- Lines of `why`, worked out by hand.
-use Rattle.std.proofs.Common.{◌≡◌, ℕ, Bool, List, ◌++◌, None, Some, refl}
-use Rattle.std.specs.Prelude.{codes, nat_le, ◌&&◌, ◌||◌}
+use Rattle.std.proofs.Common.{◌≡◌, ℕ, Bool, false, true, List, [], ◌∷◌, ◌++◌, Option, None, Some, refl}
+use Rattle.std.specs.Prelude.{codes, nat_le, ◌==◌, ◌&&◌, ◌||◌, if◌then◌else◌}
 use Rattle.std.specs.Fmt.{digits}
-use Rattle.debugger.specs.Whys.{entered_mark, mark_by, by_line}
+use Rattle.words.specs.Numerals.{octal_text}
+use Rattle.words.specs.declared.wide.Overflow.TheVariants.{No}
+use Rattle.space.specs.Places.{place}
+use Rattle.space.specs.declared.place.Linear.TheVariants as linear
+use Rattle.feed.specs.declared.input.Input.TheVariants as input
+use Rattle.cpu.specs.State.{start}
+use Rattle.cpu.specs.Codes.{basic_rows, extracode_rows, code_of}
+use Rattle.cpu.specs.Effects.{place_in}
+use Rattle.cpu.specs.Links.{Link}
+use Rattle.cpu.specs.Links.Link.{Takes, Enters, Executes}
+use Rattle.cpu.specs.Beside.{is_instruction}
+use Rattle.cpu.specs.declared.next_step.NextStep.{NextStep}
+use Rattle.cpu.specs.declared.next_step.NextStep.TheVariants as next
+use Rattle.cpu.specs.declared.spot.Spot.{Spot}
+use Rattle.cpu.specs.declared.spot.Spot.TheVariants.{Cell, InRope}
+use Rattle.replay.specs.LastHit.{last_hit}
+use Rattle.debugger.specs.Whys.{entered_mark, mark_by, by_line, added_by, operand_spots, index_by}
 
 -- the interrupts of a run: step 18 enters one, which RESUME leaves as step 21, and step 30 another, which is served still
 abbrev inside : ℕ → Bool
@@ -22,3 +38,38 @@ lines : by_line 20 (codes "ADS TICKS") (codes " A 000001") (codes " A 000001 TIC
     ≡ codes "BY 20 ADS TICKS : A 000001 FROM A 000001 TICKS 00000 IN 18\nBY 22 TS SUM : SUM 00001 FROM A 000001\n"
 unfolding digits
 lines = refl
+
+-- the line of an INDEX, with the sum as an offset of a source: 1, 0, and in ones' complement -2 and -0
+moved : index_by 34 (codes "INDEX COUNT") 1 (codes " COUNT 00001") ++ index_by 41 (codes "INDEX COUNT") 0 (codes " COUNT 00000") ++ index_by 9 (codes "INDEX L") 0o177775 (codes " L 77775") ++ index_by 10 (codes "INDEX 0007") 0o177777 (codes " NOTHING")
+    ≡ codes "INDEX 34 INDEX COUNT : +1 FROM COUNT 00001\nINDEX 41 INDEX COUNT : +0 FROM COUNT 00000\nINDEX 9 INDEX L : -2 FROM L 77775\nINDEX 10 INDEX 0007 : -0 FROM NOTHING\n"
+unfolding digits octal_text
+moved = refl
+
+-- an instruction that is executed while a sum waits; an input that is taken meanwhile is not moved
+abbrev executes : Bool → ℕ → Option ℕ → NextStep
+executes extra word added = next.Executes (record { place = linear.Fixed 2 0; word = word; extra = extra; waited = false; added = added })
+
+added : added_by (executes false 0o64122 (Some 1)) ∷ added_by (executes false 0o64122 None) ∷ added_by (next.Takes (input.Interrupt 5)) ∷ added_by (next.Enters 3) ∷ [] ≡ Some 1 ∷ None ∷ None ∷ None ∷ []
+added = refl
+
+-- what INDEX reads: of INDEX 100 the cell, of INDEX 4122 under extracode the place of fixed memory, of INDEX BB two cells, of INDEX 7
+-- none
+abbrev read : Bool → ℕ → List Spot
+read extra word = operand_spots start (executes extra word None)
+
+operands : read false 0o50100 ++ read true 0o54122 ++ read false 0o50006 ++ read false 0o50007 ≡ Cell 0o100 ∷ InRope 2 0o122 ∷ Cell 4 ∷ Cell 3 ∷ []
+unfolding basic_rows extracode_rows code_of place_in place
+operands = refl
+
+-- the last instruction before so many steps, where step 3 enters an interrupt and step 6 takes an input
+abbrev steps : ℕ → Link
+steps t =
+    if t == 2 then Enters 3 0o4000 (linear.Fixed 2 0)
+    else if t == 5 then Takes (input.Interrupt 5) false
+    else Executes 0o4000 (code_of false 0o50100) false 0 0 false No
+
+abbrev last : ℕ → Option ℕ
+last p = last_hit (λ t. is_instruction (steps t)) p
+
+instructions : last 7 ∷ last 6 ∷ last 5 ∷ last 3 ∷ last 0 ∷ [] ≡ Some 6 ∷ Some 4 ∷ Some 4 ∷ Some 1 ∷ None ∷ []
+instructions = refl

@@ -6,6 +6,8 @@ use Rattle.cpu.specs.State.{Scenario}
 use Rattle.symbols.specs.Values.{SymbolTable}
 use Rattle.commands.specs.Commands.{parsed_line}
 use Rattle.commands.specs.Extended.{extended_line}
+use Rattle.commands.specs.declared.extended.IndexLines.{IndexLines}
+use Rattle.commands.specs.declared.extended.IndexLines.TheVariants.{Omitted, Told}
 use Rattle.commands.specs.declared.extended.ExtendedLine.{ExtendedLine}
 use Rattle.commands.specs.declared.extended.ExtendedLine.TheVariants.{Plain, Common, Says, Help, Breaks, ClearOne, On, AllRegisters, Until, WhyStep, Why, Words, Where, Find, Trace, Inputs, Over, Out, Listed, Values}
 use Rattle.commands.specs.declared.command.ParsedLine.TheVariants.{Known}
@@ -52,8 +54,8 @@ is_end (ClearOne i) = false
 is_end (On k) = false
 is_end (Until cycles) = false
 is_end AllRegisters = false
-is_end WhyStep = false
-is_end (Why subject k) = false
+is_end (WhyStep lines) = false
+is_end (Why subject k lines) = false
 is_end (Words place k) = false
 is_end Where = false
 is_end (Find text) = false
@@ -80,11 +82,15 @@ unfoldable pub lines_heard : Reading → List (List ℕ) → List (List ℕ)
 lines_heard read [] = []
 lines_heard read (line ∷ more) = line ∷ (if is_end (read line) then [] else lines_heard read more)
 
--- how many times the steps that were made a request executes, at most, besides new ones: of `why` each link six times, and
--- its last search once, or five times of one step; of `where` and `out` four times
+-- how many times the steps that were made a link of `why` executes, at most
+abbrev pub link_effort : IndexLines → ℕ
+link_effort Omitted = 6
+link_effort Told = 9
+
+-- how many times a request does, besides new ones: of `why` each link, and its last search once; of `where` and `out` four times
 abbrev pub effort : ExtendedLine → ℕ
-effort (Why subject k) = 6 * k + 1
-effort WhyStep = 5
+effort (WhyStep lines) = link_effort lines
+effort (Why subject k lines) = link_effort lines * k + 1
 effort Where = 4
 effort (Out k) = 4
 effort request = 3

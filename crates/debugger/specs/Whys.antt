@@ -1,5 +1,5 @@
 -- How a word came to be what it is, as text: the steps of a chain, the last first, each with what it wrote and what it read.
-use Rattle.std.specs.Prelude.{ℕ, suc, zero, ◌+◌, ◌==◌, ◌&&◌, ◌||◌, not, Bool, Option, None, Some, true, false, List, [], ◌∷◌, ◌++◌, map, filter, length, unwrap_or, codes, decimal, if◌then◌else◌}
+use Rattle.std.specs.Prelude.{ℕ, suc, zero, ◌+◌, ◌==◌, ◌&&◌, ◌||◌, not, Bool, true, false, Option, None, Some, List, [], ◌∷◌, ◌++◌, map, filter, length, unwrap_or, codes, decimal, if◌then◌else◌}
 use Rattle.std.specs.List.{flat_map, range_with_len}
 use Rattle.std.specs.Ordering.{nat_cmp}
 use Rattle.std.specs.FinSet as set
@@ -10,7 +10,11 @@ use Rattle.rope.specs.Places.{Words, word_at}
 use Rattle.symbols.specs.Values.{SymbolTable}
 use Rattle.cpu.specs.State.{State, Scenario, start}
 use Rattle.cpu.specs.Run.{run}
-use Rattle.cpu.specs.Links.{Link, targets, sources, place_spots, channel_spots}
+use Rattle.cpu.specs.Codes.{code_of}
+use Rattle.cpu.specs.Effects.{place_in}
+use Rattle.cpu.specs.Operands.{address_of}
+use Rattle.cpu.specs.Links.{Link, targets, sources, spots, place_spots, channel_spots}
+use Rattle.cpu.specs.Beside.{is_instruction}
 use Rattle.cpu.specs.Chains.{cells_among, link_at, before_step, chain_origins}
 use Rattle.cpu.specs.NextStep.{next_step}
 use Rattle.cpu.specs.declared.spot.Spot.{Spot}
@@ -19,7 +23,9 @@ use Rattle.cpu.specs.declared.next_step.NextStep.{NextStep}
 use Rattle.cpu.specs.declared.next_step.NextStep.TheVariants.{Takes, Enters, Executes}
 use Rattle.replay.specs.LastHit.{last_hit}
 use Rattle.replay.specs.Whys.{why_steps}
-use Rattle.trace.specs.TraceLines.{cell_name, cell_reading, fetched_text, input_text, place_name}
+use Rattle.trace.specs.TraceLines.{added_text, cell_name, cell_reading, fetched_text, input_text, place_name}
+use Rattle.commands.specs.declared.extended.IndexLines.{IndexLines}
+use Rattle.commands.specs.declared.extended.IndexLines.TheVariants.{Omitted, Told}
 use Rattle.commands.specs.declared.subject.Subject.{Subject}
 use Rattle.commands.specs.declared.subject.Subject.TheVariants.{Place, Channel}
 use Rattle.debugger.specs.Replies.{line}
@@ -148,10 +154,60 @@ step_line symbols scenario t cs =
 abbrev pub link_line : SymbolTable → Scenario → ℕ → List Spot → List ℕ
 link_line symbols scenario t xs = step_line symbols scenario t (those_in (targets (link_at scenario t)) (cells_among xs))
 
--- the lines of a chain from some spots
-abbrev pub chain_text : SymbolTable → Scenario → List Spot → List ℕ → List ℕ
-chain_text symbols scenario xs [] = []
-chain_text symbols scenario xs (t ∷ ts) = link_line symbols scenario t xs ++ chain_text symbols scenario (before_step scenario t xs) ts
+-- what INDEX added to the instruction of a step
+abbrev pub added_by : NextStep → Option ℕ
+added_by (Takes input) = None
+added_by (Enters k) = None
+added_by (Executes f) = f.added
+
+-- the last step before p steps that executed an instruction. Where a sum waits after p steps, it is the INDEX that left this: an
+-- instruction uses up what waits, no interrupt is entered meanwhile, and an input that is taken leaves it
+abbrev pub last_executed : Scenario → ℕ → Option ℕ
+last_executed scenario p = last_hit (λ t. is_instruction (link_at scenario t)) p
+
+-- what a search for it finds of a step
+abbrev pub instruction_found : Link → Option ℕ
+instruction_found k = if is_instruction k then Some 0 else None
+
+-- what stands at the place that the instruction of a step names, which INDEX leaves as the sum
+abbrev pub named_spots : State → Option ℕ → List Spot
+named_spots s None = []
+named_spots s (Some k) = spots (place_in s k)
+
+abbrev pub operand_spots : State → NextStep → List Spot
+operand_spots s (Takes input) = []
+operand_spots s (Enters k) = []
+operand_spots s (Executes f) = named_spots s (address_of (code_of f.extra f.word))
+
+abbrev pub operand_part : SymbolTable → Scenario → State → List ℕ
+operand_part symbols scenario before = reads_part symbols scenario.rope before (operand_spots before (next_step scenario before))
+
+-- the line of an INDEX, by the number of its step, what this is, the sum that it left and what it read
+abbrev pub index_by : ℕ → List ℕ → ℕ → List ℕ → List ℕ
+index_by number kind sum read = line (codes "INDEX " ++ decimal number ++ codes " " ++ kind ++ codes " :" ++ added_text (Some sum) ++ codes " FROM" ++ read)
+
+abbrev pub index_line : SymbolTable → Scenario → ℕ → Option ℕ → List ℕ
+index_line symbols scenario sum None = []
+index_line symbols scenario sum (Some t) = index_by (t + 1) (kind_part symbols scenario (run scenario t)) sum (operand_part symbols scenario (run scenario t))
+
+-- the line of the INDEX that moved the operand of the step after t steps, if one did
+abbrev pub moved_line : SymbolTable → Scenario → ℕ → Option ℕ → List ℕ
+moved_line symbols scenario t None = []
+moved_line symbols scenario t (Some sum) = index_line symbols scenario sum (last_executed scenario t)
+
+-- the same, where it is to be told
+abbrev pub index_part : SymbolTable → Scenario → IndexLines → ℕ → List ℕ
+index_part symbols scenario Omitted t = []
+index_part symbols scenario Told t = moved_line symbols scenario t (added_by (next_step scenario (run scenario t)))
+
+-- the lines of a step
+abbrev pub link_lines : SymbolTable → Scenario → IndexLines → ℕ → List Spot → List ℕ
+link_lines symbols scenario lines t xs = link_line symbols scenario t xs ++ index_part symbols scenario lines t
+
+-- those of a chain from some spots
+abbrev pub chain_text : SymbolTable → Scenario → IndexLines → List Spot → List ℕ → List ℕ
+chain_text symbols scenario lines xs [] = []
+chain_text symbols scenario lines xs (t ∷ ts) = link_lines symbols scenario lines t xs ++ chain_text symbols scenario lines (before_step scenario t xs) ts
 
 -- how it ends, by whether it was cut short and which cells are left: all of them were told; more may be; or what is left was
 -- never written since the start, and is told with what it held there
@@ -165,17 +221,17 @@ abbrev pub end_from : SymbolTable → Bool → List Spot → List ℕ
 end_from symbols cut xs = end_text symbols cut (cells_of (cells_among xs))
 
 -- how what stands at some spots after p steps came to be, by at most k steps, which are a chain (`why_is_chain`)
-abbrev pub chained_text : SymbolTable → Scenario → ℕ → List Spot → List ℕ → List ℕ
-chained_text symbols scenario k xs ts = chain_text symbols scenario xs ts ++ end_from symbols (length ts == k) (chain_origins scenario xs ts)
+abbrev pub chained_text : SymbolTable → Scenario → IndexLines → ℕ → List Spot → List ℕ → List ℕ
+chained_text symbols scenario lines k xs ts = chain_text symbols scenario lines xs ts ++ end_from symbols (length ts == k) (chain_origins scenario xs ts)
 
-unfoldable pub why_text : SymbolTable → Scenario → ℕ → ℕ → List Spot → List ℕ
-why_text symbols scenario k p xs = chained_text symbols scenario k xs (why_steps scenario k p xs)
+unfoldable pub why_text : SymbolTable → Scenario → IndexLines → ℕ → ℕ → List Spot → List ℕ
+why_text symbols scenario lines k p xs = chained_text symbols scenario lines k xs (why_steps scenario k p xs)
 
 -- the spots that a step writes
 abbrev pub target_spots : Scenario → ℕ → List Spot
 target_spots scenario t = map (λ c. Cell c) (targets (link_at scenario t))
 
 -- what the step did that led to p steps
-unfoldable pub last_text : SymbolTable → Scenario → ℕ → List ℕ
-last_text symbols scenario zero = line (codes "START")
-last_text symbols scenario (suc t) = chained_text symbols scenario 1 (target_spots scenario t) (t ∷ [])
+unfoldable pub last_text : SymbolTable → Scenario → IndexLines → ℕ → List ℕ
+last_text symbols scenario lines zero = line (codes "START")
+last_text symbols scenario lines (suc t) = chained_text symbols scenario lines 1 (target_spots scenario t) (t ∷ [])

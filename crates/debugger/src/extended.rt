@@ -61,9 +61,9 @@ impl Desk {
             ExtendedLine::On(steps) => self.go_on(session, *steps, out),
             ExtendedLine::Until(cycles) => self.until(session, *cycles, out),
             ExtendedLine::AllRegisters => { write_all(out, self.all_registers(session).as_slice()) }
-            ExtendedLine::WhyStep => self.why_step(session, symbols, out),
-            ExtendedLine::Why(subject, links) => {
-                self.why(session, symbols, *subject, *links, out)
+            ExtendedLine::WhyStep(lines) => self.why_step(session, symbols, *lines, out),
+            ExtendedLine::Why(subject, links, lines) => {
+                self.why(session, symbols, *subject, *links, *lines, out)
             }
             ExtendedLine::Words(place, count) => {
                 write_all(out, self.words(session, place, *count).as_slice())

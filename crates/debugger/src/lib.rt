@@ -13,6 +13,7 @@ mod executing;
 mod extended;
 mod fault;
 mod growing;
+mod index_lines;
 mod inputs;
 mod laws;
 mod link_texts;

@@ -199,7 +199,8 @@ pub(crate) fn by_line(
     mark: &Piece,
 ) -> LinkLine
     requires { array_vec_len mark.now ≤ 24 }
-    ensures { result.items ≡ by_line number kind.now.items cells.now.items reads.now.items mark.now.items }
+    ensures items { result.items ≡ by_line number kind.now.items cells.now.items reads.now.items mark.now.items }
+    ensures short { array_vec_len result ≤ 2048 }
 {
     let mut line = ArrayVec::new();
     push_all(&mut line, b"BY ");

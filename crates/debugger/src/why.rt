@@ -3,26 +3,29 @@
 ghost use Rattle.std.specs.Prelude.{◌≡◌, List, ◌+◌, ◌-◌, ◌*◌, ◌<◌, ◌≤◌, ◌++◌, ◌^◌, true};
 ghost use Rattle.arrayvec.specs.ArrayVec.{array_vec_len};
 ghost use Rattle.words.specs.Devices.{Writes, failures_after};
+ghost use Rattle.cpu.specs.NextStep.{next_step};
 ghost use Rattle.cpu.specs.Run.{run};
 ghost use Rattle.cpu.specs.Chains.{cells_among, link_at, before_step};
 ghost use Rattle.std.specs.FinSet.{empty};
 ghost use Rattle.cpu.specs.Links.{targets, place_spots};
 ghost use Rattle.cpu.specs.declared.spot.Spot.{Spot};
-ghost use Rattle.debugger.specs.Whys.{why_text, last_text, link_line, subject_spots, target_spots, kind_part, cells_part, reads_part, mark_part, reads, those_in, cells_before};
+ghost use Rattle.debugger.specs.Whys.{why_text, last_text, link_lines, subject_spots, target_spots, kind_part, cells_part, reads_part, mark_part, reads, added_by, those_in, cells_before};
+ghost use Rattle.debugger.specs.Conversation.{link_effort};
 ghost use Rattle.debugger.specs.Executions.{HasLooked};
 
 use crate::desk::Desk;
+use crate::index_lines::{IndexLine, added_by, index_part};
 use crate::link_texts::{
     LinkLine, Part, Piece, by_line, cells_part, end_text, entered_mark, kind_part, reads_part,
 };
 use crate::links::{Link, Targets, all_among, link_of};
 use arrayvec::ArrayVec;
-use commands::Subject;
+use commands::{IndexLines, Subject};
 use cpu::{Cell, CellSet};
 use replay::{Keeper, Session};
 use space::{Chan, Eras};
 use symbols::Symbols;
-use words::{Write, WriteFailed, write_all};
+use words::{Wide, Write, WriteFailed, push_all, write_all};
 
 impl Desk {
     /// `why` of something: how the word there came to be what it is at the position, by at most so many steps.
@@ -32,11 +35,12 @@ impl Desk {
         symbols: &Symbols,
         subject: Subject,
         links: u64,
+        lines: IndexLines,
         out: &mut W,
     ) -> Result<(), WriteFailed>
         requires { self.now.position ≤ session.old.n }
-        ensures writes { W.told ≡ true → Writes (W.written out.old) (W.written out.new) (why_text symbols.now session.old.scenario links self.now.position (subject_spots subject)) result }
-        ensures looked { HasLooked session.old session.new ((6 * links + 1) * session.old.n) }
+        ensures writes { W.told ≡ true → Writes (W.written out.old) (W.written out.new) (why_text symbols.now session.old.scenario lines links self.now.position (subject_spots subject)) result }
+        ensures looked { HasLooked session.old session.new ((link_effort lines * links + 1) * session.old.n) }
         ensures failures { W.failures out.new ≡ failures_after (W.failures out.old) result }
     {
         let mut pending = subject_cells(subject);
@@ -48,7 +52,7 @@ impl Desk {
             };
             write_all(
                 out,
-                link_line(session, symbols, step, &mut pending).as_slice(),
+                link_lines(session, symbols, lines, step, &mut pending).as_slice(),
             )?;
             before = step;
             left -= 1;
@@ -62,11 +66,12 @@ impl Desk {
         &self,
         session: &mut Session<K>,
         symbols: &Symbols,
+        lines: IndexLines,
         out: &mut W,
     ) -> Result<(), WriteFailed>
         requires { self.now.position ≤ session.old.n }
-        ensures writes { W.told ≡ true → Writes (W.written out.old) (W.written out.new) (last_text symbols.now session.old.scenario self.now.position) result }
-        ensures looked { HasLooked session.old session.new (5 * session.old.n) }
+        ensures writes { W.told ≡ true → Writes (W.written out.old) (W.written out.new) (last_text symbols.now session.old.scenario lines self.now.position) result }
+        ensures looked { HasLooked session.old session.new (link_effort lines * session.old.n) }
         ensures failures { W.failures out.new ≡ failures_after (W.failures out.old) result }
     {
         if self.position == 0 {
@@ -76,7 +81,7 @@ impl Desk {
         let mut pending = cells_written(session, step);
         write_all(
             out,
-            link_line(session, symbols, step, &mut pending).as_slice(),
+            link_lines(session, symbols, lines, step, &mut pending).as_slice(),
         )?;
         write_all(out, end_text(symbols, true, &pending).as_slice())
     }
@@ -127,25 +132,45 @@ struct Begun {
     cells: Targets,
     reads: Part,
     inside: bool,
+    added: Option<Wide>,
 }
 
-/// The line of the step after so many, of some cells that are followed. Those from which these come are followed on.
-fn link_line<K: Keeper>(
+/// The most bytes of the lines of a step.
+const LINK_LINES: usize = 3_104;
+
+/// The lines of a step.
+type LinkLines = ArrayVec<u8, LINK_LINES>;
+
+/// The lines of the step after so many, of some cells that are followed. Those from which these come are followed on.
+fn link_lines<K: Keeper>(
     session: &mut Session<K>,
     symbols: &Symbols,
+    lines: IndexLines,
     step: u64,
     pending: &mut CellSet,
-) -> LinkLine
+) -> LinkLines
     requires within { step < session.old.n }
     requires fits { step + 1 < 2 ^ 64 }
-    ensures line { (xs : List Spot) → pending.old ≡ cells_among xs → result.items ≡ link_line symbols.now session.old.scenario step xs }
+    ensures lines { (xs : List Spot) → pending.old ≡ cells_among xs → result.items ≡ link_lines symbols.now session.old.scenario lines step xs }
     ensures pending { (xs : List Spot) → pending.old ≡ cells_among xs → pending.new ≡ cells_among (before_step session.old.scenario step xs) }
-    ensures looked { HasLooked session.old session.new (2 * (session.old.n - step) + 2 * session.old.n) }
+    ensures looked { HasLooked session.old session.new (2 * (session.old.n - step) + (link_effort lines - 4) * session.old.n) }
 {
     let begun = begun_at(session, symbols, step, pending);
     let cells = cells_after(session, symbols, step + 1, &begun.cells);
     let mark = mark_part(session, step, begun.inside);
-    by_line(step + 1, &begun.kind, &cells, &begun.reads, &mark)
+    let line = by_line(step + 1, &begun.kind, &cells, &begun.reads, &mark);
+    let index = index_part(session, symbols, lines, step, begun.added);
+    both(&line, &index)
+}
+
+/// One line after another.
+fn both(line: &LinkLine, more: &IndexLine) -> LinkLines
+    ensures { result.items ≡ line.now.items ++ more.now.items }
+{
+    let mut text = ArrayVec::new();
+    push_all(&mut text, line.as_slice());
+    push_all(&mut text, more.as_slice());
+    text
 }
 
 /// What is told of the step after so many before it is made.
@@ -161,6 +186,7 @@ fn begun_at<K: Keeper>(
     ensures cells { result.cells.items ≡ those_in (targets (link_at session.old.scenario step)) pending.old }
     ensures reads { result.reads.items ≡ reads_part symbols.now session.old.scenario.rope (run session.old.scenario step) (reads (link_at session.old.scenario step) result.cells.items) }
     ensures inside { result.inside ≡ (run session.old.scenario step).inside }
+    ensures added { result.added ≡ added_by (next_step session.old.scenario (run session.old.scenario step)) }
     ensures pending { pending.new ≡ cells_before (link_at session.old.scenario step) pending.old }
     ensures looked { HasLooked session.old session.new (session.old.n - step) }
 {
@@ -172,6 +198,7 @@ fn begun_at<K: Keeper>(
                 reads: reads_part(symbols, processor, machine, spots.as_slice()),
                 cells,
                 inside: machine.inside(),
+                added: added_by(processor, machine),
             }
         }
         Err(_) => unreachable!(),

@@ -12,5 +12,5 @@ pub use fields::{StepFields, Text, decimal_text, place_text};
 pub use inputs::{input_text, interrupt_name};
 pub use line::trace_step;
 pub use names::{Names, PlaceNames, place_name};
-pub use steps::{entry_place, fetched_text, what_text};
+pub use steps::{added_text, entry_place, fetched_text, what_text};
 pub use written::{cell_name, cell_reading};

@@ -151,6 +151,16 @@ fn push_operand<N: Names>(text: &mut Text, names: &N, machine: &Machine, address
     }
 }
 
+/// The sum that INDEX left, as an offset of a source.
+pub fn added_text(added: Option<Wide>) -> Text
+    ensures items { result.items ≡ added_text added }
+    ensures short { array_vec_len result ≤ 7 }
+{
+    let mut text = ArrayVec::new();
+    push_added(&mut text, added);
+    text
+}
+
 /// Appends the sum that INDEX left, as an offset of a source: its sign, and its size in octal.
 fn push_added(text: &mut Text, added: Option<Wide>)
     requires { array_vec_len text.old ≤ 24 }

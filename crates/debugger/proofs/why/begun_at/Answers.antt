@@ -6,3 +6,6 @@ link_of-cells-requires g c = fits_at _ c.args.session.now.scenario c.args.step _
 
 pub kind_part-requires : goal.kind_part-requires
 kind_part-requires g c = fits_at _ c.args.session.now.scenario c.args.step _ c.in-Ok.ensures.processor c.in-Ok.ensures.shown
+
+pub added_by-requires : goal.added_by-requires
+added_by-requires g c = fits_at _ c.args.session.now.scenario c.args.step _ c.in-Ok.ensures.processor c.in-Ok.ensures.shown

@@ -63,13 +63,13 @@ pub returns-in-WhyStep-clause-executes : goal.returns-in-WhyStep-clause-executes
 unfolding extended_reply
 returns-in-WhyStep-clause-executes g c = λ told.
     let looked = c.why_step.ensures.looked in
-    rw c.in-WhyStep.is (replies-text g.K.Keeper.may_refuse (to_asked (terms c.args.symbols.now c.args.first_added) WhyStep) _ _ _ _ (last_text c.args.symbols.now c.args.session.now.scenario c.args.self.now.position) _ _ (λ answers additions. rw (looked.scenario, looked.steps) refl) refl (c.why_step.ensures.writes told))
+    rw c.in-WhyStep.is (replies-text g.K.Keeper.may_refuse (to_asked (terms c.args.symbols.now c.args.first_added) (WhyStep c.in-WhyStep.lines)) _ _ _ _ (last_text c.args.symbols.now c.args.session.now.scenario c.in-WhyStep.lines c.args.self.now.position) _ _ (λ answers additions. rw (looked.scenario, looked.steps) refl) refl (c.why_step.ensures.writes told))
 
 pub returns-in-Why-clause-executes : goal.returns-in-Why-clause-executes
 unfolding extended_reply
 returns-in-Why-clause-executes g c = λ told.
     let looked = c.why.ensures.looked in
-    rw c.in-Why.is (replies-text g.K.Keeper.may_refuse (to_asked (terms c.args.symbols.now c.args.first_added) (Why c.in-Why.subject c.in-Why.links)) _ _ _ _ (why_text c.args.symbols.now c.args.session.now.scenario c.in-Why.links c.args.self.now.position (subject_spots c.in-Why.subject)) _ _ (λ answers additions. rw (looked.scenario, looked.steps) refl) refl (c.why.ensures.writes told))
+    rw c.in-Why.is (replies-text g.K.Keeper.may_refuse (to_asked (terms c.args.symbols.now c.args.first_added) (Why c.in-Why.subject c.in-Why.links c.in-Why.lines)) _ _ _ _ (why_text c.args.symbols.now c.args.session.now.scenario c.in-Why.lines c.in-Why.links c.args.self.now.position (subject_spots c.in-Why.subject)) _ _ (λ answers additions. rw (looked.scenario, looked.steps) refl) refl (c.why.ensures.writes told))
 
 pub returns-in-Words-clause-executes : goal.returns-in-Words-clause-executes
 unfolding extended_reply
