@@ -29,10 +29,17 @@ use Rattle.cpu.proofs.FiveRun.{five, five_words}
 use Rattle.symbols.specs.declared.values.Value.TheVariants.{Num, Erasable, Fixed}
 use Rattle.symbols.specs.Values.{SymbolTable}
 use Rattle.space.specs.Places.{window}
-use Rattle.yayul.specs.Listing.{place_text}
+use Rattle.agc_text.specs.Lines.{lines}
+use Rattle.yayul.specs.Forms.{statement_of}
+use Rattle.yayul.specs.Layout.{line_effect}
+use Rattle.yayul.specs.Listing.{number_column, place_text, word_columns}
+use Rattle.yayul.specs.Operators.{operators}
+use Rattle.yayul.specs.PlaceRows.{no_source}
+use Rattle.yayul.specs.Program.{Source}
+use Rattle.yayul.specs.declared.language.Language.TheVariants.{Standard}
 use Rattle.trace.specs.TraceLines.{symbol_at}
 use Rattle.debugger.specs.Standing.{nearest_symbol, nearest_text, found_text, words_text, rows_text}
-use Rattle.debugger.specs.Rows.{based_text, list_row, numbers_text as numbers_row, row_text}
+use Rattle.debugger.specs.Rows.{based_text, list_row, plain_row, numbers_text as numbers_row, row_text}
 use Rattle.debugger.specs.declared.rows.RowKind.TheVariants.{Instruction, Number}
 use Rattle.commands.specs.Commands.{forms}
 use Rattle.commands.specs.Extended.{extended_line, extended_forms}
@@ -60,7 +67,7 @@ abbrev symbols : SymbolTable
 symbols = (codes "FIVE", Fixed 2 5) ∷ []
 
 abbrev session : List (List ℕ) → List ℕ
-session lines = conversation (terms_of symbols five) (extended_line symbols) (first_desk five [] []) lines
+session lines = conversation (terms_of symbols no_source five) (extended_line symbols) (first_desk five [] []) lines
 
 -- breakpoints are told, and taken away one by one; those that stay are numbered anew
 breakpoints : session (codes "breaks" ∷ codes "break at FIVE" ∷ codes "break word 101 75" ∷ codes "break chan 10 12" ∷ codes "break chan 10 12 77" ∷ codes "break exec FIVE" ∷ codes "break change 101" ∷ codes "break change CH10" ∷ codes "breaks" ∷ codes "clear 2" ∷ codes "clear 5" ∷ codes "clear 5" ∷ codes "clear 5" ∷ codes "clear 0" ∷ codes "breaks" ∷ codes "clear" ∷ codes "breaks" ∷ [])
@@ -80,7 +87,7 @@ at_step steps position breakpoints = record (first_desk five [] []) { steps = st
 
 -- what `on` is told there
 abbrev on : History → ℕ → ℕ → ℕ → List Breakpoint → List ℕ
-on h k steps position breakpoints = (extended_reply (terms_of symbols five) h (at_step steps position breakpoints) (On k)).text
+on h k steps position breakpoints = (extended_reply (terms_of symbols no_source five) h (at_step steps position breakpoints) (On k)).text
 
 -- over steps that stand, to the next at which a breakpoint holds, though one holds at the position too; and by so many at most
 on_what_stands : on (history five) 5 8 0 (Place (linear.Fixed 2 2) ∷ []) ++ on (history five) 5 8 2 (Place (linear.Fixed 2 2) ∷ []) ++ on (history five) 4 8 2 (Place (linear.Fixed 2 2) ∷ [])
@@ -125,7 +132,7 @@ changed_on_new_steps = ap (λ h. on h 9 3 2 (Changed (subject.Channel 8) ∷ [])
 
 -- the commands of any session tell the bank too, and other words as ever
 abbrev common : History → Command → List ℕ
-common h command = (extended_reply (terms_of symbols five) h (at_step 8 2 (Place (linear.Fixed 2 1) ∷ [])) (Common command)).text
+common h command = (extended_reply (terms_of symbols no_source five) h (at_step 8 2 (Place (linear.Fixed 2 1) ∷ [])) (Common command)).text
 
 commons : common (history five) (Goto 3) ++ common (history five) (Back 1) ++ common (history five) Seek ++ common (history five) (Goto 9) ++ common (history five) (Memory (linear.Fixed 2 5))
     ≡ ended (codes "AT 3 5 02,4003" ∷ codes "AT 1 2 02,4001" ∷ codes "HIT 1" ∷ codes "AT 1 2 02,4001" ∷ codes "E41 NOT YET" ∷ codes "MEM 00005" ∷ [])
@@ -171,7 +178,7 @@ waiting = refl
 
 -- what `until` is told where so many steps were made
 abbrev until : History → ℕ → ℕ → List ℕ
-until h cycles steps = (extended_reply (terms_of symbols five) h (at_step steps 1 []) (Until cycles)).text
+until h cycles steps = (extended_reply (terms_of symbols no_source five) h (at_step steps 1 []) (Until cycles)).text
 
 -- to the first step with so many cycles, back or on, over steps that stand
 until_what_stands : until (history five) 0 8 ++ until (history five) 1 8 ++ until (history five) 5 8 ++ until (history five) 6 8 ++ until (history five) 13 8
@@ -226,20 +233,36 @@ write_10 : named_text symbols 2 (code_of true 0o01010) (address_of (code_of true
 unfolding place_told symbol_at octal_text instruction_text extracode_rows code_of
 write_10 = refl
 
-row_by_symbol : (memory : Words) (seen : Sight) → extracode_at memory 2 0 ≡ false → word_at memory 2 0 ≡ 0o34005 → list_row symbols memory seen (linear.Fixed 2 0) ≡ codes "LIST 02,4000 34005 CA FIVE\n"
+row_by_symbol : (memory : Words) (seen : Sight) → extracode_at memory 2 0 ≡ false → word_at memory 2 0 ≡ 0o34005 → plain_row symbols memory seen (linear.Fixed 2 0) ≡ codes "LIST 02,4000 34005 CA FIVE\n"
 unfolding named_line octal_text place_text window
 row_by_symbol memory seen extra first = rw (instruction_is memory 2 0 0o34005 false (codes "CA FIVE") extra first ca_five, first) refl
 
-row_of_extracode : (memory : Words) (seen : Sight) → extracode_at memory 2 3 ≡ true → word_at memory 2 3 ≡ 0o01010 → list_row symbols memory seen (linear.Fixed 2 3) ≡ codes "LIST 02,4003 01010 WRITE 010\n"
+row_of_extracode : (memory : Words) (seen : Sight) → extracode_at memory 2 3 ≡ true → word_at memory 2 3 ≡ 0o01010 → plain_row symbols memory seen (linear.Fixed 2 3) ≡ codes "LIST 02,4003 01010 WRITE 010\n"
 unfolding named_line octal_text place_text window
 row_of_extracode memory seen extra fourth = rw (instruction_is memory 2 3 0o01010 true (codes "WRITE 010") extra fourth write_10, fourth) refl
 
 abbrev row : History → Linear → List ℕ
-row h place = row_text Instruction symbols (rope five_words) h (h.after 7) place
+row h place = row_text Instruction symbols no_source (rope five_words) h (h.after 7) place
 
 erasable_row : row (history five) (linear.Erasable 5) ++ row (history five) (linear.Erasable 0o1400) ≡ ended (codes "LIST E0,0005 04002" ∷ codes "LIST E3,1400 00000" ∷ [])
-unfolding place_text window octal_text
+unfolding lines place_text window octal_text
 erasable_row = ap (λ h. row h (linear.Erasable 5) ++ row h (linear.Erasable 0o1400)) history-five ∙ refl
+
+-- with a source the row of the listing: of fixed memory its word; of erasable memory the word that stands there at the position
+abbrev source : Source
+source = record { language = Standard; text = codes " SETLOC 4000\n CA FIVE\n AD FIVE\n SETLOC 5\nZREG ERASE +1\n" }
+
+row_of_ad : (memory : Words) (h : History) (seen : Sight) → word_at memory 2 1 ≡ 0o64005 → list_row symbols source memory h seen (linear.Fixed 2 1) ≡ codes "LIST     3 02,4001 64005   AD FIVE\n"
+unfolding runs operators statement_of line_effect lines number_column word_columns place_text window octal_text digits
+row_of_ad memory h seen second = rw second refl
+
+abbrev sourced : History → ℕ → Linear → List ℕ
+sourced h t place = row_text Instruction symbols source (rope five_words) h (h.after t) place
+
+sourced_rows : sourced (history five) 7 (linear.Erasable 5) ++ sourced (history five) 0 (linear.Erasable 5) ++ sourced (history five) 7 (linear.Erasable 6)
+    ≡ ended (codes "LIST     5 E0,0005 04002  ZREG ERASE +1" ∷ codes "LIST     5 E0,0005 04000  ZREG ERASE +1" ∷ codes "LIST E0,0006 00000" ∷ [])
+unfolding runs operators statement_of line_effect lines number_column place_text window octal_text digits
+sourced_rows = ap (λ h. sourced h 7 (linear.Erasable 5) ++ sourced h 0 (linear.Erasable 5) ++ sourced h 7 (linear.Erasable 6)) history-five ∙ refl
 
 -- words as numbers: both zeros, one and minus one, the greatest and the least, and a half
 numbers : ended (numbers_row 0 ∷ numbers_row 0o77777 ∷ numbers_row 1 ∷ numbers_row 0o77776 ∷ numbers_row 0o37777 ∷ numbers_row 0o40000 ∷ numbers_row 0o20000 ∷ [])
@@ -249,7 +272,7 @@ numbers = refl
 
 -- so many from a place on, up to the last of its bank
 abbrev values : History → Linear → ℕ → List ℕ
-values h place k = rows_text Number symbols (rope five_words) h (h.after 7) place k
+values h place k = rows_text Number symbols no_source (rope five_words) h (h.after 7) place k
 
 values_there : values (history five) (linear.Fixed 2 3) 2 ++ values (history five) (linear.Fixed 2 0o1777) 9 ++ values (history five) (linear.Erasable 0) 1 ++ values (history five) (linear.Erasable 0) 0
     ≡ ended (codes "VALUE 02,4003 01010 520 0.03173828125000 000001000001000" ∷ codes "VALUE 02,4004 14000 6144 0.37500000000000 001100000000000" ∷ codes "VALUE 02,5777 00000 0 0.00000000000000 000000000000000" ∷ codes "VALUE E0,0000 00012 10 0.00061035156250 000000000001010" ∷ [])

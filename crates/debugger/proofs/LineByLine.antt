@@ -48,7 +48,7 @@ pub record Answered (s : Talk) (done : List (List ℕ)) (at : Desk) (old new : L
   pub granted : s.may_refuse ≡ false → AllGranted answers
   pub text : List ℕ
   pub goes_on : (rest : List Bool) (later : List (Option ℕ)) (more : List (List ℕ))
-      → conversation (terms_of s.symbols s.scenario) s.read (first_desk s.scenario (answers ++ rest) (additions ++ later)) (done ++ more) ≡ text ++ conversation (terms_of s.symbols s.scenario) s.read (awaiting at rest later) more
+      → conversation (terms_of s.symbols s.source s.scenario) s.read (first_desk s.scenario (answers ++ rest) (additions ++ later)) (done ++ more) ≡ text ++ conversation (terms_of s.symbols s.source s.scenario) s.read (awaiting at rest later) more
   pub written : new ≡ old ++ text
 
 abbrev pub taken-none : (read : Reading) (whole : List ℕ) (most : ℕ) → Taken read whole most whole most
@@ -74,32 +74,32 @@ taken-more {read} {whole} {most} {rest} {now} r line rest' now' less t h = recor
 
 -- and was answered
 pub answered-more : {s : Talk} {done : List (List ℕ)} {at : Desk} {old new : List ℕ} (to : Desk) (new' line : List ℕ)
-    → Answered s done at old new → is_end (s.read line) ≡ false → Replied s.may_refuse (to_asked (terms_of s.symbols s.scenario) (s.read line)) at to new new' → Answered s (done ++ line ∷ []) to old new'
+    → Answered s done at old new → is_end (s.read line) ≡ false → Replied s.may_refuse (to_asked (terms_of s.symbols s.source s.scenario) (s.read line)) at to new new' → Answered s (done ++ line ∷ []) to old new'
 answered-more {s} {done} {at} {old} {new} to new' line t h e = record {
   answers = t.answers ++ e.answers;
   additions = t.additions ++ e.additions;
   granted = λ m. granted-append t.answers e.answers (t.granted m) (e.granted m);
   text = t.text ++ e.text;
   goes_on = λ rest later more.
-      ap (λ (a : List Bool). conversation (terms_of s.symbols s.scenario) s.read (first_desk s.scenario a ((t.additions ++ e.additions) ++ later)) ((done ++ line ∷ []) ++ more)) (append_assoc t.answers e.answers rest)
-      ∙ ap (λ (a : List (Option ℕ)). conversation (terms_of s.symbols s.scenario) s.read (first_desk s.scenario (t.answers ++ (e.answers ++ rest)) a) ((done ++ line ∷ []) ++ more)) (append_assoc t.additions e.additions later)
-      ∙ ap (conversation (terms_of s.symbols s.scenario) s.read (first_desk s.scenario (t.answers ++ (e.answers ++ rest)) (t.additions ++ (e.additions ++ later)))) (append_assoc done (line ∷ []) more)
+      ap (λ (a : List Bool). conversation (terms_of s.symbols s.source s.scenario) s.read (first_desk s.scenario a ((t.additions ++ e.additions) ++ later)) ((done ++ line ∷ []) ++ more)) (append_assoc t.answers e.answers rest)
+      ∙ ap (λ (a : List (Option ℕ)). conversation (terms_of s.symbols s.source s.scenario) s.read (first_desk s.scenario (t.answers ++ (e.answers ++ rest)) a) ((done ++ line ∷ []) ++ more)) (append_assoc t.additions e.additions later)
+      ∙ ap (conversation (terms_of s.symbols s.source s.scenario) s.read (first_desk s.scenario (t.answers ++ (e.answers ++ rest)) (t.additions ++ (e.additions ++ later)))) (append_assoc done (line ∷ []) more)
       ∙ t.goes_on (e.answers ++ rest) (e.additions ++ later) (line ∷ more)
-      ∙ ap (λ (x : List ℕ). t.text ++ x) (replies-more (terms_of s.symbols s.scenario) s.read (awaiting at (e.answers ++ rest) (e.additions ++ later)) line more h ∙ ap (λ (r : Reply). r.text ++ conversation (terms_of s.symbols s.scenario) s.read r.desk more) (e.brings rest later))
-      ∙ sym (append_assoc t.text e.text (conversation (terms_of s.symbols s.scenario) s.read (awaiting to rest later) more));
+      ∙ ap (λ (x : List ℕ). t.text ++ x) (replies-more (terms_of s.symbols s.source s.scenario) s.read (awaiting at (e.answers ++ rest) (e.additions ++ later)) line more h ∙ ap (λ (r : Reply). r.text ++ conversation (terms_of s.symbols s.source s.scenario) s.read r.desk more) (e.brings rest later))
+      ∙ sym (append_assoc t.text e.text (conversation (terms_of s.symbols s.source s.scenario) s.read (awaiting to rest later) more));
   written = append-then old new new' t.text e.text t.written e.written;
 }
 
 module _ (s : Talk) (whole : List ℕ) (most : ℕ) (rest : List ℕ) (now : ℕ) (at : Desk) (old new : List ℕ) (r : Taken s.read whole most rest now) (t : Answered s r.done at old new) where
   -- the replies to lines of which these are done and others are left
-  goes : (all more : List (List ℕ)) → all ≡ r.done ++ more → conversation (terms_of s.symbols s.scenario) s.read (first_desk s.scenario t.answers t.additions) all ≡ t.text ++ conversation (terms_of s.symbols s.scenario) s.read (awaiting at [] []) more
+  goes : (all more : List (List ℕ)) → all ≡ r.done ++ more → conversation (terms_of s.symbols s.source s.scenario) s.read (first_desk s.scenario t.answers t.additions) all ≡ t.text ++ conversation (terms_of s.symbols s.source s.scenario) s.read (awaiting at [] []) more
   goes all more e =
-      ap (λ (a : List Bool). conversation (terms_of s.symbols s.scenario) s.read (first_desk s.scenario a t.additions) all) (sym (append-nil t.answers))
-      ∙ ap (λ (a : List (Option ℕ)). conversation (terms_of s.symbols s.scenario) s.read (first_desk s.scenario (t.answers ++ []) a) all) (sym (append-nil t.additions))
-      ∙ ap (conversation (terms_of s.symbols s.scenario) s.read (first_desk s.scenario (t.answers ++ []) (t.additions ++ []))) e ∙ t.goes_on [] [] more
+      ap (λ (a : List Bool). conversation (terms_of s.symbols s.source s.scenario) s.read (first_desk s.scenario a t.additions) all) (sym (append-nil t.answers))
+      ∙ ap (λ (a : List (Option ℕ)). conversation (terms_of s.symbols s.source s.scenario) s.read (first_desk s.scenario (t.answers ++ []) a) all) (sym (append-nil t.additions))
+      ∙ ap (conversation (terms_of s.symbols s.source s.scenario) s.read (first_desk s.scenario (t.answers ++ []) (t.additions ++ []))) e ∙ t.goes_on [] [] more
 
   -- the replies to lines that end here
-  ended : (all more : List (List ℕ)) → all ≡ r.done ++ more → conversation (terms_of s.symbols s.scenario) s.read (awaiting at [] []) more ≡ [] → WritesTalk s all old new
+  ended : (all more : List (List ℕ)) → all ≡ r.done ++ more → conversation (terms_of s.symbols s.source s.scenario) s.read (awaiting at [] []) more ≡ [] → WritesTalk s all old new
   ended all more e none = record {
     answers = t.answers;
     additions = t.additions;
@@ -114,7 +114,7 @@ module _ (s : Talk) (whole : List ℕ) (most : ℕ) (rest : List ℕ) (now : ℕ
   -- or the end is asked for
   pub writes-quit : (line rest' : List ℕ) (now' : ℕ) → TakesLine rest now line rest' now' → is_end (s.read line) ≡ true → WritesTalk s (lines (take most whole)) old new
   writes-quit line rest' now' l h =
-      ended (lines (take most whole)) (line ∷ lines (take now' rest')) (r.all ∙ ap (λ (x : List (List ℕ)). r.done ++ x) l.lines) (replies-end (terms_of s.symbols s.scenario) s.read (awaiting at [] []) line (lines (take now' rest')) h)
+      ended (lines (take most whole)) (line ∷ lines (take now' rest')) (r.all ∙ ap (λ (x : List (List ℕ)). r.done ++ x) l.lines) (replies-end (terms_of s.symbols s.source s.scenario) s.read (awaiting at [] []) line (lines (take now' rest')) h)
 
   -- a read failed
   pub writes-read : (left : List ℕ) → 0 < now → EndsNoLine rest left → EndsTalk s (record { before = whole; left = left }) old new
@@ -132,19 +132,19 @@ module _ (s : Talk) (whole : List ℕ) (most : ℕ) (rest : List ℕ) (now : ℕ
     answers = t.answers;
     additions = t.additions;
     granted = t.granted;
-    part = rw (goes (lines (take most whole)) (lines (take now rest)) r.all) (beginning-longer old new t.text (conversation (terms_of s.symbols s.scenario) s.read (awaiting at [] []) (lines (take now rest))) (beginning-whole old new t.text t.written));
+    part = rw (goes (lines (take most whole)) (lines (take now rest)) r.all) (beginning-longer old new t.text (conversation (terms_of s.symbols s.source s.scenario) s.read (awaiting at [] []) (lines (take now rest))) (beginning-whole old new t.text t.written));
   }
 
   -- a reply could not be written whole
   pub writes-part : (line rest' new' : List ℕ) (now' : ℕ) → TakesLine rest now line rest' now' → is_end (s.read line) ≡ false
-      → ReplyBroken s.may_refuse (to_asked (terms_of s.symbols s.scenario) (s.read line)) at new new' → BeginsTalk s (lines (take most whole)) old new'
+      → ReplyBroken s.may_refuse (to_asked (terms_of s.symbols s.source s.scenario) (s.read line)) at new new' → BeginsTalk s (lines (take most whole)) old new'
   writes-part line rest' new' now' l h e =
-      let reply = to_asked (terms_of s.symbols s.scenario) (s.read line) (awaiting at e.answers e.additions) in
-      let after = conversation (terms_of s.symbols s.scenario) s.read reply.desk (lines (take now' rest')) in
-      let whole_is : conversation (terms_of s.symbols s.scenario) s.read (first_desk s.scenario (t.answers ++ e.answers) (t.additions ++ e.additions)) (lines (take most whole)) ≡ t.text ++ (reply.text ++ after) =
-      ap (conversation (terms_of s.symbols s.scenario) s.read (first_desk s.scenario (t.answers ++ e.answers) (t.additions ++ e.additions))) (r.all ∙ ap (λ (x : List (List ℕ)). r.done ++ x) l.lines)
+      let reply = to_asked (terms_of s.symbols s.source s.scenario) (s.read line) (awaiting at e.answers e.additions) in
+      let after = conversation (terms_of s.symbols s.source s.scenario) s.read reply.desk (lines (take now' rest')) in
+      let whole_is : conversation (terms_of s.symbols s.source s.scenario) s.read (first_desk s.scenario (t.answers ++ e.answers) (t.additions ++ e.additions)) (lines (take most whole)) ≡ t.text ++ (reply.text ++ after) =
+      ap (conversation (terms_of s.symbols s.source s.scenario) s.read (first_desk s.scenario (t.answers ++ e.answers) (t.additions ++ e.additions))) (r.all ∙ ap (λ (x : List (List ℕ)). r.done ++ x) l.lines)
       ∙ t.goes_on e.answers e.additions (line ∷ lines (take now' rest'))
-      ∙ ap (λ (x : List ℕ). t.text ++ x) (replies-more (terms_of s.symbols s.scenario) s.read (awaiting at e.answers e.additions) line (lines (take now' rest')) h) in
+      ∙ ap (λ (x : List ℕ). t.text ++ x) (replies-more (terms_of s.symbols s.source s.scenario) s.read (awaiting at e.answers e.additions) line (lines (take now' rest')) h) in
       record {
         answers = t.answers ++ e.answers;
         additions = t.additions ++ e.additions;

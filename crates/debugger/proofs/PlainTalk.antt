@@ -3,6 +3,7 @@ use Rattle.std.proofs.Common.{◌≡◌, ℕ, ◌*◌, length, arith, List, [], 
 use Rattle.agc_text.specs.Lines.{ended_lines}
 use Rattle.symbols.specs.Values.{SymbolTable}
 use Rattle.debugger.specs.Terms.{Terms, terms_of}
+use Rattle.yayul.specs.PlaceRows.{no_source}
 use Rattle.commands.specs.Commands.{parsed_line}
 use Rattle.debugger.specs.declared.manner.Manner.TheVariants as manner
 use Rattle.debugger.specs.ExtendedReplies.{extended_reply}
@@ -36,14 +37,14 @@ plain-efforts symbols lines = ap (efforts (reading manner.Plain symbols)) (same-
 
 -- the setting of a session, as what a conversation is over
 abbrev plain : Setting → Talk
-plain s = record { may_refuse = s.may_refuse; symbols = s.symbols; read = reading manner.Plain s.symbols; most = most_command_bytes; scenario = s.scenario }
+plain s = record { may_refuse = s.may_refuse; symbols = s.symbols; source = no_source; read = reading manner.Plain s.symbols; most = most_command_bytes; scenario = s.scenario }
 
 writes : (s : Setting) (lines : List (List ℕ)) (old new : List ℕ) → WritesTalk (plain s) lines old new → WritesReplies s lines old new
 writes s lines old new w = record {
   answers = w.answers;
   additions = w.additions;
   granted = w.granted;
-  written = w.written ∙ ap (λ (t : List ℕ). old ++ t) (same-replies (terms_of s.symbols s.scenario) s.symbols (first_desk s.scenario w.answers w.additions) lines);
+  written = w.written ∙ ap (λ (t : List ℕ). old ++ t) (same-replies (terms_of s.symbols no_source s.scenario) s.symbols (first_desk s.scenario w.answers w.additions) lines);
 }
 
 pub debugs : (s : Setting) (commands : Commands) (old new : List ℕ) (result : Result (Unit {0}) DebugFault) → Talks (plain s) commands old new result → Debugs s commands old new result
@@ -55,5 +56,5 @@ debugs s commands old new (Err WriteFailed) b = record {
   answers = b.answers;
   additions = b.additions;
   granted = b.granted;
-  part = rw (← same-replies (terms_of s.symbols s.scenario) s.symbols (first_desk s.scenario b.answers b.additions) (command_lines commands.before)) b.part;
+  part = rw (← same-replies (terms_of s.symbols no_source s.scenario) s.symbols (first_desk s.scenario b.answers b.additions) (command_lines commands.before)) b.part;
 }

@@ -1,18 +1,23 @@
 -- Where the next instruction stands, symbols by their beginnings, and words one after another, step by step.
-use Rattle.std.proofs.Common.{◌≡◌, ℕ, zero, suc, ◌+◌, ◌-◌, ◌<◌, ◌≤◌, List, ◌∷◌, ◌++◌, length, drop, Option, None, Some, true, false, refl, ap, arith, ◌∙◌, sym, append_assoc}
+use Rattle.std.proofs.Common.{◌≡◌, ℕ, zero, suc, ◌+◌, ◌-◌, ◌<◌, ◌≤◌, List, [], ◌∷◌, ◌++◌, length, drop, Option, None, Some, true, false, refl, ap, arith, ◌∙◌, sym, append_assoc}
 use Rattle.std.specs.Prelude.{codes, decimal, slice_get}
-use Rattle.std.specs.Option.{option_map, option_or}
+use Rattle.std.specs.Option.{option_map, option_map_or, option_or}
 use Rattle.std.proofs.lemmas.List.{drop_more, drop_all}
 use Rattle.std.proofs.lemmas.Option.{slice_get_within, get_or_from_slice_get}
 use Rattle.space.specs.declared.place.Linear.{Linear}
 use Rattle.symbols.specs.declared.values.Value.{Value}
 use Rattle.symbols.specs.Values.{SymbolTable}
+use Rattle.rope.specs.Places.{Words}
+use Rattle.words.specs.Devices.{WritesBeginning}
+use Rattle.words.proofs.Texts.{beginning-longer}
+use Rattle.yayul.specs.PlaceRows.{ListedLine, line_of, place_row, row_after}
+use Rattle.yayul.specs.Program.{Source}
 use Rattle.trace.specs.TraceLines.{symbol_at}
 use Rattle.cpu.specs.State.{State, Scenario}
 use Rattle.debugger.specs.declared.rows.RowKind.{RowKind}
 use Rattle.debugger.specs.History.{Sight, History, history, sight}
-use Rattle.debugger.specs.Rows.{row_text}
-use Rattle.debugger.specs.Replies.{line}
+use Rattle.debugger.specs.Rows.{list_row, plain_row, row_text}
+use Rattle.debugger.specs.Replies.{line, memory_word}
 use Rattle.debugger.specs.Standing.{place_before, nearest, begins_with, found_line, found_from, place_after, word_there, words_from}
 
 -- one place further before
@@ -61,5 +66,15 @@ words_pushed h seen place k count text new whole below so_far is =
     rw less (ap (λ (x : List ℕ). x ++ later) is ∙ append_assoc text row later ∙ ap (λ (x : List ℕ). text ++ x) (sym one) ∙ so_far)
 
 -- the row so many places after a place
-abbrev pub row_at : RowKind → SymbolTable → Scenario → State → Linear → ℕ → List ℕ
-row_at kind symbols scenario s place i = row_text kind symbols scenario.rope (history scenario) (sight scenario.rope s) (place_after place i)
+abbrev pub row_at : RowKind → SymbolTable → Source → Scenario → State → Linear → ℕ → List ℕ
+row_at kind symbols source scenario s place i = row_text kind symbols source scenario.rope (history scenario) (sight scenario.rope s) (place_after place i)
+
+-- the row of a place was begun
+pub row_begun : (symbols : SymbolTable) (source : Source) (rope : Words) (h : History) (seen : Sight) (place : Linear) (old new : List ℕ)
+    → WritesBeginning old new (row_after (codes "LIST ") source rope (memory_word h seen place) place) → WritesBeginning old new (list_row symbols source rope h seen place)
+row_begun symbols source rope h seen place old new begun = by (line_of source place) begun
+  where
+    by : (line : Option ListedLine) → WritesBeginning old new (option_map_or (λ l. codes "LIST " ++ place_row rope (memory_word h seen place) place l) line [])
+        → WritesBeginning old new (option_map_or (λ l. codes "LIST " ++ place_row rope (memory_word h seen place) place l) line (plain_row symbols rope seen place))
+    by (Some l) w = w
+    by None w = beginning-longer old new [] (plain_row symbols rope seen place) w

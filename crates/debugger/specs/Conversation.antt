@@ -4,6 +4,7 @@ use Rattle.agc_text.specs.Lines.{lines, ended_lines}
 use Rattle.words.specs.Devices.{WritesBeginning}
 use Rattle.cpu.specs.State.{Scenario}
 use Rattle.symbols.specs.Values.{SymbolTable}
+use Rattle.yayul.specs.Program.{Source}
 use Rattle.commands.specs.Commands.{parsed_line}
 use Rattle.commands.specs.Extended.{extended_line}
 use Rattle.commands.specs.declared.extended.IndexLines.{IndexLines}
@@ -99,18 +100,19 @@ abbrev pub efforts : Reading → List (List ℕ) → ℕ
 efforts read [] = 0
 efforts read (line ∷ more) = effort (read line) + efforts read more
 
--- what a session is over: whether its keeper may refuse, the symbols, what lines ask for, how many bytes of them are read at
+-- what a session is over: whether its keeper may refuse, the symbols, the source, what lines ask for, how many bytes of them are read at
 -- most, and what runs at first
 pub record Talk : Type 0 where
   pub may_refuse : Bool
   pub symbols : SymbolTable
+  pub source : Source
   pub read : Reading
   pub most : ℕ
   pub scenario : Scenario
 
 -- the replies to lines, where the calls that make steps and those that add inputs are answered so
 abbrev pub talk_in : Talk → List Bool → List (Option ℕ) → List (List ℕ) → List ℕ
-talk_in s answers additions lines = conversation (terms_of s.symbols s.scenario) s.read (first_desk s.scenario answers additions) lines
+talk_in s answers additions lines = conversation (terms_of s.symbols s.source s.scenario) s.read (first_desk s.scenario answers additions) lines
 
 -- the replies to lines were written, under some answers; where the keeper may not refuse, no call that makes a step was
 -- refused for memory

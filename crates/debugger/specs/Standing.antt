@@ -10,12 +10,13 @@ use Rattle.space.specs.declared.place.Linear.TheVariants.{Erasable, Fixed}
 use Rattle.symbols.specs.declared.values.Value.{Value}
 use Rattle.symbols.specs.Values.{SymbolTable, value_text}
 use Rattle.yayul.specs.Listing.{place_text}
+use Rattle.yayul.specs.Program.{Source}
 use Rattle.cpu.specs.State.{State, Scenario}
 use Rattle.cpu.specs.Effects.{next_address, place_in}
 use Rattle.cpu.specs.Run.{run}
 use Rattle.trace.specs.TraceLines.{symbol_at, short_octal}
 use Rattle.debugger.specs.declared.rows.RowKind.{RowKind}
-use Rattle.debugger.specs.History.{Sight, History, sight}
+use Rattle.debugger.specs.History.{Sight, History, history, sight}
 use Rattle.debugger.specs.Replies.{line, memory_word}
 use Rattle.debugger.specs.Rows.{list_row, row_text}
 use Rattle.debugger.specs.Whys.{kind_part, last_outside}
@@ -62,12 +63,16 @@ abbrev pub inside_text : SymbolTable → Scenario → ℕ → List ℕ
 inside_text symbols scenario p = if (run scenario p).inside then entered_text symbols scenario (last_outside scenario p) else []
 
 -- the row of the next instruction's place
-abbrev pub next_row : SymbolTable → Words → State → List ℕ
-next_row symbols rope s = list_row symbols rope (sight rope s) (place_in s (next_address s))
+abbrev pub next_row : SymbolTable → Source → Scenario → State → List ℕ
+next_row symbols source scenario s = list_row symbols source scenario.rope (history scenario) (sight scenario.rope s) (place_in s (next_address s))
+
+-- both
+abbrev pub standing_text : SymbolTable → Source → Scenario → State → List ℕ
+standing_text symbols source scenario s = where_line symbols s ++ next_row symbols source scenario s
 
 -- where the next instruction stands after p steps, and the interrupt that is served, if any
-unfoldable pub where_text : SymbolTable → Scenario → ℕ → List ℕ
-where_text symbols scenario p = where_line symbols (run scenario p) ++ next_row symbols scenario.rope (run scenario p) ++ inside_text symbols scenario p
+unfoldable pub where_text : SymbolTable → Source → Scenario → ℕ → List ℕ
+where_text symbols source scenario p = standing_text symbols source scenario (run scenario p) ++ inside_text symbols scenario p
 
 -- a name begins so
 abbrev pub begins_with : List ℕ → List ℕ → Bool
@@ -109,6 +114,6 @@ unfoldable pub words_text : History → Sight → Linear → ℕ → List ℕ
 words_text h seen place k = words_from h seen place 0 (min k (places_from place))
 
 -- the rows of so many places from one on, up to the last of its bank or of erasable memory
-unfoldable pub rows_text : RowKind → SymbolTable → Words → History → Sight → Linear → ℕ → List ℕ
-rows_text kind symbols rope h seen place k =
-    flat_map (λ i. row_text kind symbols rope h seen (place_after place i)) (range_with_len 0 (min k (places_from place)))
+unfoldable pub rows_text : RowKind → SymbolTable → Source → Words → History → Sight → Linear → ℕ → List ℕ
+rows_text kind symbols source rope h seen place k =
+    flat_map (λ i. row_text kind symbols source rope h seen (place_after place i)) (range_with_len 0 (min k (places_from place)))

@@ -3,12 +3,14 @@ use Rattle.std.specs.Prelude.{ℕ, List, filter, None}
 use Rattle.feed.specs.CountsTaken.{is_from}
 use Rattle.feed.specs.declared.entry.Entry.{Entry}
 use Rattle.symbols.specs.Values.{SymbolTable}
+use Rattle.yayul.specs.Program.{Source}
 use Rattle.cpu.specs.State.{Scenario}
 use Rattle.debugger.specs.Additions.{line_after}
 
--- the symbols, and the line from which on inputs stand that were added
+-- the symbols, the source, and the line from which on inputs stand that were added
 pub record Terms : Type 0 where
   pub symbols : SymbolTable
+  pub source : Source
   pub first : ℕ
 
 -- the inputs that are from no series
@@ -19,6 +21,6 @@ plain_inputs scenario = filter (is_from None) scenario.inputs
 abbrev pub first_added : Scenario → ℕ
 first_added scenario = line_after (plain_inputs scenario)
 
--- the terms of a session with these symbols, of which this runs at first
-abbrev pub terms_of : SymbolTable → Scenario → Terms
-terms_of symbols scenario = record { symbols = symbols; first = first_added scenario }
+-- the terms of a session with these symbols and this source, of which this runs at first
+abbrev pub terms_of : SymbolTable → Source → Scenario → Terms
+terms_of symbols source scenario = record { symbols = symbols; source = source; first = first_added scenario }

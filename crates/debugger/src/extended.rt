@@ -31,6 +31,7 @@ use replay::{Keeper, Session};
 use space::place::Linear;
 use symbols::Symbols;
 use words::{Write, WriteFailed, push_all, push_decimal, push_octal, write_all};
+use yayul::SourceRows;
 
 impl Desk {
     /// Does what a line of an extended session asks for, and writes the reply.
@@ -39,13 +40,14 @@ impl Desk {
         &mut self,
         session: &mut Session<K>,
         symbols: &Symbols,
+        rows: &SourceRows,
         first_added: u128,
         request: &ExtendedLine,
         out: &mut W,
     ) -> Result<(), WriteFailed>
         requires within { self.old.position ≤ session.old.n }
         requires tail { self.old.tail ≡ last_of tail_length (outs session.old.scenario session.old.n) }
-        ensures executes { W.told ≡ true → Replies K.may_refuse (to_asked (record { symbols = symbols.now; first = first_added }) request.now) (desk session.old self.old.position self.old.breakpoints) (desk session.new self.new.position self.new.breakpoints) (W.written out.old) (W.written out.new) result }
+        ensures executes { W.told ≡ true → Replies K.may_refuse (to_asked (record { symbols = symbols.now; source = rows.now; first = first_added }) request.now) (desk session.old self.old.position self.old.breakpoints) (desk session.new self.new.position self.new.breakpoints) (W.written out.old) (W.written out.new) result }
         ensures within { self.new.position ≤ session.new.n }
         ensures tail { self.new.tail ≡ last_of tail_length (outs session.new.scenario session.new.n) }
         ensures session { HasDone (effort request.now) session.old session.new }
@@ -68,17 +70,25 @@ impl Desk {
             ExtendedLine::Words(place, count) => {
                 write_all(out, self.words(session, place, *count).as_slice())
             }
-            ExtendedLine::Where => { write_all(out, self.where_text(session, symbols).as_slice()) }
+            ExtendedLine::Where => self.tell_where(session, symbols, rows, out),
             ExtendedLine::Find(beginning) => find(symbols, beginning.as_slice(), out),
             ExtendedLine::Trace(steps) => self.trace(session, symbols, *steps, out),
             ExtendedLine::Inputs => tell_inputs(session, first_added, out),
             ExtendedLine::Over(steps) => self.go_over(session, *steps, out),
             ExtendedLine::Out(steps) => self.go_out(session, *steps, out),
             ExtendedLine::Listed(place, count) => {
-                self.rows(session, symbols, RowKind::Instruction, place, *count, out)
+                self.rows(
+                    session,
+                    symbols,
+                    rows,
+                    RowKind::Instruction,
+                    place,
+                    *count,
+                    out,
+                )
             }
             ExtendedLine::Values(place, count) => {
-                self.rows(session, symbols, RowKind::Number, place, *count, out)
+                self.rows(session, symbols, rows, RowKind::Number, place, *count, out)
             }
         }
     }

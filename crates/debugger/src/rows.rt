@@ -1,10 +1,11 @@
-//! The rows of places: their words as the instructions that they are, or as numbers.
+//! The rows of places: as the listing has them, or their words as the instructions that they are; or as numbers.
 
-ghost use Rattle.std.specs.Prelude.{◌≡◌, ◌+◌, ◌%◌, ◌^◌, ◌<◌, ◌≤◌, ◌++◌};
+ghost use Rattle.std.specs.Prelude.{◌≡◌, ◌+◌, ◌%◌, ◌^◌, ◌<◌, ◌≤◌, ◌++◌, true};
 ghost use Rattle.arrayvec.specs.ArrayVec.{array_vec_len};
+ghost use Rattle.words.specs.Devices.{Writes, failures_after};
 ghost use Rattle.words.specs.Numerals.{digit_zero};
 ghost use Rattle.debugger.specs.History.{history, sight};
-ghost use Rattle.debugger.specs.Rows.{based_text, fraction_text, list_row, magnitude, numbers_text, row_text, sign_text, value_row, whole_text};
+ghost use Rattle.debugger.specs.Rows.{based_text, fraction_text, list_row, magnitude, numbers_text, plain_row, row_text, sign_text, value_row, whole_text};
 
 use crate::short::word_at;
 use crate::texts::Text;
@@ -14,42 +15,62 @@ use names::line_of_word;
 use space::place::Linear;
 use symbols::Symbols;
 use trace::place_text;
-use words::{Word, push_all, push_decimal, push_octal};
+use words::{Word, Write, WriteFailed, push_all, push_decimal, push_octal, write_all};
+use yayul::SourceRows;
 
 /// What the row of a place tells.
 #[derive(Clone, Copy, Drop)]
 pub(crate) enum RowKind {
-    /// The word, and the instruction that it is.
+    /// The line of the source that shows it, or the word and the instruction that it is.
     Instruction,
     /// The word in octal, in decimal, as a fraction and in binary.
     Number,
 }
 
-/// The row of a place.
-pub(crate) fn row_text(
+/// Writes the row of a place.
+pub(crate) fn write_row<W: Write>(
     kind: RowKind,
     symbols: &Symbols,
+    rows: &SourceRows,
     machine: &Machine,
     processor: &Processor,
     place: &Linear,
-) -> Text
-    ensures { result.items ≡ row_text kind symbols.now processor.now.scenario.rope (history processor.now.scenario) (sight processor.now.scenario.rope machine.now) place.now }
+    out: &mut W,
+) -> Result<(), WriteFailed>
+    ensures writes { W.told ≡ true → Writes (W.written out.old) (W.written out.new) (row_text kind symbols.now rows.now processor.now.scenario.rope (history processor.now.scenario) (sight processor.now.scenario.rope machine.now) place.now) result }
+    ensures failures { W.failures out.new ≡ failures_after (W.failures out.old) result }
 {
     match kind {
-        RowKind::Instruction => list_row(symbols, machine, processor, place),
-        RowKind::Number => value_row(machine, processor, place),
+        RowKind::Instruction => write_list_row(symbols, rows, machine, processor, place, out),
+        RowKind::Number => write_all(out, value_row(machine, processor, place).as_slice()),
     }
 }
 
-/// The row of a place with the instruction that its word is, where it stands in fixed memory.
-pub(crate) fn list_row(
+/// Writes the row of a place as the listing has it, where a line of the source shows the place.
+pub(crate) fn write_list_row<W: Write>(
     symbols: &Symbols,
+    rows: &SourceRows,
     machine: &Machine,
     processor: &Processor,
     place: &Linear,
-) -> Text
-    ensures items { result.items ≡ list_row symbols.now processor.now.scenario.rope (sight processor.now.scenario.rope machine.now) place.now }
-    ensures short { array_vec_len result ≤ 53 }
+    out: &mut W,
+) -> Result<(), WriteFailed>
+    ensures writes { W.told ≡ true → Writes (W.written out.old) (W.written out.new) (list_row symbols.now rows.now processor.now.scenario.rope (history processor.now.scenario) (sight processor.now.scenario.rope machine.now) place.now) result }
+    ensures failures { W.failures out.new ≡ failures_after (W.failures out.old) result }
+{
+    let word = word_at(machine, processor, *place);
+    if rows.write_row_of(b"LIST ", processor.rope(), word, *place, out)? {
+        return Ok(());
+    }
+    write_all(
+        out,
+        plain_row(symbols, machine, processor, place).as_slice(),
+    )
+}
+
+/// The row of a place with the instruction that its word is, where it stands in fixed memory.
+fn plain_row(symbols: &Symbols, machine: &Machine, processor: &Processor, place: &Linear) -> Text
+    ensures { result.items ≡ plain_row symbols.now processor.now.scenario.rope (sight processor.now.scenario.rope machine.now) place.now }
 {
     let mut row = ArrayVec::new();
     push_all(&mut row, b"LIST ");

@@ -21,6 +21,7 @@ use replay::{Keeper, Session};
 use std::alloc::Global;
 use symbols::Symbols;
 use words::{Read, Write};
+use yayul::SourceRows;
 
 /// The most bytes of commands that a session reads, where it is not extended.
 pub const MOST_COMMAND_BYTES: u64 = 16_777_216;
@@ -56,21 +57,23 @@ pub fn debug_session<K: Keeper, R: Read, W: Write>(
     // No more is read than counts.
     ensures read { R.told ≡ true → TakesAtMost most_command_bytes (R.left commands.old) (R.left commands.new) }
 {
-    converse(Manner::Plain, alloc, session, symbols, commands, out)
+    let rows = SourceRows::none(alloc);
+    converse(Manner::Plain, alloc, session, symbols, &rows, commands, out)
 }
 
-/// `debug_session` with more commands, with refusals in words, and over commands of any number of bytes: they are read up to
+/// `debug_session` with more commands, of which `where` and `list` show the rows of a source, with refusals in words, and over commands of any number of bytes: they are read up to
 /// `quit` or to their end. (A count of 64 bits has an end, after 18,446,744,073,709,551,615 bytes.)
 pub fn extended_session<K: Keeper, R: Read, W: Write>(
     alloc: Global,
     session: &mut Session<K>,
     symbols: &Symbols,
+    rows: &SourceRows,
     commands: &mut R,
     out: &mut W,
 ) -> Result<(), DebugFault>
     requires { session.old.n ≡ 0 }
     ensures answer { R.told ≡ true → W.told ≡ true →
-        Talks (record { may_refuse = K.may_refuse; symbols = symbols.now; read = extended_line symbols.now; most = most_extended_bytes; scenario = session.old.scenario }) (record { before = R.left commands.old; left = R.left commands.new }) (W.written out.old) (W.written out.new) result }
+        Talks (record { may_refuse = K.may_refuse; symbols = symbols.now; source = rows.now; read = extended_line symbols.now; most = most_extended_bytes; scenario = session.old.scenario }) (record { before = R.left commands.old; left = R.left commands.new }) (W.written out.old) (W.written out.new) result }
 
     // For each line that is read at most so many times the steps that there are are executed, besides those that are made: three
     // times, for `where` four times, and for `why` four times a link.
@@ -84,7 +87,15 @@ pub fn extended_session<K: Keeper, R: Read, W: Write>(
     // No more is read than counts.
     ensures read { R.told ≡ true → TakesAtMost most_extended_bytes (R.left commands.old) (R.left commands.new) }
 {
-    converse(Manner::Extended, alloc, session, symbols, commands, out)
+    converse(
+        Manner::Extended,
+        alloc,
+        session,
+        symbols,
+        rows,
+        commands,
+        out,
+    )
 }
 
 /// A session of either manner.
@@ -93,12 +104,13 @@ fn converse<K: Keeper, R: Read, W: Write>(
     alloc: Global,
     session: &mut Session<K>,
     symbols: &Symbols,
+    rows: &SourceRows,
     commands: &mut R,
     out: &mut W,
 ) -> Result<(), DebugFault>
     requires { session.old.n ≡ 0 }
     ensures answer { R.told ≡ true → W.told ≡ true →
-        Talks (record { may_refuse = K.may_refuse; symbols = symbols.now; read = reading manner symbols.now; most = most_bytes manner; scenario = session.old.scenario }) (record { before = R.left commands.old; left = R.left commands.new }) (W.written out.old) (W.written out.new) result }
+        Talks (record { may_refuse = K.may_refuse; symbols = symbols.now; source = rows.now; read = reading manner symbols.now; most = most_bytes manner; scenario = session.old.scenario }) (record { before = R.left commands.old; left = R.left commands.new }) (W.written out.old) (W.written out.new) result }
     ensures cost { R.told ≡ true → OnOk result
         (session.new.meter ≤ session.old.meter + (efforts (reading manner symbols.now) (lines_heard (reading manner symbols.now) (lines_within (most_bytes manner) (R.left commands.old))) + 1) * session.new.n) }
     ensures reader { R.failures commands.new ≡ (if has_read_failed result then one_more (R.failures commands.old) else R.failures commands.old) }
@@ -125,7 +137,7 @@ fn converse<K: Keeper, R: Read, W: Write>(
         if is_end(&request) {
             return Ok(());
         }
-        match desk.answer_asked(session, symbols, first, &request, out) {
+        match desk.answer_asked(session, symbols, rows, first, &request, out) {
             Ok(()) => {}
             Err(_) => return Err(DebugFault::WriteFailed),
         }

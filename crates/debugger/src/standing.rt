@@ -1,6 +1,6 @@
 //! Where the next instruction stands; symbols by the beginnings of their names; and words one after another.
 
-ghost use Rattle.std.specs.Prelude.{◌≡◌, ◌+◌, ◌-◌, ◌*◌, ◌<◌, ◌≤◌, ◌++◌, ◌^◌, min, length, true};
+ghost use Rattle.std.specs.Prelude.{◌≡◌, ◌+◌, ◌-◌, ◌*◌, ◌<◌, ◌≤◌, ◌++◌, ◌^◌, min, length, true, IfOk};
 ghost use Rattle.arrayvec.specs.ArrayVec.{array_vec_len};
 ghost use Rattle.words.specs.Devices.{Writes, failures_after};
 ghost use Rattle.cpu.specs.Run.{run};
@@ -8,12 +8,12 @@ ghost use Rattle.trace.specs.TraceLines.{octal_digits};
 ghost use Rattle.debugger.specs.History.{history, sight};
 ghost use Rattle.debugger.specs.Replies.{memory_word};
 ghost use Rattle.debugger.specs.Whys.{kind_part, last_outside};
-ghost use Rattle.debugger.specs.Standing.{places_before, place_before, nearest_symbol, distance_text, nearest_text, where_line, entered_line, entered_text, inside_text, where_text, begins_with, found_line, found_text, places_from, place_after, word_there, words_from, words_text, next_row, rows_text};
+ghost use Rattle.debugger.specs.Standing.{places_before, place_before, nearest_symbol, distance_text, nearest_text, where_line, entered_line, entered_text, inside_text, where_text, begins_with, found_line, found_text, places_from, place_after, word_there, words_from, words_text, standing_text, rows_text};
 ghost use Rattle.debugger.specs.Executions.{HasLooked};
 
 use crate::desk::Desk;
 use crate::link_texts::{Piece, kind_part};
-use crate::rows::{RowKind, list_row, row_text};
+use crate::rows::{RowKind, write_list_row, write_row};
 use crate::short::word_at;
 use crate::texts::{Text, number_line};
 use arrayvec::ArrayVec;
@@ -24,6 +24,7 @@ use space::{Eras, Offset};
 use symbols::{Symbols, Value, value_text};
 use trace::{Names, place_text};
 use words::{Write, WriteFailed, push_all, push_decimal, push_octal, write_all};
+use yayul::SourceRows;
 
 /// The most bytes of the lines of words: 18 for each of 2,048.
 const WORDS_TEXT: usize = 36_864;
@@ -31,58 +32,46 @@ const WORDS_TEXT: usize = 36_864;
 /// The lines of words.
 pub(crate) type WordsText = ArrayVec<u8, WORDS_TEXT>;
 
-/// The most bytes of what `where` tells: its line, a row, and the line of an interrupt.
-const WHERE_TEXT: usize = 192;
-
-/// What `where` tells.
-pub(crate) type WhereText = ArrayVec<u8, WHERE_TEXT>;
-
-/// The line of the next instruction, its row, and whether an interrupt is served.
-#[derive(Drop)]
-struct Standing {
-    line: Text,
-    row: Text,
-    inside: bool,
-}
-
 impl Desk {
     /// `where`: where the next instruction stands, and the interrupt that is served.
     #[tactic(auto, unfolding(crate::specs::Standing::where_text))]
-    pub(crate) fn where_text<K: Keeper>(
+    pub(crate) fn tell_where<K: Keeper, W: Write>(
         &self,
         session: &mut Session<K>,
         symbols: &Symbols,
-    ) -> WhereText
+        rows: &SourceRows,
+        out: &mut W,
+    ) -> Result<(), WriteFailed>
         requires { self.now.position ≤ session.old.n }
-        ensures text { result.items ≡ where_text symbols.now session.old.scenario self.now.position }
+        ensures writes { W.told ≡ true → Writes (W.written out.old) (W.written out.new) (where_text symbols.now rows.now session.old.scenario self.now.position) result }
         ensures looked { HasLooked session.old session.new (4 * session.old.n) }
+        ensures failures { W.failures out.new ≡ failures_after (W.failures out.old) result }
     {
-        let standing = self.standing(session, symbols);
-        let mut text = ArrayVec::new();
-        push_all(&mut text, standing.line.as_slice());
-        push_all(&mut text, standing.row.as_slice());
-        if standing.inside {
-            push_all(&mut text, self.entered_text(session, symbols).as_slice());
+        if self.tell_standing(session, symbols, rows, out)? {
+            return write_all(out, self.entered_text(session, symbols).as_slice());
         }
-        text
+        Ok(())
     }
 
-    /// The line of the next instruction, and its row.
-    fn standing<K: Keeper>(&self, session: &mut Session<K>, symbols: &Symbols) -> Standing
+    /// Writes the line of the next instruction, and its row; and answers whether an interrupt is served.
+    fn tell_standing<K: Keeper, W: Write>(
+        &self,
+        session: &mut Session<K>,
+        symbols: &Symbols,
+        rows: &SourceRows,
+        out: &mut W,
+    ) -> Result<bool, WriteFailed>
         requires { self.now.position ≤ session.old.n }
-        ensures line { result.line.items ≡ where_line symbols.now (run session.old.scenario self.now.position) }
-        ensures short { array_vec_len result.line ≤ 40 }
-        ensures row { result.row.items ≡ next_row symbols.now session.old.scenario.rope (run session.old.scenario self.now.position) }
-        ensures short_row { array_vec_len result.row ≤ 53 }
-        ensures inside { result.inside ≡ (run session.old.scenario self.now.position).inside }
+        ensures writes { W.told ≡ true → Writes (W.written out.old) (W.written out.new) (standing_text symbols.now rows.now session.old.scenario (run session.old.scenario self.now.position)) result }
+        ensures inside { IfOk result (λ inside. inside ≡ (run session.old.scenario self.now.position).inside) }
         ensures looked { HasLooked session.old session.new session.old.n }
+        ensures failures { W.failures out.new ≡ failures_after (W.failures out.old) result }
     {
         match session.with_present(self.position) {
-            Ok((machine, _, processor)) => Standing {
-                line: where_line(symbols, machine),
-                row: list_row(symbols, machine, processor, &machine.next_place()),
-                inside: machine.inside(),
-            },
+            Ok((machine, _, processor)) => {
+                write_standing(symbols, rows, machine, processor, out)?;
+                Ok(machine.inside())
+            }
             Err(_) => unreachable!(),
         }
     }
@@ -122,19 +111,20 @@ impl Desk {
         &self,
         session: &mut Session<K>,
         symbols: &Symbols,
+        rows: &SourceRows,
         kind: RowKind,
         place: &Linear,
         count: u64,
         out: &mut W,
     ) -> Result<(), WriteFailed>
         requires { self.now.position ≤ session.old.n }
-        ensures writes { W.told ≡ true → Writes (W.written out.old) (W.written out.new) (rows_text kind symbols.now session.old.scenario.rope (history session.old.scenario) ((history session.old.scenario).after self.now.position) place.now count) result }
+        ensures writes { W.told ≡ true → Writes (W.written out.old) (W.written out.new) (rows_text kind symbols.now rows.now session.old.scenario.rope (history session.old.scenario) ((history session.old.scenario).after self.now.position) place.now count) result }
         ensures looked { HasLooked session.old session.new session.old.n }
         ensures failures { W.failures out.new ≡ failures_after (W.failures out.old) result }
     {
         match session.with_present(self.position) {
             Ok((machine, _, processor)) => {
-                write_rows(kind, symbols, machine, processor, place, count, out)
+                write_rows(kind, symbols, rows, machine, processor, place, count, out)
             }
             Err(_) => unreachable!(),
         }
@@ -149,26 +139,46 @@ fn row_count(place: &Linear, count: u64) -> u16
     count.min(u64::from(places_from(place))) as u16
 }
 
+/// Writes the line of the next instruction, and its row.
+fn write_standing<W: Write>(
+    symbols: &Symbols,
+    rows: &SourceRows,
+    machine: &Machine,
+    processor: &Processor,
+    out: &mut W,
+) -> Result<(), WriteFailed>
+    ensures writes { W.told ≡ true → Writes (W.written out.old) (W.written out.new) (standing_text symbols.now rows.now processor.now.scenario machine.now) result }
+    ensures failures { W.failures out.new ≡ failures_after (W.failures out.old) result }
+{
+    write_all(out, where_line(symbols, machine).as_slice())?;
+    write_list_row(
+        symbols,
+        rows,
+        machine,
+        processor,
+        &machine.next_place(),
+        out,
+    )
+}
+
 /// Writes the rows of so many places from one on.
 #[tactic(auto, unfolding(crate::specs::Standing::rows_text))]
 fn write_rows<W: Write>(
     kind: RowKind,
     symbols: &Symbols,
+    rows: &SourceRows,
     machine: &Machine,
     processor: &Processor,
     place: &Linear,
     count: u64,
     out: &mut W,
 ) -> Result<(), WriteFailed>
-    ensures writes { W.told ≡ true → Writes (W.written out.old) (W.written out.new) (rows_text kind symbols.now processor.now.scenario.rope (history processor.now.scenario) (sight processor.now.scenario.rope machine.now) place.now count) result }
+    ensures writes { W.told ≡ true → Writes (W.written out.old) (W.written out.new) (rows_text kind symbols.now rows.now processor.now.scenario.rope (history processor.now.scenario) (sight processor.now.scenario.rope machine.now) place.now count) result }
     ensures failures { W.failures out.new ≡ failures_after (W.failures out.old) result }
 {
     for index in 0..row_count(place, count) {
         let there = place_after(place, index);
-        write_all(
-            out,
-            row_text(kind, symbols, machine, processor, &there).as_slice(),
-        )?;
+        write_row(kind, symbols, rows, machine, processor, &there, out)?;
     }
     Ok(())
 }
