@@ -3,7 +3,8 @@ use Rattle.std.proofs.lemmas.Result.{err_from_is_err_and}
 use Rattle.words.proofs.Texts.{Writes-after, beginning-longer}
 use Rattle.cpu.specs.Run.{run}
 use Rattle.cpu.specs.State.{Scenario}
-use Rattle.debugger.specs.Standing.{entered_text, inside_text, last_outside, where_text}
+use Rattle.debugger.specs.Standing.{entered_text, inside_text, where_text}
+use Rattle.debugger.specs.Whys.{last_outside}
 use Rattle.debugger.proofs.desk.Desk.tell_where.Goals as goal
 
 pub returns-in_err-tell_standing-clause-writes : goal.returns-in_err-tell_standing-clause-writes
