@@ -126,7 +126,7 @@ wrong_places : asked (codes "mem 02,2005" ∷ codes "mem E3,1377" ∷ codes "mem
     ∷ codes "mem takes a place, or a place and a count\n"
     ∷ codes "mem takes a place, or a place and a count\n"
     ∷ codes "mem takes a place, or a place and a count\n"
-    ∷ codes "why takes nothing, a place, or a place and a count\n"
+    ∷ codes "why takes [PLACE [K]] [index]\n"
     ∷ codes "break takes at|exec|change PLACE, word PLACE W, chan C W [M]\n"
     ∷ [])
 unfolding extended_line extended_forms usages forms runs parsed counters sequences registers window
