@@ -1,8 +1,11 @@
 -- Texts that grow.
-use Rattle.std.proofs.Common.{◌≡◌, ℕ, ◌+◌, ◌<◌, Bool, true, false, List, [], ◌∷◌, ◌++◌, Some, length, take, drop, find, get_or, map, slice_get, refl, ap, sym, ◌∙◌, append_assoc}
-use Rattle.std.specs.List.{list_any}
+use Rattle.std.proofs.Common.{◌≡◌, ℕ, ◌+◌, ◌<◌, Bool, true, false, List, [], ◌∷◌, ◌++◌, Some, length, take, drop, find, get_or, map, slice_get, refl, ap, sym, inl, inr, ◌∙◌, append_assoc}
+use Rattle.std.specs.List.{list_all, list_any}
+use Rattle.std.proofs.lemmas.Bool.{cases_Bool}
 use Rattle.std.proofs.lemmas.List.{drop_more, take_more, map-append}
 use Rattle.std.proofs.lemmas.Option.{get_or_from_slice_get, slice_get_within}
+use Rattle.agc_text.specs.Bytes.{is_text_byte}
+use Rattle.faults.specs.Shown.{shown_byte}
 
 -- what is made of so many and one of some things
 pub mapped_more : {A B : Type 0} (f : A → B) (d : A) (text : List A) (i : ℕ) → i < length text → map f (take (i + 1) text) ≡ map f (take i text) ++ f (get_or text i d) ∷ []
@@ -39,3 +42,14 @@ pub any_on :
     (test : List ℕ → Bool) (names : List (List ℕ)) (i : ℕ) (name : List ℕ) → Some name ≡ slice_get names i → test name ≡ false
     → list_any test (drop i names) ≡ list_any test (drop (i + 1) names)
 any_on test names i name at fails = rw (left_at names i name at) (rw fails refl)
+
+-- a text that a line may hold is shown as it is
+pub text_is_shown : (text : List ℕ) → list_all is_text_byte text ≡ true → map shown_byte text ≡ text
+text_is_shown [] all = refl
+text_is_shown (x ∷ xs) all =
+    elim (cases_Bool (is_text_byte x)) [
+      | inl passes ↦ (
+          let rest : list_all is_text_byte xs ≡ true = rw passes at all in
+          rw (passes, text_is_shown xs rest) refl)
+      | inr fails ↦ absurd (let never : false ≡ true = rw fails at all in cc)
+    ]

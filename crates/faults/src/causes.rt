@@ -566,8 +566,18 @@ pub(crate) fn is_close(closeness: Closeness, text: &[u8], name: &[u8]) -> bool
 {
     match closeness {
         Closeness::InCapitals => text.len() == name.len() && is_in_capitals(text, name),
-        Closeness::AsLong => text.len() == name.len() && is_near(text, name),
-        Closeness::Near => is_about_as_long(text, name) && is_near(text, name),
+        Closeness::AsLong => text.len() == name.len() && is_near_where_it_begins(text, name),
+        Closeness::Near => is_about_as_long(text, name) && is_near_where_it_begins(text, name),
+    }
+}
+
+// Whether a name is near to a text: most are not by their first two bytes alone.
+fn is_near_where_it_begins(text: &[u8], name: &[u8]) -> bool
+    ensures { result ≡ is_near text.now name.now }
+{
+    match (text, name) {
+        ([a, b, ..], [c, d, ..]) if a != c && b != d && b != c && a != d => false,
+        _ => is_near(text, name),
     }
 }
 

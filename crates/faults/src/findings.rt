@@ -661,7 +661,20 @@ pub(crate) fn push_number(out: &mut Vec<u8>, number: u64) -> Result<(), AllocErr
 }
 
 // Appends a text, with a question mark for each byte that a line may not hold.
+#[tactic(auto, using(crate::proofs::GrowingTexts::text_is_shown))]
 fn push_shown(out: &mut Vec<u8>, text: &[u8]) -> Result<(), AllocError>
+    ensures { OnOk result (out.new.items ≡ out.old.items ++ map shown_byte text.now) }
+{
+    if is_text(text) {
+        out.extend_from_slice(text)?;
+        Ok(())
+    } else {
+        push_shown_bytes(out, text)
+    }
+}
+
+// The same, a byte at a time.
+fn push_shown_bytes(out: &mut Vec<u8>, text: &[u8]) -> Result<(), AllocError>
     ensures { OnOk result (out.new.items ≡ out.old.items ++ map shown_byte text.now) }
 {
     for byte in text {

@@ -11,6 +11,7 @@ mod LateFaults
 mod Lines
 mod Tables
 mod TakenPlaces
+mod TextAlone
 mod LineRequests
 mod WholeSource
 mod BankEnds

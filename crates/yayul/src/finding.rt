@@ -117,10 +117,16 @@ fn span_at(text: &[u8], kind: FaultKind) -> Span
 }
 
 /// The first byte that a line may not hold.
+#[tactic(auto, using(crate::proofs::TextAlone::no_wrong_byte))]
 pub(crate) fn wrong_byte(text: &[u8]) -> Option<u8>
     ensures { result ≡ wrong_byte text.now }
 {
-    text.get(wrong_place(text)).copied()
+    // Nearly all lines hold text alone, and sixteen bytes at a time are tested for that.
+    if is_text(text) {
+        None
+    } else {
+        text.get(wrong_place(text)).copied()
+    }
 }
 
 // The place of the first byte that a line may not hold, or its length.
