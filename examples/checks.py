@@ -269,11 +269,13 @@ def check_files(program, room, told):
     got = ran(source, bad, good, bad)
     told("check of a source and three feeds", (got.returncode, got.stdout.decode(), got.stderr) == (1, of_source + of_feed + of_feed + "3 errors, 0 warnings\n", b""), f"{got}")
     got = ran(source, bad, room)
-    told("check of a feed that cannot be read", (got.returncode, got.stdout.decode(), got.stderr) == (3, of_source + of_feed, b"agcws: E6\n"), f"{got}")
+    told("check of a feed that cannot be read", (got.returncode, got.stdout.decode(), got.stderr) == (3, of_source + of_feed, f"{room}: error E6: a file could not be opened or read\n".encode()), f"{got}")
     got = ran(source, bad, f"{room}/none")
-    told("check of a feed that is not there", (got.returncode, got.stdout, got.stderr) == (3, b"", b"agcws: E6\n"), f"{got}")
+    told("check of a feed that is not there", (got.returncode, got.stdout, got.stderr) == (3, b"", f"{room}/none: error E6: a file could not be opened or read\n".encode()), f"{got}")
+    got = ran(f"{room}/none", bad)
+    told("check of a source that is not there", (got.returncode, got.stdout, got.stderr) == (3, b"", f"{room}/none: error E6: a file could not be opened or read\n".encode()), f"{got}")
     got = ran(source, bad, written(f"{room}/long.feed", b"#" * 8388609))
-    told("check of a feed that is too long", (got.returncode, got.stdout.decode(), got.stderr) == (1, of_source + of_feed, b"agcws: E34\n"), f"{got}")
+    told("check of a feed that is too long", (got.returncode, got.stdout.decode(), got.stderr) == (1, of_source + of_feed, f"{room}/long.feed: error E34: a source, a feed or a table of names has more than 8,388,608 bytes\n".encode()), f"{got}")
     image = f"{room}/a.rope"
     subprocess.run([program, "asm", written(f"{room}/one.agc", b" OCT 1\n"), image], capture_output=True, check=True)
     kinds = {

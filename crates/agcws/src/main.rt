@@ -30,8 +30,8 @@ use workshop::{
     all_headings, asm_engine, asm_with_check_words, check_feed, check_source, compare_engine,
     compare_only_engine, cover_and_tell, cover_program, debug_extended, debug_program, explanation,
     may_run, parity_engine, refusal_of, report, report_no_room, run_and_tell, run_program,
-    run_with_notes, source_engine, sums_engine, trace_and_tell, trace_program, upgrade_engine,
-    words_engine, write_end, write_tally,
+    run_with_notes, source_engine, sums_engine, trace_and_tell, trace_program, unread_text,
+    upgrade_engine, words_engine, write_end, write_tally,
 };
 
 /// The exit status where all is done.
@@ -555,22 +555,51 @@ fn debug(rt: &HostRuntime, matches: &ArgMatches<'_>) -> Result<u8, WorkshopFault
     Ok(DONE)
 }
 
-/// `agcws check [--flight] [--unused] SRC [FEED ..]`. All files are opened before anything is read.
+/// `agcws check [--flight] [--unused] SRC [FEED ..]`. All files are opened before anything is read. A file that can't be read is told by its name.
 fn check(rt: &HostRuntime, matches: &ArgMatches<'_>) -> Result<u8, WorkshopFault> {
     let Some(name) = matches.get_str(SOURCE) else {
         return Ok(WRONG_ARGUMENTS);
     };
     let names = matches.get_strs(command_line::FEEDS).unwrap_or(&[]);
+    let mut last = name;
+    match check_files(rt, matches, name, names, &mut last) {
+        Ok(tally) => Ok(if tally.errors == 0 { DONE } else { REFUSED }),
+        Err(fault) => refused_file(rt, last, fault),
+    }
+}
+
+/// Tells a fault: one of a file that can't be read as faults of a source are told.
+fn refused_file(rt: &HostRuntime, name: &str, fault: WorkshopFault) -> Result<u8, WorkshopFault> {
+    match fault {
+        WorkshopFault::ReadFailed | WorkshopFault::TooLong => {
+            let text = unread_text(rt.alloc(), name.as_bytes(), &fault)?;
+            write_all(&mut Std::new(rt.stderr()), text.as_slice())?;
+            Ok(fault.status())
+        }
+        fault => Err(fault),
+    }
+}
+
+/// Tells what is wrong with a source and some feeds. The file that was opened or read last is named beside a fault.
+fn check_files<'a>(
+    rt: &HostRuntime,
+    matches: &ArgMatches<'_>,
+    name: &'a str,
+    names: &[&'a str],
+    last: &mut &'a str,
+) -> Result<workshop::Tally, WorkshopFault> {
     let mut source = opened(rt, name)?;
     let mut feeds = Vec::new(rt.alloc());
     for name in names {
+        *last = *name;
         if feeds.push(opened(rt, name)?).is_err() {
             return Err(WorkshopFault::NoMemory);
         }
     }
+    *last = name;
     let language = language(matches);
     let unused = matches.get_flag(UNUSED);
-    let tally = with_stdout(rt, |out| {
+    with_stdout(rt, |out| {
         let told = check_source(
             rt.alloc(),
             language,
@@ -579,21 +608,22 @@ fn check(rt: &HostRuntime, matches: &ArgMatches<'_>) -> Result<u8, WorkshopFault
             &mut source,
             out,
         )?;
-        check_feeds(rt, names, &mut feeds, told, out)
-    })?;
-    Ok(if tally.errors == 0 { DONE } else { REFUSED })
+        check_feeds(rt, names, &mut feeds, last, told, out)
+    })
 }
 
 /// Tells what is wrong with some feeds, after what was told of a source, and then how much was told.
-fn check_feeds<F: Read, W: Write>(
+fn check_feeds<'a, F: Read, W: Write>(
     rt: &HostRuntime,
-    names: &[&str],
+    names: &[&'a str],
     feeds: &mut [F],
+    last: &mut &'a str,
     told: workshop::Tally,
     out: &mut W,
 ) -> Result<workshop::Tally, WorkshopFault> {
     let mut told = told;
     for (name, feed) in names.iter().zip(feeds) {
+        *last = *name;
         told = told.with_errors(check_feed(rt.alloc(), name.as_bytes(), feed, out)?);
     }
     write_tally(rt.alloc(), &told, out)?;

@@ -9,6 +9,7 @@ use Rattle.yayul.specs.declared.finding.Finding.{Finding}
 use Rattle.yayul.specs.declared.language.Language.{Language}
 use Rattle.faults.specs.Causes.{Cause, filled, near_label, text_of, warning_cause}
 use Rattle.faults.specs.Kinds.{kind_of_source}
+use Rattle.faults.specs.Refusals.{meaning}
 use Rattle.faults.specs.FlightCauses.{told_cause}
 use Rattle.faults.specs.Interpretive.{count_before_first, first_and_others, interpretive_cause}
 use Rattle.faults.specs.Shown.{shown_byte}
@@ -135,6 +136,10 @@ counted count noun = decimal count ++ codes " " ++ noun ++ (if count == 1 then [
 -- how many there are
 abbrev pub count_text : ℕ → ℕ → List ℕ
 count_text errors warnings = counted errors (codes "error") ++ codes ", " ++ counted warnings (codes "warning") ++ codes "\n"
+
+-- a file that could not be read whole, by the number of why
+abbrev pub refused_file : List ℕ → ℕ → List ℕ
+refused_file name number = name ++ codes ": error E" ++ decimal number ++ codes ": " ++ meaning number ++ codes "\n"
 
 -- ## All
 -- the lines of some faults and warnings

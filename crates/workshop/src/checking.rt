@@ -1,15 +1,17 @@
 //! The engines that tell all faults of a source, what in it is likely a mistake, and the fault of a feed.
 
-ghost use Rattle.std.specs.Prelude.{◌≡◌, ◌^◌, ◌+◌, ◌-◌, min, length, IfOk};
+ghost use Rattle.std.specs.Prelude.{◌≡◌, ◌^◌, ◌+◌, ◌-◌, min, length, IfErr, IfOk};
 ghost use Rattle.std.specs.Result.{result_map_both};
-ghost use Rattle.faults.specs.Report.{report};
+ghost use Rattle.faults.specs.Report.{refused_file, report};
 ghost use Rattle.faults.specs.Warnings.{warnings};
 ghost use Rattle.workshop.specs.Checks.{Checks, TellsTally, feed_reported, reported};
 ghost use Rattle.workshop.specs.Failures.{reader, writer};
+ghost use Rattle.workshop.specs.Faults.{number_of};
+ghost use Rattle.workshop.specs.declared.fault.WorkshopFault.TheVariants as WorkshopFault;
 ghost use Rattle.workshop.specs.Loading.{Reads, ReadsText};
 
 use crate::fault::WorkshopFault;
-use faults::{counts, feed_report, report, warnings};
+use faults::{counts, feed_report, refused_file, report, warnings};
 use std::alloc::{AllocError, Global};
 use words::{MOST_BYTES, Read, Write, read_text, write_all};
 use yayul::{Finding, Language, findings};
@@ -86,6 +88,21 @@ pub fn write_tally<W: Write>(alloc: Global, tally: &Tally, out: &mut W) -> Resul
         Err(_) => return Err(WorkshopFault::NoMemory),
     };
     Ok(write_all(out, &text)?)
+}
+
+/// The line that tells that a file of this name could not be read, as `my.agc: error E6: a file could not be opened or read`.
+pub fn unread_text(
+    alloc: Global,
+    name: &[u8],
+    fault: &WorkshopFault,
+) -> Result<Vec<u8>, WorkshopFault>
+    ensures text { IfOk result (λ text. text.items ≡ refused_file name.now (number_of fault.now)) }
+    ensures fault { IfErr result (λ e. e ≡ WorkshopFault.NoMemory) }
+{
+    match refused_file(alloc, name, fault.number()) {
+        Ok(text) => Ok(text),
+        Err(_) => Err(WorkshopFault::NoMemory),
+    }
 }
 
 // Reads a source, and tells its faults and warnings as text, and how many there are.

@@ -120,7 +120,7 @@ impl From<DebugFault> for WorkshopFault {
 
 impl WorkshopFault {
     /// The number that the fault is told by.
-    fn number(&self) -> u8
+    pub(crate) fn number(&self) -> u8
         ensures { result ≡ number_of self.now }
     {
         match self {
@@ -148,7 +148,7 @@ impl WorkshopFault {
     }
 
     /// The exit status of a program that it ends: 1 for an input that is refused, 3 for a device or memory.
-    fn status(&self) -> u8
+    pub fn status(&self) -> u8
         ensures { result ≡ status_of self.now }
     {
         match self {

@@ -20,7 +20,7 @@ mod ropes;
 mod tracing;
 
 pub use assembly::{asm_engine, asm_with_check_words, report_no_room};
-pub use checking::{Tally, check_feed, check_source, write_tally};
+pub use checking::{Tally, check_feed, check_source, unread_text, write_tally};
 pub use commands_end::{Counted, tell_commands_end};
 pub use covering::{cover_and_tell, cover_program};
 pub use debugger::{debug_session, extended_session};
