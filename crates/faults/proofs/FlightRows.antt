@@ -15,7 +15,7 @@ use Rattle.faults.specs.Causes.{Cause, filled}
 use Rattle.faults.specs.FlightCauses.{downlist_words, bank_words, comparisons, channel_words, count_words, decimals, double_octals, fixed_words, octal_words, told_cause, unsure_effects, unsure_values, unsure_words, verb_nouns}
 use Rattle.faults.specs.Interpretive.{count_before_first, first_and_others, interpretive_operators}
 use Rattle.faults.specs.Kinds.{kind_of_source}
-use Rattle.faults.specs.Report.{report, shown_line, told_text}
+use Rattle.faults.specs.Report.{beside_text, report, shown_line, told_text}
 use Rattle.faults.specs.Warnings.{Parts, parts_for, warnings}
 
 -- a source of lines, each but the last followed by a semicolon here
@@ -63,7 +63,7 @@ reported : report Flight (codes "a") (source (codes " FROB;+3 CALL; FOO; CA X; C
     ++ codes "a:2:2: warning W2:  is the register or the counter of that number, and not the number;    2 | +3 CALL;      |  ^^;      = a number has a line of its own: NAME OCT , and CALL NAME;"
     ++ codes "a:3:2: warning W3: FOO takes two words, and ERASE reserves one for ;    3 |  FOO;      |  ^^;      =  ERASE +1 reserves two;"
     ++ codes "a:4:2: error E17: no line defines X;    4 |  CA X;      |  ^^;")
-unfolding report told_text shown_line kind_of_source lines digits runs operators parsed
+unfolding report told_text shown_line beside_text kind_of_source lines digits runs operators parsed
 reported = refl
 
 -- none of its operators is one of a flight source

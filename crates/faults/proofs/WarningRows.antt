@@ -10,7 +10,7 @@ use Rattle.yayul.specs.declared.finding.Finding.{Finding}
 use Rattle.yayul.specs.declared.language.Language.TheVariants.{Standard}
 use Rattle.faults.specs.Kinds.{kind_of_source}
 use Rattle.faults.specs.Warnings.{warnings}
-use Rattle.faults.specs.Report.{count_text, report, shown_line, told_text}
+use Rattle.faults.specs.Report.{beside_text, count_text, report, shown_line, told_text}
 
 -- a source of lines, each but the last followed by a semicolon here
 abbrev source : List ℕ → List ℕ
@@ -64,16 +64,23 @@ shown_in_order : report Standard (codes "a") (source (codes " CA 5; TS FIV;Z")) 
     ++ codes "      = reserve the word there: SETLOC and a place below 4000, and ERASE;"
     ++ codes "a:2:2: warning W3: TS takes two words, and ERASE reserves one for FIV;    2 |  TS FIV;      |  ^^;      = FIV ERASE +1 reserves two;"
     ++ codes "a:3:2: warning W8: no operand names Z;    3 | Z;      |  ^;")
-unfolding report told_text shown_line kind_of_source lines digits runs operators parsed
+unfolding report told_text shown_line beside_text kind_of_source lines digits runs operators parsed
 shown_in_order = refl
 
 -- a symbol of the wrong kind is told with its line, and one that a later line defines is not taken for another
 told_with_lines : report Standard (codes "a") (source (codes " TS SUM;SUM OCT 0; SETLOC SUX;SUX OCT 1")) (placed 1 25 ∷ placed 3 18 ∷ []) []
     ≡ source (codes "a:1:2: error E25: TS writes to erasable memory, and SUM, of line 2, is not there;    1 |  TS SUM;      |  ^^;"
     ++ codes "      = reserve the word there: SETLOC and a place below 4000, and ERASE;"
-    ++ codes "a:3:2: error E18: SETLOC needs the value of SUX here, and no earlier line defines it;    3 |  SETLOC SUX;      |  ^^;")
-unfolding report told_text shown_line kind_of_source lines digits runs operators parsed
+    ++ codes "a:3:2: error E18: SETLOC needs the value of SUX here, and line 4 defines it, which is below;    3 |  SETLOC SUX;      |  ^^;")
+unfolding report told_text shown_line beside_text kind_of_source lines digits runs operators parsed
 told_with_lines = refl
+
+-- an E18 names the first of two lines below that define its symbol; one that its own line defines names none
+told_below : report Standard (codes "a") (source (codes " SETLOC SUX; OCT 1;SUX OCT 1;SUX OCT 2;P EQUALS P")) (placed 1 18 ∷ placed 5 18 ∷ []) []
+    ≡ source (codes "a:1:2: error E18: SETLOC needs the value of SUX here, and line 3 defines it, which is below;    1 |  SETLOC SUX;      |  ^^;"
+    ++ codes "a:5:2: error E18: EQUALS needs the value of P here, and no earlier line defines it;    5 | P EQUALS P;      |  ^^;")
+unfolding report told_text shown_line beside_text kind_of_source lines digits runs operators parsed
+told_below = refl
 
 -- how many there are
 count_shown : count_text 2 3 ++ count_text 1 0 ≡ source (codes "2 errors, 3 warnings;1 error, 0 warnings;")

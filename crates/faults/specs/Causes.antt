@@ -290,6 +290,10 @@ undefined_cause near parts = symbol_cause (codes "no line defines @") near parts
 abbrev pub early_cause : Bool → Parts → Cause
 early_cause near parts = symbol_cause (codes "% needs the value of @ here, and no earlier line defines it") near parts
 
+-- E18: a symbol that a line below defines, the number of which stands for `~`
+abbrev pub below_cause : Cause
+below_cause = said (codes "% needs the value of @ here, and line ~ defines it, which is below")
+
 -- E19: a bank that the operator does not take
 abbrev pub bank_cause : Parts → Cause
 bank_cause parts =

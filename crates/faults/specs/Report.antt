@@ -1,5 +1,5 @@
 -- The faults and the warnings of a source as lines of text.
-use Rattle.std.specs.Prelude.{ℕ, ◌+◌, ◌-◌, ◌==◌, ◌||◌, List, [], ◌∷◌, ◌++◌, length, map, take, drop, max, min, replicate, codes, decimal, flat_map, nat_le, Bool, Option, Some, None, is_some, unwrap_or, if◌then◌else◌}
+use Rattle.std.specs.Prelude.{ℕ, ◌+◌, ◌-◌, ◌==◌, ◌&&◌, ◌||◌, not, List, [], ◌∷◌, ◌++◌, length, map, take, drop, max, min, replicate, codes, decimal, flat_map, nat_le, nat_lt, Bool, true, Option, Some, None, is_some, unwrap_or, if◌then◌else◌}
 use Rattle.std.specs.List.{fold, position_or_len}
 use Rattle.std.specs.Option.{option_map_or}
 use Rattle.agc_text.specs.Bytes.{space, tab}
@@ -7,14 +7,15 @@ use Rattle.agc_text.specs.Lines.{lines}
 use Rattle.agc_text.specs.Tables.{same_name}
 use Rattle.yayul.specs.declared.finding.Finding.{Finding}
 use Rattle.yayul.specs.declared.language.Language.{Language}
-use Rattle.faults.specs.Causes.{Cause, filled, near_label, text_of, warning_cause}
+use Rattle.yayul.specs.declared.language.Language.TheVariants.{Flight, Standard}
+use Rattle.faults.specs.Causes.{Cause, below_cause, filled, near_label, text_of, warning_cause}
 use Rattle.faults.specs.Kinds.{kind_of_source}
 use Rattle.faults.specs.Refusals.{meaning}
-use Rattle.faults.specs.FlightCauses.{told_cause}
+use Rattle.faults.specs.FlightCauses.{equalities, told_cause}
 use Rattle.faults.specs.Interpretive.{count_before_first, first_and_others, interpretive_cause}
 use Rattle.faults.specs.Shown.{shown_byte}
 pub use Rattle.faults.specs.Shown.{text_at}
-use Rattle.faults.specs.Warnings.{Parts, is_among, parts_for, with_field}
+use Rattle.faults.specs.Warnings.{Parts, has_operator, is_among, parts_for, with_field}
 use Rattle.faults.specs.declared.findings.Severity.{Severity}
 use Rattle.faults.specs.declared.findings.Severity.TheVariants.{Error, Warning}
 
@@ -95,9 +96,26 @@ told_by_line labels parts number =
 abbrev pub beside : Language → List (List ℕ) → List (List ℕ) → Parts → Finding → Option (List ℕ)
 beside language labels texts parts f = option_map_or (λ name. Some (decimal (first_line language texts name))) (told_by_line labels parts f.number) (near_label labels parts f)
 
--- the lines of a finding of a line
+-- the lines of a finding of a line, with what it is told with from other lines
+unfoldable pub beside_text : Language → List ℕ → List (List ℕ) → List (List ℕ) → List ℕ → Parts → Severity × Finding → List ℕ
+beside_text language name labels texts text parts f = finding_text language name text parts (beside language labels texts parts f.1) f.0 f.1
+
+-- a symbol needs its value on a line that names it: not on one of a flight source whose label may wait for that
+abbrev pub needs_value : Language → Parts → Bool
+needs_value Standard parts = true
+needs_value Flight parts = not (has_operator equalities parts)
+
+-- the first line that has the symbol of an E18 as its label, where that stands below
+abbrev pub line_below : Language → List (List ℕ) → List (List ℕ) → Parts → Finding → Option ℕ
+line_below language labels texts parts f =
+    if f.number == 18 && needs_value language parts && is_among labels (text_of parts.operand) && nat_lt f.line (first_line language texts (text_of parts.operand))
+    then Some (first_line language texts (text_of parts.operand)) else None
+
+-- the lines of a finding of a line: an E18 names the line below that defines its symbol
 unfoldable pub shown_line : Language → List ℕ → List (List ℕ) → List (List ℕ) → List ℕ → Parts → Severity × Finding → List ℕ
-shown_line language name labels texts text parts f = finding_text language name text parts (beside language labels texts parts f.1) f.0 f.1
+shown_line language name labels texts text parts f =
+    option_map_or (λ line. caused_text name text parts (decimal line) f.0 f.1 below_cause) (line_below language labels texts parts f.1)
+    (beside_text language name labels texts text parts f)
 
 -- the lines of a finding of a source of a language
 abbrev pub shown_finding : Language → List ℕ → List (List ℕ) → List (List ℕ) → Severity × Finding → List ℕ

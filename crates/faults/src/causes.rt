@@ -5,7 +5,7 @@ ghost use Rattle.std.specs.Option.{option_map};
 ghost use Rattle.agc_text.specs.Tables.{value_in};
 ghost use Rattle.agc_text.specs.Views.{piece};
 ghost use Rattle.faults.specs.Warnings.{parts_in, operator_names, bank_operators};
-ghost use Rattle.faults.specs.Causes.{byte_cause, begins_with_mark, label_cause, operator_cause, digits_cause, place_cause, operand_cause, symbol_cause, undefined_cause, early_cause, bank_cause, room_cause, kind_cause, range_cause, fault_cause, warning_cause, near_label, said, cured, cured_by, text_of, holds, begins, is_signed, is_foreign_comment, has_foreign_comment, is_beyond_octal, near_name, is_close, is_in_capitals, capital, is_near, is_exchanged, foreign_operators, label_refusers, octal_operators, decimal_operators, block_operators, plain_operators, channel_operators, erasable_operators, fixed_operators, jump_operators, writers, erasable_readers};
+ghost use Rattle.faults.specs.Causes.{byte_cause, begins_with_mark, label_cause, operator_cause, digits_cause, place_cause, operand_cause, symbol_cause, undefined_cause, early_cause, below_cause, bank_cause, room_cause, kind_cause, range_cause, fault_cause, warning_cause, near_label, said, cured, cured_by, text_of, holds, begins, is_signed, is_foreign_comment, has_foreign_comment, is_beyond_octal, near_name, is_close, is_in_capitals, capital, is_near, is_exchanged, foreign_operators, label_refusers, octal_operators, decimal_operators, block_operators, plain_operators, channel_operators, erasable_operators, fixed_operators, jump_operators, writers, erasable_readers};
 ghost use Rattle.faults.specs.Registers.{registers};
 ghost use Rattle.faults.specs.Views.{cause_in, entries};
 
@@ -380,6 +380,13 @@ pub(crate) fn symbol_cause(words: &'static [u8], near: bool, parts: &Line<'_>) -
     } else {
         Cause::said(words)
     }
+}
+
+/// E18: a symbol that a line below defines, the number of which stands for `~`.
+pub(crate) fn below_cause() -> Cause
+    ensures { cause_in result ≡ below_cause }
+{
+    Cause::said(b"% needs the value of @ here, and line ~ defines it, which is below")
 }
 
 // E19: a bank that the operator does not take.

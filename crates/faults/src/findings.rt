@@ -7,15 +7,15 @@ ghost use Rattle.agc_text.specs.Bytes.{space};
 ghost use Rattle.faults.specs.Kinds.{kind_of_source};
 ghost use Rattle.faults.specs.Warnings.{parts_in};
 ghost use Rattle.faults.specs.Shown.{shown_byte};
-ghost use Rattle.faults.specs.Causes.{filled, filled_byte, of_line};
+ghost use Rattle.faults.specs.Causes.{below_cause, filled, filled_byte, of_line};
 ghost use Rattle.faults.specs.Views.{cause_in};
-ghost use Rattle.faults.specs.Report.{margin_byte, numbered, shown_part, row_text, marks_text, place_text, kind_text, cause_of, caused_text, message_text, cure_text, finding_text, text_at, shown_finding, shown_line, as_label, told_by_line, labels_of, sought_labels, has_label, first_line, count_before, as_error, as_warning, merged, counted, count_text, interpretive_text, warned_before, listed_from, listed_around, told_around, told_text, refused_file, report};
+ghost use Rattle.faults.specs.Report.{margin_byte, numbered, shown_part, row_text, marks_text, place_text, kind_text, cause_of, caused_text, message_text, cure_text, finding_text, text_at, shown_finding, shown_line, beside_text, needs_value, line_below, as_label, told_by_line, labels_of, sought_labels, has_label, first_line, count_before, as_error, as_warning, merged, counted, count_text, interpretive_text, warned_before, listed_from, listed_around, told_around, told_text, refused_file, report};
 
-use crate::causes::{Cause, near_label, text_of, warning_cause};
-use crate::flight_causes::told_cause;
+use crate::causes::{Cause, below_cause, near_label, text_of, warning_cause};
+use crate::flight_causes::{equalities, told_cause};
 use crate::interpretive::{count_before_first, first_and_others, interpretive_cause};
 use crate::kinds::push_kind_of_source;
-use crate::mistakes::add_field;
+use crate::mistakes::{add_field, has_operator};
 use crate::names::NameSet;
 use crate::parts::parts_for;
 use crate::refusals::meaning;
@@ -33,6 +33,9 @@ const MOST_SHOWN: usize = 120;
 
 /// The most faults of a source that are told with labels of other lines.
 const MOST_FAULTS: usize = 100;
+
+/// The number of the fault that a symbol has no value yet.
+const USED_TOO_EARLY: u8 = 18;
 
 /// How many columns the number of a line has.
 const NUMBER_WIDTH: usize = 5;
@@ -360,8 +363,8 @@ fn push_shown_finding(
     )
 }
 
-// Appends the lines of a finding of a line with some fields.
-#[tactic(auto, using(words::proofs::Digits::short_decimal), unfolding(crate::specs::Report::shown_line))]
+// Appends the lines of a finding of a line with some fields: an E18 names the line below that defines its symbol.
+#[tactic(auto, unfolding(crate::specs::Report::shown_line))]
 fn push_shown_line(
     out: &mut Vec<u8>,
     language: Language,
@@ -374,6 +377,89 @@ fn push_shown_line(
     finding: &Finding,
 ) -> Result<(), AllocError>
     ensures { OnOk result (out.new.items ≡ out.old.items ++ shown_line language name.now labels.now (map (λ t. t.now) texts.now) text.now (parts_in parts.now) (severity, finding.now)) }
+{
+    match line_below(language, labels, texts, parts, finding) {
+        Some(line) => push_below(out, name, text, parts, severity, finding, line),
+        None => push_beside(
+            out, language, name, labels, texts, text, parts, severity, finding,
+        ),
+    }
+}
+
+// Appends the lines of an E18 whose symbol a line below defines.
+#[tactic(auto, using(words::proofs::Digits::short_decimal))]
+fn push_below(
+    out: &mut Vec<u8>,
+    name: &[u8],
+    text: &[u8],
+    parts: &Line<'_>,
+    severity: Severity,
+    finding: &Finding,
+    line: u64,
+) -> Result<(), AllocError>
+    ensures { OnOk result (out.new.items ≡ out.old.items ++ caused_text name.now text.now (parts_in parts.now) (decimal line) severity finding.now below_cause) }
+{
+    let mut digits = ArrayVec::<u8, DIGITS>::new();
+    push_decimal(&mut digits, line);
+    let line = digits.as_slice();
+    push_caused(
+        out,
+        name,
+        text,
+        parts,
+        line,
+        severity,
+        finding,
+        &below_cause(),
+    )
+}
+
+// The first line that has the symbol of an E18 as its label, where that stands below.
+fn line_below(
+    language: Language,
+    labels: &NameSet,
+    texts: &[&[u8]],
+    parts: &Line<'_>,
+    finding: &Finding,
+) -> Option<u64>
+    ensures { result ≡ line_below language labels.now (map (λ t. t.now) texts.now) (parts_in parts.now) finding.now }
+{
+    let symbol = text_of(parts.operand);
+    if finding.number != USED_TOO_EARLY || !needs_value(language, parts) || !labels.has(symbol) {
+        return None;
+    }
+    let line = first_line(language, texts, symbol);
+    if u64::from(finding.line) < line {
+        Some(line)
+    } else {
+        None
+    }
+}
+
+// Whether a symbol needs its value on a line that names it: not on one of a flight source whose label may wait for that.
+fn needs_value(language: Language, parts: &Line<'_>) -> bool
+    ensures { result ≡ needs_value language (parts_in parts.now) }
+{
+    match language {
+        Language::Standard => true,
+        Language::Flight => !has_operator(equalities(), parts),
+    }
+}
+
+// Appends the lines of a finding of a line with some fields, with what it is told with from other lines.
+#[tactic(auto, using(words::proofs::Digits::short_decimal), unfolding(crate::specs::Report::beside_text))]
+fn push_beside(
+    out: &mut Vec<u8>,
+    language: Language,
+    name: &[u8],
+    labels: &NameSet,
+    texts: &[&[u8]],
+    text: &[u8],
+    parts: &Line<'_>,
+    severity: Severity,
+    finding: &Finding,
+) -> Result<(), AllocError>
+    ensures { OnOk result (out.new.items ≡ out.old.items ++ beside_text language name.now labels.now (map (λ t. t.now) texts.now) text.now (parts_in parts.now) (severity, finding.now)) }
 {
     match told_by_line(labels, parts, finding.number) {
         Some(label) => {

@@ -362,7 +362,7 @@ fn double_decimals() -> &'static [&'static str]
     &DOUBLE_DECIMALS
 }
 
-fn equalities() -> &'static [&'static str]
+pub(crate) fn equalities() -> &'static [&'static str]
     ensures { map (λ name. name.now) result.now ≡ equalities }
 {
     &EQUALITIES
