@@ -59,7 +59,8 @@ SAID = [
     (" EXTEND| CA X|X OCT 1", [(2, 2, "E24: EXTEND stands before CA, which is no extracode", "take EXTEND out")]),
     ("X EQU 5| ORG 4000", [(1, 3, "E15: EQU is no operator of this assembler", "EQUALS gives a name its value"), (2, 2, "E15: ORG is no operator of this assembler", "SETLOC sets the location")]),
     (" 2DEC 1.5", [(1, 2, "E15: 2DEC is no operator of this assembler", "two words: a DEC for each")]),
-    (" SETLOC SUX|SUX OCT 1|SUY OCT 1", [(1, 9, "E18: SETLOC needs the value of SUX here, and no earlier line defines it", "")]),
+    (" SETLOC SUX|SUX OCT 1|SUY OCT 1", [(1, 9, "E18: SETLOC needs the value of SUX here, and line 2 defines it, which is below", "")]),
+    ("P EQUALS P +1|R EQUALS S|S OCT 1|S OCT 2", [(1, 10, "E18: EQUALS needs the value of P here, and no earlier line defines it", ""), (2, 10, "E18: EQUALS needs the value of S here, and line 3 defines it, which is below", ""), (4, 1, "E14: line 3 has the label S already", "")]),
     (" SETLOC SUZ|SUX OCT 1", [(1, 9, "E18: SETLOC needs the value of SUZ here, and no earlier line defines it", "did you mean SUX?")]),
     ("\xef\xbb\xbf OCT 1", [(1, 1, "E10: a byte order mark stands in front of the line, and a line holds ASCII alone", "tail -c +4 FILE > NEW")]),
     (" OCT 1 # \xdc", [(1, 10, "E10: this byte is not ASCII, and a line holds ASCII alone, its comment too", "")]),
@@ -308,11 +309,13 @@ def check_files(program, room, told):
     got = ran(source, bad, good, bad)
     told("check of a source and three feeds", (got.returncode, got.stdout.decode(), got.stderr) == (1, of_source + of_feed + of_feed + "3 errors, 0 warnings\n", b""), f"{got}")
     got = ran(source, bad, room)
-    told("check of a feed that cannot be read", (got.returncode, got.stdout.decode(), got.stderr) == (3, of_source + of_feed, b"agcws: E6\n"), f"{got}")
+    told("check of a feed that cannot be read", (got.returncode, got.stdout.decode(), got.stderr) == (3, of_source + of_feed, f"{room}: error E6: a file could not be opened or read\n".encode()), f"{got}")
     got = ran(source, bad, f"{room}/none")
-    told("check of a feed that is not there", (got.returncode, got.stdout, got.stderr) == (3, b"", b"agcws: E6\n"), f"{got}")
+    told("check of a feed that is not there", (got.returncode, got.stdout, got.stderr) == (3, b"", f"{room}/none: error E6: a file could not be opened or read\n".encode()), f"{got}")
+    got = ran(f"{room}/none", bad)
+    told("check of a source that is not there", (got.returncode, got.stdout, got.stderr) == (3, b"", f"{room}/none: error E6: a file could not be opened or read\n".encode()), f"{got}")
     got = ran(source, bad, written(f"{room}/long.feed", b"#" * 8388609))
-    told("check of a feed that is too long", (got.returncode, got.stdout.decode(), got.stderr) == (1, of_source + of_feed, b"agcws: E34\n"), f"{got}")
+    told("check of a feed that is too long", (got.returncode, got.stdout.decode(), got.stderr) == (1, of_source + of_feed, f"{room}/long.feed: error E34: a source, a feed or a table of names has more than 8,388,608 bytes\n".encode()), f"{got}")
     image = f"{room}/a.rope"
     subprocess.run([program, "asm", written(f"{room}/one.agc", b" OCT 1\n"), image], capture_output=True, check=True)
     kinds = {

@@ -313,6 +313,11 @@ def files_without_memory(refusing, source, feed, old, made):
 E6, E7 = b"agcws: E6\n", b"agcws: E7\n"
 
 
+def unread(path):
+    """What `check` says of a file that cannot be read."""
+    return f"{path}: error E6: a file could not be opened or read\n".encode()
+
+
 def name_of(words):
     """A call, with the names of its files alone."""
     return " ".join(os.path.basename(it) for it in words)
@@ -347,7 +352,7 @@ def devices(room):
         reading += [("trace", "--flight", bad, EMPTY, "1"), ("trace", "--image", bad, EMPTY, "1"), ("cover", "--flight", bad, EMPTY, "1"), ("cover", "--image", bad, EMPTY, "1"), ("check", "--flight", bad), ("compare", "--only", bad, image), ("compare", "--only", FIVE, bad), ("words", "--source", bad), ("words", "--where", bad), ("parity", "--form=hardware", bad)]
         for words in reading:
             answer = agcws(*words)
-            told(f"devices: {name_of(words)}", answer == (3, b"", E6), f"{answer}")
+            told(f"devices: {name_of(words)}", answer == (3, b"", unread(bad) if words[0] == "check" else E6), f"{answer}")
     told("devices: a file that cannot be read leaves no image", not os.path.exists(made))
     inputs_that_fail(folder, sessions)
     no_streams(made)
@@ -460,7 +465,8 @@ def few_of_the_system(writing):
         if len([it for it in words if "/" in it]) > 1:
             # three are the standard streams, and three stand in for those of them that may be closed
             ran = limited(words, resource.RLIMIT_NOFILE, 7)
-            told(f"devices: {name_of(words)}, with one file to be had", ran == (3, b"", E7 if words[0] == "asm" else E6), f"{ran}")
+            wanted = E7 if words[0] == "asm" else unread(EMPTY) if words[0] == "check" else E6
+            told(f"devices: {name_of(words)}, with one file to be had", ran == (3, b"", wanted), f"{ran}")
 
 
 def limited(words, limit, most):

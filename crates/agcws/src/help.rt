@@ -416,8 +416,9 @@ Exit status:
   1  there is a fault; or the source or a feed is too long (E34)
   2  the command line is wrong
   3  a file, a device or memory failed
-E34 and status 3 print one line to standard error, as agcws: E6, and what was
-told before stays told.";
+E34 and status 3 print one line to standard error, and what was told before
+stays told. Of a file that cannot be read it is my.agc: error E6: and words,
+else agcws: E2 or E7.";
 
 /// What `agcws explain --help` tells after its arguments.
 pub const EXPLAIN_HELP: &str =

@@ -569,11 +569,7 @@ fn check(rt: &HostRuntime, matches: &ArgMatches<'_>) -> Result<u8, WorkshopFault
 }
 
 /// Tells a fault: one of a file that can't be read as faults of a source are told.
-fn refused_file(
-    rt: &HostRuntime,
-    name: &str,
-    fault: WorkshopFault,
-) -> Result<u8, WorkshopFault> {
+fn refused_file(rt: &HostRuntime, name: &str, fault: WorkshopFault) -> Result<u8, WorkshopFault> {
     match fault {
         WorkshopFault::ReadFailed | WorkshopFault::TooLong => {
             let text = unread_text(rt.alloc(), name.as_bytes(), &fault)?;

@@ -10,6 +10,7 @@ use Rattle.yayul.specs.declared.language.Language.{Language}
 use Rattle.yayul.specs.declared.language.Language.TheVariants.{Flight, Standard}
 use Rattle.faults.specs.Causes.{Cause, below_cause, filled, near_label, text_of, warning_cause}
 use Rattle.faults.specs.Kinds.{kind_of_source}
+use Rattle.faults.specs.Refusals.{meaning}
 use Rattle.faults.specs.FlightCauses.{equalities, told_cause}
 use Rattle.faults.specs.Interpretive.{count_before_first, first_and_others, interpretive_cause}
 use Rattle.faults.specs.Shown.{shown_byte}
@@ -153,6 +154,10 @@ counted count noun = decimal count ++ codes " " ++ noun ++ (if count == 1 then [
 -- how many there are
 abbrev pub count_text : ℕ → ℕ → List ℕ
 count_text errors warnings = counted errors (codes "error") ++ codes ", " ++ counted warnings (codes "warning") ++ codes "\n"
+
+-- a file that could not be read whole, by the number of why
+abbrev pub refused_file : List ℕ → ℕ → List ℕ
+refused_file name number = name ++ codes ": error E" ++ decimal number ++ codes ": " ++ meaning number ++ codes "\n"
 
 -- ## All
 -- the lines of some faults and warnings

@@ -9,7 +9,7 @@ ghost use Rattle.faults.specs.Warnings.{parts_in};
 ghost use Rattle.faults.specs.Shown.{shown_byte};
 ghost use Rattle.faults.specs.Causes.{below_cause, filled, filled_byte, of_line};
 ghost use Rattle.faults.specs.Views.{cause_in};
-ghost use Rattle.faults.specs.Report.{margin_byte, numbered, shown_part, row_text, marks_text, place_text, kind_text, cause_of, caused_text, message_text, cure_text, finding_text, text_at, shown_finding, shown_line, beside_text, needs_value, line_below, as_label, told_by_line, labels_of, sought_labels, has_label, first_line, count_before, as_error, as_warning, merged, counted, count_text, interpretive_text, warned_before, listed_from, listed_around, told_around, told_text, report};
+ghost use Rattle.faults.specs.Report.{margin_byte, numbered, shown_part, row_text, marks_text, place_text, kind_text, cause_of, caused_text, message_text, cure_text, finding_text, text_at, shown_finding, shown_line, beside_text, needs_value, line_below, as_label, told_by_line, labels_of, sought_labels, has_label, first_line, count_before, as_error, as_warning, merged, counted, count_text, interpretive_text, warned_before, listed_from, listed_around, told_around, told_text, refused_file, report};
 
 use crate::causes::{Cause, below_cause, near_label, text_of, warning_cause};
 use crate::flight_causes::{equalities, told_cause};
@@ -18,6 +18,7 @@ use crate::kinds::push_kind_of_source;
 use crate::mistakes::{add_field, has_operator};
 use crate::names::NameSet;
 use crate::parts::parts_for;
+use crate::refusals::meaning;
 use agc_text::{Line, is_text, next_line};
 use arrayvec::ArrayVec;
 use std::alloc::{AllocError, Global};
@@ -212,6 +213,28 @@ pub fn counts(alloc: Global, faults: usize, warnings: usize) -> Result<Vec<u8>, 
     let mut out = Vec::new(alloc);
     push_counts(&mut out, faults, warnings)?;
     Ok(out)
+}
+
+/// The line that tells that a file of this name could not be read whole, by the number of why.
+pub fn refused_file(alloc: Global, name: &[u8], number: u8) -> Result<Vec<u8>, AllocError>
+    ensures { IfOk result (λ text. text.items ≡ refused_file name.now number) }
+{
+    let mut out = Vec::new(alloc);
+    push_refused_file(&mut out, name, number)?;
+    Ok(out)
+}
+
+// Appends that a file could not be read whole.
+fn push_refused_file(out: &mut Vec<u8>, name: &[u8], number: u8) -> Result<(), AllocError>
+    ensures { OnOk result (out.new.items ≡ out.old.items ++ refused_file name.now number) }
+{
+    out.extend_from_slice(name)?;
+    out.extend_from_slice(b": error E")?;
+    push_number(out, u64::from(number))?;
+    out.extend_from_slice(b": ")?;
+    out.extend_from_slice(meaning(number))?;
+    out.extend_from_slice(b"\n")?;
+    Ok(())
 }
 
 // The labels that so many faults are told with: those of all lines, where few are told.

@@ -21,6 +21,6 @@ mod switched;
 pub use cautions::warning_of;
 pub use explaining::{all_headings, explanation, warning_explanation};
 pub use feeds::feed_report;
-pub use findings::{Severity, counts, report};
+pub use findings::{Severity, counts, refused_file, report};
 pub use mistakes::warnings;
 pub use refusals::{NUMBERS, Refusal, meaning, refusal_of};
