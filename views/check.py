@@ -28,8 +28,8 @@ from terminal import CTRL_C, Terminal
 EMPTY = f"{EXAMPLES}/empty.feed"
 LOST = [f"{EXAMPLES}/lost_sum.agc", f"{EXAMPLES}/lost_sum.feed"]
 UNITS_PER_CYCLE = 1_171_875
-# What a part takes, at most: a reply whose end is not seen is not waited for.
-MOST_SECONDS = 60
+# What a part takes, at most, and that of the editor, which waits where a wrong program has no end.
+MOST_SECONDS, MOST_OF_EDITOR = 120, 40
 
 
 def same(label, got, wanted):
@@ -1028,7 +1028,7 @@ def main():
             check_faults,
             check_readme,
         ):
-            tried(part, room, most_seconds=MOST_SECONDS)
+            tried(part, room, most_seconds=MOST_OF_EDITOR if part is check_dap else MOST_SECONDS)
     for part in (check_dsky, check_grammar, check_package):
         tried(part, most_seconds=MOST_SECONDS)
     return end()
