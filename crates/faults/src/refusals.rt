@@ -115,6 +115,10 @@ const CAUSES_4: &[u8] = b"
 const CAUSES_5: &[u8] = b"
 - an image of version 2 read as version 1, or the other way round
   Cure: --rope 1, or agcws upgrade
+- a word of the image with a wrong bit
+  Cure: agcws parity tells which, --parity ignore reads it as it is
+- another file than an image, as a source after --image
+  Cure: no --image
 ";
 
 const CAUSES_6: &[u8] = b"
