@@ -123,7 +123,7 @@ on_changed =
 
 -- over new steps, and back, where none has led to the start
 abbrev sought_change : History → ℕ → List ℕ
-sought_change h position = (extended_reply (terms_of symbols five) h (at_step 8 position (Changed (subject.Place 5) ∷ [])) (Common Seek)).text
+sought_change h position = (extended_reply (terms_of symbols no_source five) h (at_step 8 position (Changed (subject.Place 5) ∷ [])) (Common Seek)).text
 
 changed_on_new_steps : on (history five) 9 3 2 (Changed (subject.Channel 8) ∷ []) ++ sought_change (history five) 2 ++ sought_change (history five) 1
     ≡ ended (codes "7 CH 010 00012" ∷ codes "HIT 1" ∷ codes "AT 4 7 02,4004" ∷ codes "HIT 1" ∷ codes "AT 1 2 02,4001" ∷ codes "NONE" ∷ [])
