@@ -17,6 +17,8 @@ use Rattle.workshop.specs.Faults.{of_debug_fault}
 use Rattle.workshop.specs.declared.inputs.Loaded.{Loaded}
 use Rattle.workshop.specs.declared.origin.Origin.{Origin}
 use Rattle.workshop.specs.declared.origin.Origin.TheVariants.{Source}
+use Rattle.yayul.specs.PlaceRows.{no_source}
+use Rattle.yayul.specs.Program as Program
 use Rattle.yayul.specs.declared.language.Language.TheVariants.{Standard}
 use Rattle.workshop.specs.Failures.{Reader, Writer, has_read_failed, has_write_failed, failures_if}
 use Rattle.workshop.specs.Inputs.{scenario_of}
@@ -31,6 +33,11 @@ abbrev pub OpensThen : Result Loaded WorkshopFault → Result Opened WorkshopFau
 OpensThen (Ok l) (Ok o) = (o.session ≡ opened l) × (o.symbols ≡ l.symbols)
 OpensThen (Ok l) (Err fault) = fault ≡ NoMemory
 OpensThen (Err fault) result = result ≡ Err fault
+
+-- a session is opened over a program and a feed, beside the program's source, unless memory ran out
+abbrev pub OpensListed : Loaded → Result (Opened × Program.Source) WorkshopFault → Type 0
+OpensListed l (Ok o) = (o.0.session ≡ opened l) × (o.0.symbols ≡ l.symbols) × (o.1 ≡ l.rows)
+OpensListed l (Err fault) = fault ≡ NoMemory
 
 -- a program and a feed are read, and what was read decides what is opened
 pub record Opens (from : Origin) (before after : Files) (result : Result Opened WorkshopFault) : Type 0 where
@@ -79,17 +86,22 @@ pub record DebugsProgram (from : Origin) (before after : Debugging) (result : Re
   pub opens : Opens from before.files after.files opened
   pub next : DebugsThen opened before after result
 
+-- the source of a program that was read
+abbrev pub source_of : Result Loaded WorkshopFault → Program.Source
+source_of (Ok l) = l.rows
+source_of (Err fault) = no_source
+
 -- what an extended session that was opened is over
-abbrev pub talk_of : Opened → Talk
-talk_of o = record { may_refuse = false; symbols = o.symbols; read = extended_line o.symbols; most = most_extended_bytes; scenario = o.session.scenario }
+abbrev pub talk_of : Program.Source → Opened → Talk
+talk_of source o = record { may_refuse = false; symbols = o.symbols; source = source; read = extended_line o.symbols; most = most_extended_bytes; scenario = o.session.scenario }
 
 -- the lines of an extended session are answered over a session that was opened, as commands are
-pub record AnswersExtended (o : Opened) (before after : Debugging) (result : Result (Unit {0}) WorkshopFault) : Type 0 where
+pub record AnswersExtended (source : Program.Source) (o : Opened) (before after : Debugging) (result : Result (Unit {0}) WorkshopFault) : Type 0 where
   pub ended : Result (Unit {0}) DebugFault
   pub session : SessionView
   pub gives : result ≡ of_debugging ended
   pub replies : before.commands.told ≡ true → before.out.told ≡ true →
-      Talks (talk_of o) (record { before = before.commands.left; left = after.commands.left }) before.out.written after.out.written ended
+      Talks (talk_of source o) (record { before = before.commands.left; left = after.commands.left }) before.out.written after.out.written ended
   pub cost : before.commands.told ≡ true → OnOk result
       (session.meter ≤ o.session.meter + (efforts (extended_line o.symbols) (lines_heard (extended_line o.symbols) (lines_within most_extended_bytes before.commands.left)) + 1) * session.n)
   pub reader : after.commands.failures ≡ failures_if (has_read_failed result) before.commands.failures
@@ -97,15 +109,15 @@ pub record AnswersExtended (o : Opened) (before after : Debugging) (result : Res
   pub read : before.commands.told ≡ true → TakesAtMost most_extended_bytes before.commands.left after.commands.left
 
 -- where a session was opened its lines are answered, and after a fault none is read and nothing written
-abbrev pub DebugsExtendedThen : Result Opened WorkshopFault → Debugging → Debugging → Result (Unit {0}) WorkshopFault → Type 0
-DebugsExtendedThen (Ok o) before after result = AnswersExtended o before after result
-DebugsExtendedThen (Err fault) before after result = (result ≡ Err fault) × (after.commands ≡ before.commands) × (after.out ≡ before.out)
+abbrev pub DebugsExtendedThen : Program.Source → Result Opened WorkshopFault → Debugging → Debugging → Result (Unit {0}) WorkshopFault → Type 0
+DebugsExtendedThen source (Ok o) before after result = AnswersExtended source o before after result
+DebugsExtendedThen source (Err fault) before after result = (result ≡ Err fault) × (after.commands ≡ before.commands) × (after.out ≡ before.out)
 
--- a session is opened, and what was opened decides what is debugged
+-- a session is opened, and what was opened decides what is debugged, with the source that was read
 pub record DebugsExtended (from : Origin) (before after : Debugging) (result : Result (Unit {0}) WorkshopFault) : Type 0 where
   pub opened : Result Opened WorkshopFault
   pub opens : Opens from before.files after.files opened
-  pub next : DebugsExtendedThen opened before after result
+  pub next : DebugsExtendedThen (source_of opens.loaded) opened before after result
 
 -- the time-travel theorem, of the program of a source over the inputs of a feed: of a list of calls of a session over them
 -- that begins at the start, an observer saw some events, each call with its answer, and the session came to step n

@@ -3,14 +3,14 @@
 ghost use Rattle.std.specs.Prelude.{◌≡◌, true, Err, IfOk, IfErr, IsOkAnd, All};
 ghost use Rattle.std.specs.Fn.{FnReturnsAt};
 ghost use Rattle.replay.specs.Calls.{Hears, IsAllowed};
-ghost use Rattle.workshop.specs.Debugging.{DebugsProgram, DebugsExtended, Follows, Opens, Travels};
+ghost use Rattle.workshop.specs.Debugging.{DebugsProgram, DebugsExtended, Follows, Opens, OpensListed, Travels};
 ghost use Rattle.workshop.specs.Failures.{reader, writer};
 ghost use Rattle.workshop.specs.Inputs.{prepared};
 ghost use Rattle.yayul.specs.declared.language.Language.TheVariants.{Standard};
 ghost use Rattle.workshop.specs.Loading.{Tells};
 
 use crate::fault::WorkshopFault;
-use crate::inputs::load;
+use crate::inputs::{Loaded, load};
 use crate::origin::Origin;
 use cpu::{Machine, Processor};
 use debugger::{debug_session, extended_session};
@@ -18,7 +18,7 @@ use replay::{Call, Observer, Session, SlotKeeper, follow};
 use rope::Version;
 use std::alloc::Global;
 use words::{Read, Write};
-use yayul::{Language, Symbols};
+use yayul::{Language, SourceRows, Symbols};
 
 /// A session over a program, and the program's symbols.
 #[derive(Drop)]
@@ -59,14 +59,23 @@ pub fn open_program<P: Read, F: Read>(
     ensures start { IfOk result (λ o. o.session.n ≡ 0) }
 {
     let loaded = load(alloc, origin, program, feed)?;
+    let (opened, _) = open_loaded(alloc, loaded)?;
+    Ok(opened)
+}
+
+/// Opens a session over what was read, and keeps the lines of the source beside it.
+fn open_loaded(alloc: Global, loaded: Loaded) -> Result<(Opened, SourceRows), WorkshopFault>
+    ensures { OpensListed loaded result }
+{
     let processor = Processor::new(loaded.rope, loaded.feed);
     let Ok(session) = Session::open(alloc, processor) else {
         return Err(WorkshopFault::NoMemory);
     };
-    Ok(Opened {
+    let opened = Opened {
         session,
         symbols: loaded.symbols,
-    })
+    };
+    Ok((opened, loaded.rows))
 }
 
 /// Assembles the source, reads the feed, and answers the commands: see `debug_program`.
@@ -142,8 +151,16 @@ pub fn debug_extended<P: Read, F: Read, R: Read, W: Write>(
         (record { files = record { program = reader P.told P.left P.failures program.old; feed = reader F.told F.left F.failures feed.old }; commands = reader R.told R.left R.failures commands.old; out = writer W.told W.written W.failures out.old })
         (record { files = record { program = reader P.told P.left P.failures program.new; feed = reader F.told F.left F.failures feed.new }; commands = reader R.told R.left R.failures commands.new; out = writer W.told W.written W.failures out.new }) result }
 {
-    let mut begun = open_program(alloc, origin, program, feed)?;
-    extended_session(alloc, &mut begun.session, &begun.symbols, commands, out)?;
+    let loaded = load(alloc, origin, program, feed)?;
+    let (mut begun, rows) = open_loaded(alloc, loaded)?;
+    extended_session(
+        alloc,
+        &mut begun.session,
+        &begun.symbols,
+        &rows,
+        commands,
+        out,
+    )?;
     Ok(())
 }
 

@@ -10,13 +10,14 @@ use feed::Feed;
 use rope::Rope;
 use std::alloc::Global;
 use words::{MOST_BYTES, Read, read_text};
-use yayul::{Language, Program, Symbols, assemble};
+use yayul::{Language, Program, SourceRows, Symbols, assemble};
 
-/// The words of a program, its symbols, and the inputs of a feed.
+/// The words of a program, its symbols, the lines of its source, and the inputs of a feed.
 #[derive(Drop)]
 pub(crate) struct Loaded {
     pub(crate) rope: Rope,
     pub(crate) symbols: Symbols,
+    pub(crate) rows: SourceRows,
     pub(crate) feed: Feed,
 }
 
@@ -31,11 +32,12 @@ pub(crate) fn load<P: Read, F: Read>(
         (record { program = reader P.told P.left P.failures program.old; feed = reader F.told F.left F.failures feed.old })
         (record { program = reader P.told P.left P.failures program.new; feed = reader F.told F.left F.failures feed.new }) result }
 {
-    let (rope, symbols) = origin.read(alloc, program)?;
+    let (rope, symbols, rows) = origin.read(alloc, program)?;
     let feed = read_feed(alloc, feed)?;
     Ok(Loaded {
         rope,
         symbols,
+        rows,
         feed,
     })
 }

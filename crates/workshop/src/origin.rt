@@ -8,7 +8,7 @@ use crate::inputs::read_program;
 use rope::{Rope, Version};
 use std::alloc::Global;
 use words::Read;
-use yayul::{Language, Symbols};
+use yayul::{Language, SourceRows, Symbols};
 
 /// Where the words of a program come from.
 #[derive(Drop)]
@@ -22,24 +22,24 @@ pub enum Origin {
 }
 
 impl Origin {
-    /// Reads a program: its words in their places, and its symbols. A source has at most 8,388,608 bytes.
+    /// Reads a program: its words in their places, its symbols, and the lines of its source. A source has at most 8,388,608 bytes.
     pub(crate) fn read<R: Read>(
         self,
         alloc: Global,
         file: &mut R,
-    ) -> Result<(Rope, Symbols), WorkshopFault>
+    ) -> Result<(Rope, Symbols, SourceRows), WorkshopFault>
         ensures { Reads (ReadsProgram self)
             (reader R.told R.left R.failures file.old) (reader R.told R.left R.failures file.new) result }
     {
         match self {
-            Origin::Source(language) => Ok(read_program(alloc, language, file)?.split()),
+            Origin::Source(language) => Ok(read_program(alloc, language, file)?.split_all()),
             Origin::Image(version) => {
                 let rope = Rope::read(alloc, file, version)?;
-                Ok((rope, Symbols::new(alloc)))
+                Ok((rope, Symbols::new(alloc), SourceRows::none(alloc)))
             }
             Origin::NamedImage(version, names) => {
                 let words = Rope::read(alloc, file, version)?;
-                Ok((words, names))
+                Ok((words, names, SourceRows::none(alloc)))
             }
         }
     }
