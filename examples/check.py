@@ -705,8 +705,11 @@ def check_names_of_images(room):
         compare(f"the trace of {name} with its names", agcws("trace", *names, steps), *agcws("trace", source, feed, steps))
         commands = b"run %s\nsym START\nmem 4000\nwhere\nfind \n" % steps.encode() + b"".join(b"sym %s\nmem %s\n" % (it, it) for it in re.findall(rb"^(\S+) +(?:FIXED|ERASABLE) ", read(listing), re.M)[:20])
         ran = [subprocess.run([PROGRAM, "debug", "--extended", *words], input=commands, capture_output=True, timeout=WAIT) for words in (names, (source, feed))]
-        told(f"a session of {name} with its names", ran[0].stdout == ran[1].stdout and (ran[0].returncode, ran[0].stderr) == (0, b""), f"{ran}")
         words, rows_of = agcws("words", "--symbols", listing, image), agcws("cover", *names, steps)
+        shown = [[line[5:] for line in it.stdout.splitlines() if line.startswith(b"LIST ")] for it in ran]
+        replies = [[line for line in it.stdout.splitlines() if not line.startswith(b"LIST ")] for it in ran]
+        are_rows = len(shown[0]) == len(shown[1]) == 1 and shown[0][0] in words[1].splitlines() and shown[1][0] in read(listing).splitlines()
+        told(f"a session of {name} with its names", replies[0] == replies[1] and are_rows and (ran[0].returncode, ran[0].stderr) == (0, b""), f"{ran}")
         told(f"the profile of {name} with its names", [it[22:] for it in rows_of[1].splitlines()[:36864]] == words[1].splitlines() and rows_of[0] == 0)
     for seed in range(4):
         chance = random.Random(seed)

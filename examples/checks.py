@@ -74,7 +74,7 @@ FORMS = [
     (" MEMORY 120000 - 167777", (1, 2, "E15: MEMORY is no operator", ""), None),
     ("TAG EQUALS", (1, 5, "E16: EQUALS needs an operand", ""), None),
     (" BANK", (1, 2, "E16: BANK needs an operand", ""), None),
-    ("N = M|M EQUALS 5", (1, 5, "E18: = needs the value of M here, and no earlier line defines it", ""), None),
+    ("N = M|M EQUALS 5", (1, 5, "E18: = needs the value of M here, and line 2 defines it, which is below", ""), None),
     (" 2DEC .57735027", (1, 2, "E15: 2DEC is no operator of this assembler", "two words: a DEC for each"), None),
     (" DEC 1.0 E4 B-14", (1, 6, "E16: DEC takes one number, and nothing after it", "a comment begins with #"), None),
     (" 1DNADR X|X EQUALS 100", (1, 2, "E15: 1DNADR is no operator", ""), None),

@@ -352,8 +352,8 @@ With --extended there are these besides, and after E50 COMMAND stands why:
                        and the symbol at it or before it; its row, as list has
                        it; and in an interrupt IN INTERRUPT K BY T, the step
                        that entered it
-  list PLACE, .. K     16 rows of the listing from there on, or K, as LIST; where
-                       no line shows a place, as of an image, its word and the
+  list PLACE, .. K     16 rows of the listing from there on, or K, as LIST; of a
+                       place on no line, as of an image, the word and the
                        instruction that it is, with names
   value PLACE, .. K    the word there, or K from there on, each as VALUE, its
                        place, the word in octal, decimal, fraction and binary

@@ -33,7 +33,7 @@ usages =
     ∷ (codes "why", usage (codes "[PLACE [K]] [index]") (codes "the steps that made the word there, last first"))
     ∷ (codes "trace", usage (codes "a number of steps") (codes "the last so many steps, a line each"))
     ∷ (codes "where", usage (codes "nothing") (codes "the next instruction's place, and the interrupt"))
-    ∷ (codes "list", usage (codes "a place, or a place and a count") (codes "the words from there on, as instructions"))
+    ∷ (codes "list", usage (codes "a place, or a place and a count") (codes "the rows of the listing from there on"))
     ∷ (codes "value", usage (codes "a place, or a place and a count") (codes "the word as octal, decimal, fraction and binary"))
     ∷ (codes "sym", usage (codes "a name") (codes "the symbol's value"))
     ∷ (codes "find", usage (codes "the beginning of a name") (codes "the symbols whose names begin so"))

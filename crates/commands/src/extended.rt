@@ -82,7 +82,7 @@ pub enum ExtendedLine {
     Find(Phrase),
     /// The last so many steps up to the position, a line each.
     Trace(u64),
-    /// The words from a place on as instructions, at most so many.
+    /// The rows of the places from one on, at most so many.
     Listed(Linear, u64),
     /// The words from a place on as numbers, at most so many.
     Values(Linear, u64),

@@ -95,7 +95,7 @@ const ROWS: [Row; 30] = [
     (
         "list",
         "a place, or a place and a count",
-        "the words from there on, as instructions",
+        "the rows of the listing from there on",
     ),
     (
         "value",
