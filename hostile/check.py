@@ -318,6 +318,11 @@ def unread(path):
     return f"{path}: error E6: a file could not be opened or read\n".encode()
 
 
+def too_long(path):
+    """What check says of a file that has too many bytes."""
+    return f"{path}: error E34: a source, a feed or a table of names has more than 8,388,608 bytes\n".encode()
+
+
 def name_of(words):
     """A call, with the names of its files alone."""
     return " ".join(os.path.basename(it) for it in words)
@@ -440,7 +445,8 @@ def endless_inputs(made):
         (("debug", "--image", zeros, EMPTY), b"E5"),
     ):
         answer = agcws(*words)
-        told(f"devices: {name_of(words)}, which has no end", answer == (1, b"", b"agcws: " + error + b"\n") and not os.path.exists(made), f"{answer}")
+        wanted = too_long(zeros) if words[0] == "check" else b"agcws: " + error + b"\n"
+        told(f"devices: {name_of(words)}, which has no end", answer == (1, b"", wanted) and not os.path.exists(made), f"{answer}")
     with open(zeros, "rb") as endless:
         ran = subprocess.run([PROGRAM, "debug", FIVE, EMPTY], stdin=endless, capture_output=True, timeout=60)
     told("devices: commands without an end", (ran.returncode, ran.stdout, ran.stderr) == (0, b"E51 LONG\n", b"agcws: commands end after 16777216 bytes\n"), f"{ran.returncode} {ran.stdout[-200:]} {ran.stderr}")
@@ -489,8 +495,8 @@ def without_rights(room, image):
         (("trace", locked, feed, "1"), E6),
         (("cover", locked, feed, "1"), E6),
         (("run", "--notes", locked, feed, "1"), E6),
-        (("check", locked), E6),
-        (("check", feed, locked), E6),
+        (("check", locked), unread(locked)),
+        (("check", feed, locked), unread(locked)),
         (("parity", locked), E6),
         (("compare", "--only", locked, image), E6),
         (("words", "--symbols", locked, "--rope=1", image), E6),
@@ -515,7 +521,7 @@ def sizes(room):
     large = write(f"{room}/large", b"#" * 100 + b"\n" * (most - 99))
     for words in (("run", large, EMPTY, "1"), ("run", FIVE, large, "1"), ("trace", FIVE, large, "1"), ("asm", large, f"{room}/rope"), ("debug", FIVE, large), ("run", "--image", "--rope=1", zeros, large, "1"), ("debug", "--image", "--rope=1", zeros, large), ("words", "--symbols", large, "--rope=1", zeros), ("trace", "--image", "--symbols", large, "--rope=1", zeros, EMPTY, "1"), ("cover", FIVE, large, "1"), ("run", "--notes", FIVE, large, "1"), ("check", large), ("check", FIVE, EMPTY, large), ("compare", "--only", large, zeros), ("debug", "--extended", FIVE, large), ("asm", "--flight", large, f"{room}/rope")):
         answer = agcws(*words)
-        told(f"sizes: {words[0]} of {most + 1} bytes", answer == (1, b"", b"agcws: E34\n"), f"{answer}")
+        told(f"sizes: {words[0]} of {most + 1} bytes", answer == (1, b"", too_long(large) if words[0] == "check" else b"agcws: E34\n"), f"{answer}")
     whole = write(f"{room}/whole", b" SETLOC 4000\n TCF 4000\n" + b"#\n" * 65_534)
     told("sizes: a source of 65,536 lines", agcws("run", whole, EMPTY, "5") == (0, b"", b""), f"{agcws('run', whole, EMPTY, '5')}")
     # The longest source that has no fault: as many lines as there may be, and each as long as it may be.
