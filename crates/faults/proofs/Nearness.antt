@@ -1,5 +1,5 @@
 -- The names that are near to a text, gone through once.
-use Rattle.std.proofs.Common.{◌≡◌, ℕ, ◌∙◌, ap, ◌==◌, ◌+◌, ◌&&◌, Bool, true, false, List, [], ◌∷◌, Option, Some, None, length, find, refl, sym, inl, inr, arith}
+use Rattle.std.proofs.Common.{◌≡◌, ℕ, ◌∙◌, ap, ◌==◌, ◌+◌, ◌&&◌, Bool, true, false, List, [], ◌∷◌, Option, Some, None, length, find, refl, inl, inr, arith}
 use Rattle.std.specs.Prelude.{nat_le, if◌then◌else◌}
 use Rattle.std.specs.Option.{option_or}
 use Rattle.std.proofs.lemmas.Bool.{cases_Bool, and_parts, eqb-true}
@@ -78,6 +78,12 @@ pub sought_past :
     (text : List ℕ) (as_long near : Option (List ℕ)) (name : List ℕ) (rest : List (List ℕ)) → is_close InCapitals text name ≡ false → is_close AsLong text name ≡ false
     → is_close Near text name ≡ false → sought text as_long near (name ∷ rest) ≡ sought text as_long near rest
 sought_past text as_long near name rest capitals long close = rw (capitals, long, close) refl
+
+-- after one that is as long none is sought but a text in capitals
+pub sought_held :
+    (text held : List ℕ) (near : Option (List ℕ)) (name : List ℕ) (rest : List (List ℕ)) → is_close InCapitals text name ≡ false
+    → sought text (Some held) near (name ∷ rest) ≡ sought text (Some held) near rest
+sought_held text held near name rest capitals = rw capitals refl
 
 -- a text in capitals is found
 pub sought_here : (text : List ℕ) (as_long near : Option (List ℕ)) (name : List ℕ) (rest : List (List ℕ)) → is_close InCapitals text name ≡ true → sought text as_long near (name ∷ rest) ≡ Some name

@@ -540,7 +540,7 @@ pub(crate) fn value_in(
 }
 
 /// The first of some names that is a text in capitals; else, for a text of three bytes or more, one that is near, as long where there is one.
-#[tactic(auto, using(crate::proofs::Nearness::sought_on, crate::proofs::Nearness::sought_far, crate::proofs::Nearness::sought_past, crate::proofs::Nearness::sought_here, crate::proofs::Nearness::sought_none))]
+#[tactic(auto, using(crate::proofs::Nearness::sought_on, crate::proofs::Nearness::sought_far, crate::proofs::Nearness::sought_held, crate::proofs::Nearness::sought_past, crate::proofs::Nearness::sought_here, crate::proofs::Nearness::sought_none))]
 pub(crate) fn near_in(names: &'static [&'static str], text: &[u8]) -> Option<&'static [u8]>
     ensures { option_map (λ name. name.now) result ≡ near_name (map (λ name. name.now) names.now) text.now }
 {
@@ -552,9 +552,12 @@ pub(crate) fn near_in(names: &'static [&'static str], text: &[u8]) -> Option<&'s
             if is_close(Closeness::InCapitals, text, name) {
                 return Some(name);
             }
-            if is_close(Closeness::Near, text, name) {
-                as_long = found_first(as_long, text.len() == name.len(), name);
-                near = found_first(near, true, name);
+            match as_long {
+                None if is_close(Closeness::Near, text, name) => {
+                    as_long = found_first(as_long, text.len() == name.len(), name);
+                    near = found_first(near, true, name);
+                }
+                _ => {}
             }
         }
     }
