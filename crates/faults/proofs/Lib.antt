@@ -1,6 +1,8 @@
 pub mod Merging
 mod Around
 mod GrowingTexts
+mod Nearness
+mod OfLength
 mod WarningRows
 mod CauseRows
 mod Walked

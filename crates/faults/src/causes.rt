@@ -1,16 +1,18 @@
 //! What a fault is in words, by its cause.
 
-ghost use Rattle.std.specs.Prelude.{◌≡◌, ◌+◌, ◌&&◌, [], length, map, nat_le, find, unwrap_or};
-ghost use Rattle.std.specs.Option.{option_map};
+ghost use Rattle.std.specs.Prelude.{◌≡◌, ◌+◌, ◌&&◌, [], false, length, map, nat_le, unwrap_or, Some, None, if◌then◌else◌};
+ghost use Rattle.std.specs.Option.{option_map, option_or};
 ghost use Rattle.agc_text.specs.Tables.{value_in};
 ghost use Rattle.agc_text.specs.Views.{piece};
 ghost use Rattle.faults.specs.Warnings.{parts_in, operator_names, bank_operators};
 ghost use Rattle.faults.specs.Causes.{byte_cause, begins_with_mark, label_cause, operator_cause, digits_cause, place_cause, operand_cause, symbol_cause, undefined_cause, early_cause, below_cause, bank_cause, room_cause, kind_cause, range_cause, fault_cause, warning_cause, near_label, said, cured, cured_by, text_of, holds, begins, is_signed, is_foreign_comment, has_foreign_comment, is_beyond_octal, near_name, is_close, is_in_capitals, capital, is_near, is_exchanged, foreign_operators, label_refusers, octal_operators, decimal_operators, block_operators, plain_operators, channel_operators, erasable_operators, fixed_operators, jump_operators, writers, erasable_readers};
 ghost use Rattle.faults.specs.Registers.{registers};
+ghost use Rattle.faults.specs.declared.causes.Closeness.TheVariants.{AsLong, InCapitals, Near};
 ghost use Rattle.faults.specs.Views.{cause_in, entries};
 
-use crate::mistakes::{erase_operators, has_operator, is_operator, operator_names};
+use crate::mistakes::{erase_operators, has_operator, operator_names};
 use crate::names::{NameSet, is_short};
+use crate::operators::is_operator;
 use crate::refusals::meaning;
 use crate::registers::registers;
 use agc_text::{Field, Line, decimal_value, octal_value};
@@ -538,33 +540,67 @@ pub(crate) fn value_in(
 }
 
 /// The first of some names that is a text in capitals; else, for a text of three bytes or more, one that is near, as long where there is one.
+#[tactic(auto, using(crate::proofs::Nearness::sought_on, crate::proofs::Nearness::sought_far, crate::proofs::Nearness::sought_held, crate::proofs::Nearness::sought_past, crate::proofs::Nearness::sought_here, crate::proofs::Nearness::sought_none))]
 pub(crate) fn near_in(names: &'static [&'static str], text: &[u8]) -> Option<&'static [u8]>
     ensures { option_map (λ name. name.now) result ≡ near_name (map (λ name. name.now) names.now) text.now }
 {
-    match close_in(names, Closeness::InCapitals, text) {
+    let mut as_long = None;
+    let mut near = None;
+    for name in names {
+        let name = name.as_bytes();
+        if may_be_close(text, name) {
+            if is_close(Closeness::InCapitals, text, name) {
+                return Some(name);
+            }
+            match as_long {
+                None if is_close(Closeness::Near, text, name) => {
+                    as_long = found_first(as_long, text.len() == name.len(), name);
+                    near = found_first(near, true, name);
+                }
+                _ => {}
+            }
+        }
+    }
+    if text.len() < SHORTEST {
+        return None;
+    }
+    match as_long {
         Some(name) => Some(name),
-        None if text.len() >= SHORTEST => match close_in(names, Closeness::AsLong, text) {
-            Some(name) => Some(name),
-            None => close_in(names, Closeness::Near, text),
-        },
+        None => near,
+    }
+}
+
+// The name that was found, or else one, where it passes.
+fn found_first(
+    found: Option<&'static [u8]>,
+    passes: bool,
+    name: &'static [u8],
+) -> Option<&'static [u8]>
+    ensures { option_map (λ name. name.now) result ≡ option_or (option_map (λ name. name.now) found.entry) (if passes then Some name.now else None) }
+{
+    match found {
+        Some(found) => Some(found),
+        None if passes => Some(name),
         None => None,
     }
 }
 
-// The first of some names that is close to a text.
-fn close_in(
-    names: &'static [&'static str],
-    closeness: Closeness,
-    text: &[u8],
-) -> Option<&'static [u8]>
-    ensures { option_map (λ name. name.now) result ≡ find (is_close closeness text.now) (map (λ name. name.now) names.now) }
+// Whether a name may be close to a text, by their lengths and their first two bytes.
+#[inline(always)]
+fn may_be_close(text: &[u8], name: &[u8]) -> bool
+    ensures in_capitals { result ≡ false → is_close InCapitals text.now name.now ≡ false }
+    ensures as_long { result ≡ false → is_close AsLong text.now name.now ≡ false }
+    ensures near { result ≡ false → is_close Near text.now name.now ≡ false }
 {
-    for name in names {
-        if is_close(closeness, text, name.as_bytes()) {
-            return Some(name.as_bytes());
-        }
+    if text.len().abs_diff(name.len()) > 1 {
+        return false;
     }
-    None
+    match (text, name) {
+        ([a, b, ..], [c, d, ..]) => {
+            *a == *c || *b == *d || *b == *c || *a == *d || capital(*a) == *c
+        }
+        _ => true,
+    }
 }
 
 /// Whether a name is close to a text.

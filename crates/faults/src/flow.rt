@@ -8,9 +8,10 @@ ghost use Rattle.agc_text.specs.Views.{piece};
 ghost use Rattle.std.specs.Option.{option_map, option_map_or};
 
 use crate::mistakes::{
-    has_alone, has_operator, indexed_after, is_operator, is_register_number, parts_of, warn_if,
+    has_alone, has_operator, indexed_after, is_register_number, parts_of, warn_if,
 };
 use crate::names::{NameSet, is_among};
+use crate::operators::is_operator;
 use crate::switched::{Region, region_after};
 use agc_text::{Field, Line, Number, octal_value};
 use std::alloc::AllocError;

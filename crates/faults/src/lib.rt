@@ -12,6 +12,7 @@ mod interpretive;
 mod kinds;
 mod mistakes;
 mod names;
+mod operators;
 mod parts;
 mod refusals;
 mod registers;

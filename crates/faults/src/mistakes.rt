@@ -11,6 +11,7 @@ ghost use Rattle.faults.specs.Warnings.{parts_of, parts_for, parts_in, is_among,
 use crate::findings::line_texts;
 use crate::flow::{Before, is_instruction, warn_of_end, warn_of_vector};
 use crate::names::{NameSet, is_among, is_short};
+use crate::operators::is_operator;
 use crate::parts::parts_for;
 use crate::registers::warn_of_register;
 use crate::switched::{Banks, Region, is_common};
@@ -214,8 +215,8 @@ impl Names {
         match parts.operand {
             Some(operand) => {
                 let reached = !self.sets_erasable
-                    && is_instruction(parts)
-                    && self.banks.erasable.has(operand.text);
+                    && self.banks.erasable.has(operand.text)
+                    && is_instruction(parts);
                 warn_if(reached, line, 6, operand, found)
             }
             None => Ok(()),
@@ -236,8 +237,8 @@ impl Names {
             Some(operand) => {
                 let reached = !self.sets_fixed
                     && is_common(region)
-                    && is_instruction(parts)
-                    && self.banks.fixed.has(operand.text);
+                    && self.banks.fixed.has(operand.text)
+                    && is_instruction(parts);
                 warn_if(reached, line, 9, operand, found)
             }
             None => Ok(()),
@@ -290,7 +291,8 @@ pub(crate) fn warn_if(
     Ok(())
 }
 
-/// Whether the operator is one of some.
+/// Whether the operator is one of some. It is brought into its callers with its names.
+#[inline(always)]
 pub(crate) fn has_operator(names: &[&str], parts: &Line<'_>) -> bool
     ensures { result ≡ has_operator (map (λ name. name.now) names.now) (parts_in parts.now) }
 {
@@ -401,13 +403,6 @@ pub(crate) fn is_register_number(text: &[u8]) -> bool
     ensures { result ≡ is_register_number text.now }
 {
     matches!(octal_value(text), Some(Number::Small(number)) if number < 0o61)
-}
-
-/// An operator's name.
-pub(crate) fn is_operator(text: &[u8]) -> bool
-    ensures { result ≡ is_among operator_names text.now }
-{
-    is_among(operator_names(), text)
 }
 
 const READERS: [&str; 10] = [

@@ -124,7 +124,8 @@ pub(crate) fn is_short(text: &[u8]) -> bool
     text.len() <= NAME_LENGTH
 }
 
-/// Whether a text is one of some names.
+/// Whether a text is one of some names. It is brought into its callers, so that each looks for names that it has.
+#[inline(always)]
 pub(crate) fn is_among(names: &[&str], text: &[u8]) -> bool
     ensures { result ≡ is_among (map (λ name. name.now) names.now) text.now }
 {
