@@ -16,7 +16,7 @@ use Rattle.replay.specs.Found.{or_other, last_found, first_found, found_by}
 use Rattle.debugger.specs.History.{Sight, StepSight, history, sight, no_step, step_from, step_to}
 use Rattle.debugger.specs.declared.noted.Noted.{Noted}
 use Rattle.debugger.specs.Growth.{is_executed, holds, lowest_hit, hit_at}
-use Rattle.debugger.specs.Stopping.{asks, looked, hit_by, watched_word, is_other, Tells}
+use Rattle.debugger.specs.Stopping.{asks, looked, hit_by, watched_word, is_other, HoldsAlike}
 
 -- a breakpoint that does not ask what the step did holds whatever it did
 unasked : (b : Breakpoint) → asks b ≡ false → (one other : StepSight) (seen : Sight) → holds one seen b ≡ holds other seen b
@@ -251,7 +251,7 @@ tells_by (Executed place) after s scenario executed word seen there same is = ap
 tells_by (Changed subject) after s scenario executed word seen there same is = rw (is, there) refl
 
 pub noted_tells : (breakpoints : List Breakpoint) (scenario : Scenario) (s : State) (noted : Noted) → noted.executed ≡ (step_from scenario s).executed → noted.words.items ≡ map (watched_word s) breakpoints
-    → Tells breakpoints (Some noted) (next scenario s).0 (step_from scenario s)
+    → HoldsAlike breakpoints (Some noted) (next scenario s).0 (step_from scenario s)
 noted_tells breakpoints scenario s noted same is = λ index other seen below.
     tells_by (get_or breakpoints index other) (next scenario s).0 s scenario noted.executed (get_or noted.words.items index None) seen refl same
     (ap (λ (words : List (Option ℕ)). get_or words index None) is ∙ get_or-map (watched_word s) breakpoints index other None below)

@@ -54,6 +54,6 @@ noted_step None index after = no_step
 noted_step (Some noted) index after = record { executed = noted.executed; changed = is_other (get_or noted.words.items index None) after }
 
 -- by what was noted before a step the same breakpoints hold as by the step
-abbrev pub Tells : List Breakpoint → Option Noted → State → StepSight → Type 0
-Tells breakpoints noted after step = (index : ℕ) (other : Breakpoint) (seen : Sight) → index < length breakpoints
+abbrev pub HoldsAlike : List Breakpoint → Option Noted → State → StepSight → Type 0
+HoldsAlike breakpoints noted after step = (index : ℕ) (other : Breakpoint) (seen : Sight) → index < length breakpoints
     → holds (noted_step noted index after) seen (get_or breakpoints index other) ≡ holds step seen (get_or breakpoints index other)

@@ -4,7 +4,7 @@ ghost use Rattle.std.specs.Prelude.{◌≡◌};
 ghost use Rattle.rope.specs.Places.{Words};
 ghost use Rattle.debugger.specs.History.{StepSight, sight};
 ghost use Rattle.debugger.specs.Growth.{holds, lowest_hit};
-ghost use Rattle.debugger.specs.Stopping.{Tells, noted_step};
+ghost use Rattle.debugger.specs.Stopping.{HoldsAlike, noted_step};
 
 use crate::noted::Noted;
 use commands::Breakpoint;
@@ -43,7 +43,7 @@ pub(crate) fn lowest_hit(
     noted: &Option<Noted>,
     machine: &Machine,
 ) -> Option<u64>
-    ensures { (rope : Words) (step : StepSight) → Tells breakpoints.now noted.now machine.now step → result ≡ lowest_hit breakpoints.now step (sight rope machine.now) }
+    ensures { (rope : Words) (step : StepSight) → HoldsAlike breakpoints.now noted.now machine.now step → result ≡ lowest_hit breakpoints.now step (sight rope machine.now) }
 {
     for (index, breakpoint) in breakpoints.iter().enumerate() {
         if holds(*breakpoint, noted, index, machine) {

@@ -1,9 +1,10 @@
 //! The commands that an extended session has besides.
 
-ghost use Rattle.std.specs.Prelude.{◌≡◌, ◌+◌, ◌*◌, ◌≤◌, ◌++◌, length, true, Some, IfSome};
+ghost use Rattle.std.specs.Prelude.{◌≡◌, ◌+◌, ◌*◌, ◌≤◌, ◌++◌, codes, length, true, Some, IfSome};
 ghost use Rattle.std.specs.Option.{option_map};
 ghost use Rattle.arrayvec.specs.ArrayVec.{array_vec_len};
 ghost use Rattle.words.specs.Devices.{failures_after};
+ghost use Rattle.words.specs.Numerals.{octal_text};
 ghost use Rattle.cpu.specs.Run.{outs};
 ghost use Rattle.replay.specs.View.{SessionView};
 ghost use Rattle.debugger.specs.Terms.{Terms};
@@ -28,9 +29,10 @@ use crate::texts::{Text, hit_and_at_line, number_line, text_line};
 use arrayvec::ArrayVec;
 use commands::{Breakpoint, Breakpoints, ExtendedLine, Subject, help_text};
 use replay::{Keeper, Session};
+use space::Chan;
 use space::place::Linear;
 use symbols::Symbols;
-use words::{Write, WriteFailed, push_all, push_decimal, push_octal, write_all};
+use words::{Word, Write, WriteFailed, push_all, push_decimal, push_octal, write_all};
 use yayul::SourceRows;
 
 impl Desk {
@@ -230,17 +232,9 @@ fn push_breakpoint(text: &mut BreaksText, breakpoint: Breakpoint)
             push_all(text, b" ");
             push_octal(text, 5, word.to_u16());
         }
-        Breakpoint::Channel(channel, word) => {
-            push_all(text, b"chan ");
-            push_octal(text, 3, channel.number());
-            push_all(text, b" ");
-            push_octal(text, 5, word.to_u16());
-        }
+        Breakpoint::Channel(channel, word) => push_channel(text, channel, word),
         Breakpoint::Bits(channel, word, mask) => {
-            push_all(text, b"chan ");
-            push_octal(text, 3, channel.number());
-            push_all(text, b" ");
-            push_octal(text, 5, word.to_u16());
+            push_channel(text, channel, word);
             push_all(text, b" ");
             push_octal(text, 5, mask.to_u16());
         }
@@ -262,6 +256,18 @@ fn push_breakpoint(text: &mut BreaksText, breakpoint: Breakpoint)
             push_subject(text, subject);
         }
     }
+}
+
+/// Adds a channel and a word as `break chan` takes them.
+fn push_channel(text: &mut BreaksText, channel: Chan, word: Word)
+    requires { array_vec_len text.old ≤ 1000 }
+    ensures items { text.new.items ≡ text.old.items ++ codes "chan " ++ octal_text 3 channel ++ codes " " ++ octal_text 5 word }
+    ensures len { array_vec_len text.new ≡ array_vec_len text.old + 14 }
+{
+    push_all(text, b"chan ");
+    push_octal(text, 3, channel.number());
+    push_all(text, b" ");
+    push_octal(text, 5, word.to_u16());
 }
 
 /// Adds an erasable place or a channel as a command names it.

@@ -5,7 +5,7 @@ ghost use Rattle.std.specs.Option.{option_map};
 ghost use Rattle.std.specs.List.{list_any};
 ghost use Rattle.cpu.specs.State.{FitsRun};
 ghost use Rattle.cpu.specs.Next.{next};
-ghost use Rattle.debugger.specs.Stopping.{Tells, asks, looked};
+ghost use Rattle.debugger.specs.Stopping.{HoldsAlike, asks, looked};
 
 use crate::breakpoints::lowest_hit;
 use crate::noted::Noted;
@@ -43,7 +43,7 @@ pub(crate) fn look(
     processor: &Processor,
     machine: &Machine,
 ) -> Option<Noted>
-    ensures { FitsRun processor.now.scenario machine.now → Tells breakpoints.now result (next processor.now.scenario machine.now).0 (looked looks processor.now.scenario machine.now) }
+    ensures { FitsRun processor.now.scenario machine.now → HoldsAlike breakpoints.now result (next processor.now.scenario machine.now).0 (looked looks processor.now.scenario machine.now) }
 {
     if !looks {
         return None;
