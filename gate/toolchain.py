@@ -1,7 +1,8 @@
 """All that the scripts of this repository use of the toolchain's insides: its command rt, taken as a Python module, and what that knows of crates and edits.
 
-It was written for the kit WRITTEN_FOR. What another kit no longer has under these names is told by its name, when a script starts; where a script fails
-in another way under another kit, this file is what to compare with the kit's rt and rtlib.py.
+It was written for the kits WRITTEN_FOR, of which the first lets the checkouts of a machine share what is proved, and the second keeps it in each. What
+another kit no longer has under these names is told by its name, when a script starts; where a script fails in another way under another kit, this file is
+what to compare with the kit's rt and rtlib.py.
 """
 import contextlib
 import copy
@@ -14,9 +15,11 @@ import shutil
 import sys
 import tempfile
 
-WRITTEN_FOR = "rattle-kit-13f logic dac8208d650f15bf"
+WRITTEN_FOR = "rattle-kit-13f and rattle-kit-13b, logic dac8208d650f15bf"
 # Of rt, and of rtlib, which rt loads.
-NAMES = "KIT checked edited edits_of free in_lanes linked processors rtlib share_work unread work_for".split()
+NAMES = "KIT checked edited edits_of free in_lanes processors rtlib unread".split()
+# Of rt, where checkouts share what is proved.
+SHARING_NAMES = "linked share_work work_for".split()
 LIBRARY_NAMES = "PARTS STALE crates_below files_of fmt guarded lock".split()
 CRATE_NAMES = "below build_and_run build_rlib check count has_tests is_built makes_rlib run".split()
 
@@ -40,13 +43,16 @@ def load():
 
 
 rt = load()
+# Whether the checkouts of this machine share what is proved.
+SHARES = all(hasattr(rt, it) for it in SHARING_NAMES)
 
 
 def start():
-    """Has what a script starts end with it, and what it proves shared with the other checkouts of this machine. To be called first, by the main thread: it
-    sets a signal's handler."""
+    """Has what a script starts end with it, and what it proves shared with the other checkouts of this machine where they share. To be called first, by the
+    main thread: it sets a signal's handler."""
     rt.rtlib.guarded()
-    rt.share_work(True)
+    if SHARES:
+        rt.share_work(True)
 
 
 @functools.lru_cache(maxsize=None)
@@ -71,8 +77,6 @@ must_fail_of = rt.edits_of
 # Whether a line of a check says that a text cannot be read.
 is_unread = rt.unread
 processors, free = rt.processors, rt.free
-# Copies a folder of kept work. What was proved is linked: a check replaces such a file, and changes none.
-linked = rt.linked
 
 
 def said_by(crate, work):
@@ -122,13 +126,23 @@ def checked(crate, texts, flags, kept):
         return rt.checked(crate, texts, flags, kept)
 
 
+def kept_work(crate):
+    """Returns the folder of what a check last kept of a crate, and what copies it: in any checkout of this machine where they share, else in this one. There
+    may be none."""
+    if SHARES:
+        # (what was proved is linked: a check replaces such a file, and changes none)
+        return rt.work_for(crate), rt.linked
+    own = f"{crate.folder}/out/incremental"
+    return own if os.path.isdir(own) else None, shutil.copytree
+
+
 def begin(crate, folder):
-    """Makes a folder that holds what a check on this machine last kept of a crate, if one did, in this checkout or another. Checks over the folder leave that as it was."""
-    found = rt.work_for(crate)
+    """Makes a folder that holds what a check last kept of a crate, if one did. Checks over the folder leave that as it was."""
+    found, copy_work = kept_work(crate)
     if found:
         # (another command may write what is copied)
         with contextlib.suppress(OSError, shutil.Error):
-            return linked(found, folder)
+            return copy_work(found, folder)
         shutil.rmtree(folder, ignore_errors=True)
     os.mkdir(folder)
 
