@@ -1,6 +1,6 @@
 -- What is said of faults on single lines, by the definitions alone.
 use Rattle.std.specs.List.{list_all}
-use Rattle.std.proofs.Common.{◌≡◌, ℕ, List, [], ◌∷◌, ◌++◌, true, Option, is_some, refl, map, unwrap_or}
+use Rattle.std.proofs.Common.{◌≡◌, ℕ, List, [], ◌∷◌, ◌++◌, true, Option, None, is_some, refl, map, unwrap_or}
 use Rattle.std.specs.Fmt.{digits}
 use Rattle.std.specs.Prelude.{codes}
 use Rattle.agc_text.specs.Fields.{runs}
@@ -11,7 +11,7 @@ use Rattle.faults.specs.Warnings.{bank_operators, parts_of}
 
 -- a fault with a number, where it begins
 abbrev fault : ℕ → ℕ → Finding
-fault number start = record { line = 1; number = number; span = record { start = start; width = 1 } }
+fault number start = record { line = 1; number = number; span = record { start = start; width = 1 }; taken_by = None }
 
 -- the labels of the sources
 abbrev labels : List (List ℕ)

@@ -1,5 +1,5 @@
 -- What is told of the faults of flight sources, by the definitions alone.
-use Rattle.std.proofs.Common.{◌≡◌, ℕ, ◌+◌, List, [], ◌∷◌, ◌++◌, true, false, refl, map, take, drop}
+use Rattle.std.proofs.Common.{◌≡◌, ℕ, ◌+◌, List, [], ◌∷◌, ◌++◌, None, true, false, refl, map, take, drop}
 use Rattle.std.specs.Fmt.{digits}
 use Rattle.std.specs.List.{list_any}
 use Rattle.std.specs.Prelude.{codes, ◌==◌, is_some, if◌then◌else◌}
@@ -25,7 +25,7 @@ source text = map (λ byte. if byte == 0o73 then 0o12 else byte) text
 -- ## Lines of the interpretive language
 -- a fault of a line
 abbrev fault : ℕ × ℕ → Finding
-fault f = record { line = f.0; number = f.1; span = record { start = 1; width = 2 } }
+fault f = record { line = f.0; number = f.1; span = record { start = 1; width = 2 }; taken_by = None }
 
 -- the line of a fault and its number
 abbrev row : Finding → ℕ × ℕ

@@ -1,5 +1,5 @@
 -- The warnings of small sources, and a report, by the definitions alone.
-use Rattle.std.proofs.Common.{◌≡◌, ℕ, ◌+◌, List, [], ◌∷◌, ◌++◌, true, refl, map}
+use Rattle.std.proofs.Common.{◌≡◌, ℕ, ◌+◌, List, [], ◌∷◌, ◌++◌, None, Some, true, refl, map}
 use Rattle.std.specs.Fmt.{digits}
 use Rattle.std.specs.Prelude.{codes, ◌==◌, if◌then◌else◌}
 use Rattle.agc_text.specs.Fields.{runs}
@@ -10,7 +10,7 @@ use Rattle.yayul.specs.declared.finding.Finding.{Finding}
 use Rattle.yayul.specs.declared.language.Language.TheVariants.{Standard}
 use Rattle.faults.specs.Kinds.{kind_of_source}
 use Rattle.faults.specs.Warnings.{warnings}
-use Rattle.faults.specs.Report.{beside_text, count_text, report, shown_line, told_text}
+use Rattle.faults.specs.Report.{as_error, beside_text, count_text, report, shown_finding, shown_line, told_text}
 
 -- a source of lines, each but the last followed by a semicolon here
 abbrev source : List ℕ → List ℕ
@@ -53,7 +53,7 @@ each_warned = refl
 
 -- a finding of a line
 abbrev placed : ℕ → ℕ → Finding
-placed line number = record { line = line; number = number; span = record { start = 1; width = 2 } }
+placed line number = record { line = line; number = number; span = record { start = 1; width = 2 }; taken_by = None }
 
 -- the faults of a line stand before its warnings, and the warnings of earlier lines before both
 shown_in_order : report Standard (codes "a") (source (codes " CA 5; TS FIV;Z")) (placed 2 17 ∷ placed 2 25 ∷ []) (placed 1 2 ∷ placed 2 3 ∷ placed 3 8 ∷ [])
@@ -81,6 +81,20 @@ told_below : report Standard (codes "a") (source (codes " SETLOC SUX; OCT 1;SUX 
     ++ codes "a:5:2: error E18: EQUALS needs the value of P here, and no earlier line defines it;    5 | P EQUALS P;      |  ^^;")
 unfolding report told_text shown_line beside_text kind_of_source lines digits runs operators parsed
 told_below = refl
+
+-- of a place that is taken the line is told whose word stands there, and where none is known what the fault is
+told_taken : report Standard (codes "a") (source (codes " OCT 1;X OCT 2; SETLOC 4000;X OCT 3")) (record (placed 4 21) { taken_by = Some 1 } ∷ placed 4 14 ∷ placed 4 21 ∷ []) []
+    ≡ source (codes "a:4:2: error E21: line 1 has a word at this place already;    4 | X OCT 3;      |  ^^;"
+    ++ codes "a:4:2: error E14: line 2 has the label X already;    4 | X OCT 3;      |  ^^;"
+    ++ codes "a:4:2: error E21: a word stands at this place already;    4 | X OCT 3;      |  ^^;")
+unfolding report told_text shown_line beside_text kind_of_source lines digits runs operators parsed
+told_taken = refl
+
+-- however many faults there are: without the labels of other lines too
+taken_alone : shown_finding Standard (codes "a") [] (lines (source (codes " 2CADR 4000; SETLOC 4001; OCT 2"))) (as_error (record (placed 3 21) { taken_by = Some 1 }))
+    ≡ source (codes "a:3:2: error E21: line 1 has a word at this place already;    3 |  OCT 2;      |  ^^;")
+unfolding shown_line beside_text lines digits runs
+taken_alone = refl
 
 -- how many there are
 count_shown : count_text 2 3 ++ count_text 1 0 ≡ source (codes "2 errors, 3 warnings;1 error, 0 warnings;")

@@ -347,7 +347,7 @@ fault_cause near text parts f =
     else if f.number == 18 then early_cause near parts
     else if f.number == 19 then bank_cause parts
     else if f.number == 20 then room_cause parts
-    else if f.number == 21 then said (codes "an earlier line has a word at this place")
+    else if f.number == 21 && near then said (codes "line ~ has a word at this place already")
     else if f.number == 22 then cured (meaning 22) (codes "SETLOC and a fixed place, or BANK, before it")
     else if f.number == 23 then cured (codes "% is an extracode, and EXTEND does not stand before it") (codes "EXTEND on the line before, behind a blank")
     else if f.number == 24 then cured (codes "EXTEND stands before %, which is no extracode") (codes "take EXTEND out")

@@ -71,7 +71,7 @@ early texts line = early_line (text_at texts line) (decimal (last_before line 1 
 
 -- the lines of a fault of a number on a line, which has a number too and some fields
 unfoldable pub wrong_at : List ℕ → List ℕ → Parts → ℕ → ℕ → Wrong → List ℕ
-wrong_at name text parts line number wrong = caused_text name text parts wrong.beside Error (record { line = line; number = number; span = wrong.span }) wrong.cause
+wrong_at name text parts line number wrong = caused_text name text parts wrong.beside Error (record { line = line; number = number; span = wrong.span; taken_by = None }) wrong.cause
 
 abbrev pub wrong_text : List ℕ → List (List ℕ) → ℕ → ℕ → Wrong → List ℕ
 wrong_text name texts line number wrong = wrong_at name (text_at texts line) (parts_of (text_at texts line)) line number wrong

@@ -1,7 +1,7 @@
 -- The faults and the warnings of a source as lines of text.
 use Rattle.std.specs.Prelude.{ℕ, ◌+◌, ◌-◌, ◌==◌, ◌&&◌, ◌||◌, not, List, [], ◌∷◌, ◌++◌, length, map, take, drop, max, min, replicate, codes, decimal, flat_map, nat_le, nat_lt, Bool, true, Option, Some, None, is_some, unwrap_or, if◌then◌else◌}
 use Rattle.std.specs.List.{fold, position_or_len}
-use Rattle.std.specs.Option.{option_map_or}
+use Rattle.std.specs.Option.{option_map, option_map_or, option_or}
 use Rattle.agc_text.specs.Bytes.{space, tab}
 use Rattle.agc_text.specs.Lines.{lines}
 use Rattle.agc_text.specs.Tables.{same_name}
@@ -92,9 +92,13 @@ told_by_line labels parts number =
     else if number == 25 || number == 26 then as_label labels (text_of parts.operand)
     else None
 
--- a text from other lines that a fault is told with: the number of the first line that has its label, or the label that is near to its symbol
+-- the line that a fault is told with: the one whose word stands already where its own would, or the first that has its label
+abbrev pub line_beside : Language → List (List ℕ) → List (List ℕ) → Parts → Finding → Option ℕ
+line_beside language labels texts parts f = option_or f.taken_by (option_map (first_line language texts) (told_by_line labels parts f.number))
+
+-- a text from other lines that a fault is told with: the number of a line, or the label that is near to its symbol
 abbrev pub beside : Language → List (List ℕ) → List (List ℕ) → Parts → Finding → Option (List ℕ)
-beside language labels texts parts f = option_map_or (λ name. Some (decimal (first_line language texts name))) (told_by_line labels parts f.number) (near_label labels parts f)
+beside language labels texts parts f = option_map_or (λ line. Some (decimal line)) (line_beside language labels texts parts f) (near_label labels parts f)
 
 -- the lines of a finding of a line, with what it is told with from other lines
 unfoldable pub beside_text : Language → List ℕ → List (List ℕ) → List (List ℕ) → List ℕ → Parts → Severity × Finding → List ℕ

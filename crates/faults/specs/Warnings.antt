@@ -86,7 +86,7 @@ has_alone names parts = has_operator names parts && not (is_some parts.offset)
 
 -- a warning of a number at a field of a line, where a condition holds
 abbrev pub warned_if : Bool → ℕ → ℕ → Piece → List Finding
-warned_if condition line number p = if condition then record { line = line; number = number; span = span_of p } ∷ [] else []
+warned_if condition line number p = if condition then record { line = line; number = number; span = span_of p; taken_by = None } ∷ [] else []
 
 -- what is said of a field, where it stands
 abbrev pub at_field : (Piece → List Finding) → Option Piece → List Finding

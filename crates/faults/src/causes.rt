@@ -84,7 +84,7 @@ pub(crate) fn fault_cause(text: &[u8], parts: &Line<'_>, near: bool, finding: &F
         18 => early_cause(near, parts),
         19 => bank_cause(parts),
         20 => room_cause(parts),
-        21 => Cause::said(b"an earlier line has a word at this place"),
+        21 if near => Cause::said(b"line ~ has a word at this place already"),
         22 => Cause::cured(meaning(22), b"SETLOC and a fixed place, or BANK, before it"),
         23 => Cause::cured(
             b"% is an extracode, and EXTEND does not stand before it",

@@ -128,6 +128,7 @@ fn push_wrong_at(
         line,
         number,
         span: wrong.span,
+        taken_by: None,
     };
     let (beside, cause) = (wrong.beside, &wrong.cause);
     push_caused(

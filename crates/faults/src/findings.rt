@@ -9,7 +9,7 @@ ghost use Rattle.faults.specs.Warnings.{parts_in};
 ghost use Rattle.faults.specs.Shown.{shown_byte};
 ghost use Rattle.faults.specs.Causes.{below_cause, filled, filled_byte, of_line};
 ghost use Rattle.faults.specs.Views.{cause_in};
-ghost use Rattle.faults.specs.Report.{margin_byte, numbered, shown_part, row_text, marks_text, place_text, kind_text, cause_of, caused_text, message_text, cure_text, finding_text, text_at, shown_finding, shown_line, beside_text, needs_value, line_below, as_label, told_by_line, labels_of, sought_labels, has_label, first_line, count_before, as_error, as_warning, merged, counted, count_text, interpretive_text, warned_before, listed_from, listed_around, told_around, told_text, refused_file, report};
+ghost use Rattle.faults.specs.Report.{margin_byte, numbered, shown_part, row_text, marks_text, place_text, kind_text, cause_of, caused_text, message_text, cure_text, finding_text, text_at, shown_finding, shown_line, beside_text, line_beside, needs_value, line_below, as_label, told_by_line, labels_of, sought_labels, has_label, first_line, count_before, as_error, as_warning, merged, counted, count_text, interpretive_text, warned_before, listed_from, listed_around, told_around, told_text, refused_file, report};
 
 use crate::causes::{Cause, below_cause, near_label, text_of, warning_cause};
 use crate::flight_causes::{equalities, told_cause};
@@ -461,10 +461,10 @@ fn push_beside(
 ) -> Result<(), AllocError>
     ensures { OnOk result (out.new.items ≡ out.old.items ++ beside_text language name.now labels.now (map (λ t. t.now) texts.now) text.now (parts_in parts.now) (severity, finding.now)) }
 {
-    match told_by_line(labels, parts, finding.number) {
-        Some(label) => {
+    match line_beside(language, labels, texts, parts, finding) {
+        Some(line) => {
             let mut digits = ArrayVec::<u8, DIGITS>::new();
-            push_decimal(&mut digits, first_line(language, texts, label));
+            push_decimal(&mut digits, line);
             let line = Some(digits.as_slice());
             push_finding(out, language, name, text, parts, line, severity, finding)
         }
@@ -472,6 +472,23 @@ fn push_beside(
             let near = near_label(labels, parts, finding);
             push_finding(out, language, name, text, parts, near, severity, finding)
         }
+    }
+}
+
+// The line that a fault is told with: the one whose word stands already where its own would, or the first that has its label.
+fn line_beside(
+    language: Language,
+    labels: &NameSet,
+    texts: &[&[u8]],
+    parts: &Line<'_>,
+    finding: &Finding,
+) -> Option<u64>
+    ensures { result ≡ line_beside language labels.now (map (λ t. t.now) texts.now) (parts_in parts.now) finding.now }
+{
+    match finding.taken_by {
+        Some(line) => Some(u64::from(line)),
+        None => told_by_line(labels, parts, finding.number)
+            .map(|label| first_line(language, texts, label)),
     }
 }
 

@@ -286,7 +286,12 @@ pub(crate) fn warn_if(
             start: field.start,
             width: field.text.len(),
         };
-        found.push(Finding { line, number, span })?;
+        found.push(Finding {
+            line,
+            number,
+            span,
+            taken_by: None,
+        })?;
     }
     Ok(())
 }

@@ -1,7 +1,6 @@
 -- What EQUALS comes to: a value, or a name that waits.
-use Rattle.std.proofs.Common.{◌≡◌, ℕ, Bool, true, false, List, [], ◌∷◌, ◌++◌, Option, None, Some, is_some, Result, Ok, Err, refl, ap, sym, ◌∙◌, ◌+◌, ◌-◌, arith, get_or, length, fold, append_assoc, append-nil}
-use Rattle.std.specs.Prelude.{IfErr, OnOk, if◌then◌else◌, ok_or}
-use Rattle.std.specs.Option.{option_or}
+use Rattle.std.proofs.Common.{◌≡◌, ℕ, Bool, true, false, List, [], ◌∷◌, ◌++◌, Option, None, Some, is_some, Result, Ok, Err, refl, ap, sym, ◌∙◌, ◌+◌, ◌-◌, arith, get_or, length, append_assoc, append-nil}
+use Rattle.std.specs.Prelude.{IfErr, OnOk, if◌then◌else◌}
 use Rattle.std.specs.Result.{result_unwrap_or}
 use Rattle.std.specs.List.{slice_get}
 use Rattle.std.proofs.Math.Seq.{get_or-append_seam}

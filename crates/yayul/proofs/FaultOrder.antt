@@ -61,14 +61,14 @@ one_of_conditions a b p c kind =
     ∙ ap (λ x. (list_any (is_kind kind) a || list_any (is_kind kind) b || is_kind kind p) || x) (one_of_standing c kind)
 
 -- what is told of so many kinds and one
-pub told_next : (language : Language) (test : FaultKind → Bool) (line : ℕ) (text : List ℕ) (kinds : List FaultKind) (i : ℕ) (d : FaultKind) → i < length kinds
-    → map (finding language line text) (filter test (take (i + 1) kinds))
-    ≡ map (finding language line text) (filter test (take i kinds)) ++ cond (test (get_or kinds i d)) (finding language line text (get_or kinds i d) ∷ []) []
-told_next language test line text kinds i d lt =
-    ap (map (finding language line text)) (filter_more test kinds i d lt)
-    ∙ map-append (finding language line text) (filter test (take i kinds)) (cond (test (get_or kinds i d)) (get_or kinds i d ∷ []) [])
-    ∙ ap (λ more. map (finding language line text) (filter test (take i kinds)) ++ more) (of_one (test (get_or kinds i d)))
+pub told_next : (language : Language) (test : FaultKind → Bool) (line : ℕ) (text : List ℕ) (taken : Option ℕ) (kinds : List FaultKind) (i : ℕ) (d : FaultKind) → i < length kinds
+    → map (finding language line text taken) (filter test (take (i + 1) kinds))
+    ≡ map (finding language line text taken) (filter test (take i kinds)) ++ cond (test (get_or kinds i d)) (finding language line text taken (get_or kinds i d) ∷ []) []
+told_next language test line text taken kinds i d lt =
+    ap (map (finding language line text taken)) (filter_more test kinds i d lt)
+    ∙ map-append (finding language line text taken) (filter test (take i kinds)) (cond (test (get_or kinds i d)) (get_or kinds i d ∷ []) [])
+    ∙ ap (λ more. map (finding language line text taken) (filter test (take i kinds)) ++ more) (of_one (test (get_or kinds i d)))
   where
-    of_one : (b : Bool) → map (finding language line text) (cond b (get_or kinds i d ∷ []) []) ≡ cond b (finding language line text (get_or kinds i d) ∷ []) []
+    of_one : (b : Bool) → map (finding language line text taken) (cond b (get_or kinds i d ∷ []) []) ≡ cond b (finding language line text taken (get_or kinds i d) ∷ []) []
     of_one true = refl
     of_one false = refl

@@ -1,10 +1,10 @@
 -- What is known of a layout that is finished.
-use Rattle.std.proofs.Common.{◌≡◌, ℕ, List, Some, None, Result, Err, map, ap, sym, subst, ◌∙◌, inl, inr, refl}
-use Rattle.yayul.specs.Layout.{Layout, Promise}
+use Rattle.std.proofs.Common.{◌≡◌, ℕ, Some, None, Result, Err, map, ap, sym, subst, ◌∙◌}
+use Rattle.yayul.specs.Layout.{Layout}
 use Rattle.yayul.specs.Later.{Table, first_fault, settled, with_values}
 use Rattle.yayul.specs.Program.{GivesProgram, Program, Source, completed, finished}
 use Rattle.yayul.specs.Language.{Fault}
-use Rattle.yayul.specs.Inside.Answers.{Agrees, layout_of}
+use Rattle.yayul.specs.Inside.Answers.{Agrees}
 use Rattle.yayul.specs.Inside.Representation.{promise_of, request_of}
 use Rattle.yayul.specs.Inside.Waiting.{Holds}
 use Rattle.yayul.specs.declared.layout.Layout.{Layout as Held}

@@ -15,7 +15,7 @@ use Rattle.yayul.specs.Later.{Table, first_fault, promise_fault, promise_kind, w
 use Rattle.yayul.specs.Layout.{Promise, LineEffect, equals, is_later, promised, valued, statement_on, Request, Layout, value_here, early_value, defined, asked, asked_here, fault_if, fault_number, standing, start, on_line, is_malformed, is_twice, word_place, statement_effect, text_faults, line_effect, line_faults, layout_after, layout_faults}
 use Rattle.yayul.specs.Laws.{is_of, TellsOf, FindingsAgree}
 use Rattle.yayul.specs.Program.{Program, least, completed, finished, program, unless_fault}
-use Rattle.yayul.specs.Survey.{Survey, unmarked, known_after, extracode_known, moves, displaces, some_stands, wrong_byte, is_refused, layout_kinds, noted, passed_line, passed_lines, settled_survey, is_among, names_one, erases, is_same_byte, doubt, follows, kinds_in_order, is_one_of, finding, told_of, word_kinds, content_kinds, line_kinds, told_line, told_lines, looked_at, told}
+use Rattle.yayul.specs.Survey.{Survey, unmarked, known_after, extracode_known, moves, displaces, some_stands, wrong_byte, is_refused, layout_kinds, noted, passed_line, passed_lines, settled_survey, is_among, names_one, erases, is_same_byte, doubt, follows, kinds_in_order, is_one_of, finding, taken_by, told_of, word_kinds, content_kinds, line_kinds, told_line, told_lines, looked_at, told}
 use Rattle.yayul.specs.Words.{content_words, request_words, request_faults, word_faults}
 use Rattle.yayul.specs.Inside.Answers.{lesser_kind, least_kind}
 use Rattle.yayul.specs.Language.{Language, Addressed, BadBank, BadLabel, BadOperand, Bank, BankFull, BankWord, CodeInErasable, Complemented, Constant, Constants, Content, Ebank, Equals, Erase, FarAddress, FarComplement, Fault, FaultKind, Gives, Label, LongLine, Malformed, Missing, Named, NeedsExtend, NoMemory, NotAscii, NotExtracode, Nothing, Operand, Operation, OutOfRange, PlaceTaken, Plain, Setloc, Term, TooManyLines, TwiceDefined, Undefined, Unknown, UnknownOperator, UsedTooEarly, Value, WrongKindOfAddress}
@@ -311,19 +311,19 @@ one_of_among kind (k ∷ kinds) (inl same) = ap (λ b. b || is_one_of kinds kind
 one_of_among kind (k ∷ kinds) (inr more) = any_back (λ other. fault_number other == fault_number kind) (k ∷ []) kinds (one_of_among kind kinds more)
 
 -- a kind that passes a test is told
-told_among : (test : FaultKind → Bool) (language : Language) (line : ℕ) (text : List ℕ) (kind : FaultKind) (kinds : List FaultKind) → IsAmong kind kinds → test kind ≡ true
-    → list_any (is_of (least_fault.told line kind)) (map (finding language line text) (filter test kinds)) ≡ true
-told_among test language line text kind [] none e = absurd none
-told_among test language line text kind (k ∷ kinds) (inl same) e =
+told_among : (test : FaultKind → Bool) (language : Language) (line : ℕ) (text : List ℕ) (taken : Option ℕ) (kind : FaultKind) (kinds : List FaultKind) → IsAmong kind kinds → test kind ≡ true
+    → list_any (is_of (least_fault.told line kind)) (map (finding language line text taken) (filter test kinds)) ≡ true
+told_among test language line text taken kind [] none e = absurd none
+told_among test language line text taken kind (k ∷ kinds) (inl same) e =
     let passes : test k ≡ true = ap test (sym same) ∙ e in
-    ap (λ b. list_any (is_of (least_fault.told line kind)) (map (finding language line text) (cond b (k ∷ filter test kinds) (filter test kinds)))) passes
-    ∙ ap (λ b. b || list_any (is_of (least_fault.told line kind)) (map (finding language line text) (filter test kinds)))
+    ap (λ b. list_any (is_of (least_fault.told line kind)) (map (finding language line text taken) (cond b (k ∷ filter test kinds) (filter test kinds)))) passes
+    ∙ ap (λ b. b || list_any (is_of (least_fault.told line kind)) (map (finding language line text taken) (filter test kinds)))
     (Rattle.std.proofs.lemmas.Bool.and_from (line == line) (fault_number k == fault_number kind) (eq-eqb line line refl) (eq-eqb (fault_number k) (fault_number kind) (ap fault_number (sym same))))
-told_among test language line text kind (k ∷ kinds) (inr more) e = by_test (told_among test language line text kind kinds more e) (test k)
+told_among test language line text taken kind (k ∷ kinds) (inr more) e = by_test (told_among test language line text taken kind kinds more e) (test k)
   where
-    by_test : list_any (is_of (least_fault.told line kind)) (map (finding language line text) (filter test kinds)) ≡ true
-        → (b : Bool) → list_any (is_of (least_fault.told line kind)) (map (finding language line text) (cond b (k ∷ filter test kinds) (filter test kinds))) ≡ true
-    by_test later true = any_back (is_of (least_fault.told line kind)) (finding language line text k ∷ []) (map (finding language line text) (filter test kinds)) later
+    by_test : list_any (is_of (least_fault.told line kind)) (map (finding language line text taken) (filter test kinds)) ≡ true
+        → (b : Bool) → list_any (is_of (least_fault.told line kind)) (map (finding language line text taken) (cond b (k ∷ filter test kinds) (filter test kinds))) ≡ true
+    by_test later true = any_back (is_of (least_fault.told line kind)) (finding language line text taken k ∷ []) (map (finding language line text taken) (filter test kinds)) later
     by_test later false = later
 
 in_order : (kind : FaultKind) → IsAmong kind kinds_in_order
@@ -347,10 +347,10 @@ in_order LongLine = inr (inr (inr (inr (inr (inr (inr (inr (inr (inr (inr (inr (
 in_order NoMemory = inr (inr (inr (inr (inr (inr (inr (inr (inr (inr (inr (inr (inr (inr (inr (inr (inr (inl refl)))))))))))))))))
 
 -- a fault of a line that does not follow from another is told
-told_here : (language : Language) (d : Doubt) (line : ℕ) (text : List ℕ) (kinds : List FaultKind) (kind : FaultKind) → is_one_of kinds kind ≡ true → follows d kind ≡ false
-    → list_any (is_of (least_fault.told line kind)) (told_of language d line text kinds) ≡ true
-told_here language d line text kinds kind stands alone =
-    told_among (λ k. is_one_of kinds k && not (follows d k)) language line text kind kinds_in_order (in_order kind)
+told_here : (language : Language) (d : Doubt) (line : ℕ) (text : List ℕ) (taken : Option ℕ) (kinds : List FaultKind) (kind : FaultKind) → is_one_of kinds kind ≡ true → follows d kind ≡ false
+    → list_any (is_of (least_fault.told line kind)) (told_of language d line text taken kinds) ≡ true
+told_here language d line text taken kinds kind stands alone =
+    told_among (λ k. is_one_of kinds k && not (follows d k)) language line text taken kind kinds_in_order (in_order kind)
     (ap (λ b. b && not (follows d kind)) stands ∙ ap not alone)
 
 -- ## What does not follow
@@ -459,8 +459,8 @@ none_waits : (line : ℕ) (kind : Option FaultKind) → option_map (λ k. least_
 none_waits line None e = refl
 none_waits line (Some kind) e = absurd (let bad : Some (least_fault.told line kind) ≡ None = e in cc)
 
-nothing_told : (language : Language) (d : Doubt) (line : ℕ) (text : List ℕ) → told_of language d line text [] ≡ []
-nothing_told language d line text = refl
+nothing_told : (language : Language) (d : Doubt) (line : ℕ) (text : List ℕ) (taken : Option ℕ) → told_of language d line text taken [] ≡ []
+nothing_told language d line text taken = refl
 
 no_kinds : (line : ℕ) (kinds : List FaultKind) (others : List Fault) → on_line line kinds ++ others ≡ [] → (kinds ≡ []) × (others ≡ [])
 no_kinds line kinds others e = head_faults line kinds others e
@@ -475,7 +475,7 @@ none_told (text ∷ texts) line l w e first none =
     let words = head_faults line (word_kinds w.symbols l (statement_on l text).operation) (words_of w.symbols (line + 1) after texts) none in
     let waits = neither (line_fault w.symbols line l (statement_on l text).label (statement_on l text).operation) (first_of w.symbols (line + 1) after texts) first in
     let d : Doubt = doubt [] [] (record { location = true; extracode = true; wrong = None }) text (statement_on l text).operation in
-    ap (λ kinds. told_of l.language d line text kinds ++ told_lines (clean w) (line + 1) (passed_line line (clean l) text) texts) (clean_kinds (clean w) line l text parts.0 ∙ ap (λ kinds. kinds ++ word_kinds w.symbols l (statement_on l text).operation) (none_waits line (waiting_of (clean w) l text) waits.0) ∙ words.0)
+    ap (λ kinds. told_of l.language d line text (taken_by l (statement_on l text).operation) kinds ++ told_lines (clean w) (line + 1) (passed_line line (clean l) text) texts) (clean_kinds (clean w) line l text parts.0 ∙ ap (λ kinds. kinds ++ word_kinds w.symbols l (statement_on l text).operation) (none_waits line (waiting_of (clean w) l text) waits.0) ∙ words.0)
     ∙ ap (λ s. told_lines (clean w) (line + 1) s texts) (passed_clean line l text parts.0)
     ∙ none_told texts (line + 1) after w parts.1 waits.1 words.1
 
@@ -503,8 +503,8 @@ word_told line l w text fault e stands =
     let alone : follows d found.0 ≡ false =
     ap (λ x. follows x found.0) (clean_doubt [] text (statement_on l text).operation ∙ (λ i. doubt_here (not (plain i)) (names_none (statement_on l text).operation i))) ∙ none_follows found.0 in
     ap (λ f. list_any (is_of f) (told_line (clean w) line (clean l) text)) found.1.1
-    ∙ ap (λ ks. list_any (is_of (least_fault.told line found.0)) (told_of l.language d line text ks)) (clean_kinds (clean w) line l text e)
-    ∙ told_here l.language d line text (standing (waiting_of (clean w) l text ∷ []) ++ kinds) found.0
+    ∙ ap (λ ks. list_any (is_of (least_fault.told line found.0)) (told_of l.language d line text (taken_by l (statement_on l text).operation) ks)) (clean_kinds (clean w) line l text e)
+    ∙ told_here l.language d line text (taken_by l (statement_on l text).operation) (standing (waiting_of (clean w) l text ∷ []) ++ kinds) found.0
     (any_back (λ other. fault_number other == fault_number found.0) (standing (waiting_of (clean w) l text ∷ [])) kinds (one_of_among found.0 kinds found.1.0)) alone
 
 -- the fault of a name that a faultless line lets wait is told
@@ -516,8 +516,8 @@ waiting_told line l w text kind e is =
     let plain : list_all is_text_byte text ≡ true = all_text l.language line text (no_front (text_faults l.language line text) (line_effect line l text).faults e) in
     let alone : follows d kind ≡ false =
     ap (λ x. follows x kind) (clean_doubt [] text (statement_on l text).operation ∙ (λ i. doubt_here (not (plain i)) (names_none (statement_on l text).operation i))) ∙ none_follows kind in
-    ap (λ ks. list_any (is_of (least_fault.told line kind)) (told_of l.language d line text ks)) (clean_kinds (clean w) line l text e ∙ ap (λ k. standing (k ∷ []) ++ words) is)
-    ∙ told_here l.language d line text (kind ∷ words) kind (one_of_among kind (kind ∷ words) (inl refl)) alone
+    ap (λ ks. list_any (is_of (least_fault.told line kind)) (told_of l.language d line text (taken_by l (statement_on l text).operation) ks)) (clean_kinds (clean w) line l text e ∙ ap (λ k. standing (k ∷ []) ++ words) is)
+    ∙ told_here l.language d line text (taken_by l (statement_on l text).operation) (kind ∷ words) kind (one_of_among kind (kind ∷ words) (inl refl)) alone
 
 first_is_told : (texts : List (List ℕ)) (line : ℕ) (l w : Layout) (fault : Fault) → layout_faults line l texts ≡ [] → first_of w.symbols line l texts ≡ Some fault
     → list_any (is_of fault) (told_lines (clean w) line (clean l) texts) ≡ true
@@ -625,7 +625,7 @@ first_told w line l text kind e =
     any_front (λ other. fault_number other == fault_number kind) (line_faults line l text ++ waits) words
     (any_front (λ other. fault_number other == fault_number kind) (line_faults line l text) waits (one_of_among kind (line_faults line l text) among)) in
     let told_alone : follows d kind ≡ false → list_any (is_of (least_fault.told line kind)) (told_line w line (clean l) text) ≡ true =
-    told_here l.language d line text (line_faults line l text ++ waits ++ words) kind stands in
+    told_here l.language d line text (taken_by l (statement_on l text).operation) (line_faults line l text ++ waits ++ words) kind stands in
     elim (cases_Bool (list_all is_text_byte text)) [
       | inl plain ↦ told_alone
           (ap (λ x. follows x kind) (clean_doubt w.lost text operation ∙ (λ i. doubt_here (not (plain i)) (names_one w.lost operation)))

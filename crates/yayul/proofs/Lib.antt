@@ -31,6 +31,7 @@ mod RequestFault
 mod AlikeWaiting
 mod HoldsByLine
 mod FaultOrder
+mod LinesOfWords
 mod SurveyByLine
 mod LeastTold
 mod ToldOnce

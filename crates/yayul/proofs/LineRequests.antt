@@ -8,7 +8,7 @@ use Rattle.std.specs.List.{list_any}
 use Rattle.std.specs.Option.{option_map_or}
 use Rattle.std.specs.Result.{result_unwrap_or}
 use Rattle.rope.specs.Places.{bank_words}
-use Rattle.yayul.specs.Layout.{LineEffect, statement_on, Request, and_then, value_here, early_value, defined, asked, asked_here, fault_if, standing, on_line, Layout, width, lacks_room, after_words, stands_at, is_taken, is_malformed, is_twice, is_erasable, word_place, gives, statement_effect, text_faults, line_effect, line_faults, layout_after, layout_faults}
+use Rattle.yayul.specs.Layout.{LineEffect, statement_on, Request, and_then, value_here, defined, asked, asked_here, fault_if, standing, on_line, Layout, width, lacks_room, after_words, stands_at, is_taken, is_malformed, is_twice, is_erasable, word_place, gives, statement_effect, text_faults, line_effect, line_faults, layout_after, layout_faults}
 use Rattle.yayul.specs.Inside.Sound.{AreFrom, AreRising, AreApart, AreBelow, AreOrdered, meets}
 use Rattle.yayul.specs.declared.faults.Fault.{Fault}
 use Rattle.yayul.specs.declared.faults.FaultKind.{FaultKind}

@@ -1,20 +1,22 @@
 -- What stands after a line of a survey, and what is told of it.
-use Rattle.std.proofs.Common.{◌≡◌, ℕ, zero, suc, arith, map, take, append_assoc, ◌∷◌, ◌+◌, true, false, ◌||◌, List, [], Some, None, cond, refl, ap, sym, subst, ◌∙◌, ◌++◌, Result, Ok, Err}
+use Rattle.std.proofs.Common.{◌≡◌, ℕ, zero, suc, arith, map, take, append_assoc, ◌∷◌, ◌+◌, true, false, ◌||◌, List, [], Option, Some, None, cond, refl, ap, sym, subst, ◌∙◌, ◌++◌, Result, Ok, Err}
 use Rattle.std.specs.Prelude.{OnOk}
 use Rattle.yayul.specs.declared.finding.Finding.{Finding}
 use Rattle.std.specs.List.{list_any}
 use Rattle.yayul.specs.Layout.{statement_on, Layout, standing, statement_effect, line_effect, text_faults}
 use Rattle.yayul.specs.Language.{Bank, Ebank, Equals, Erase, FaultKind, Gives, Label, Malformed, Missing, Named, Nothing, Operation, Setloc, Statement, Unknown, Value}
 use Rattle.yayul.specs.Later.{settled, waiting_kind}
-use Rattle.yayul.specs.Survey.{settled_survey, Survey, noted, displaces, some_stands, layout_kinds, is_refused, known_after, passed_line, passed_lines, told_lines, word_kinds, doubt, line_kinds, told_of, told_line}
+use Rattle.yayul.specs.Survey.{settled_survey, Survey, noted, displaces, some_stands, layout_kinds, is_refused, known_after, passed_line, passed_lines, told_lines, word_kinds, doubt, line_kinds, taken_by, told_of, told_line}
 use Rattle.yayul.specs.declared.doubt.Doubt.{Doubt}
 use Rattle.yayul.specs.declared.survey.LineFaults.{LineFaults}
 use Rattle.yayul.specs.declared.survey.Survey.{Survey as Held}
 use Rattle.yayul.specs.Inside.Answers.{Agrees, Keeps, layout_of, with_requests}
 use Rattle.yayul.specs.Inside.Surveys.{Surveys, kinds_of}
 use Rattle.yayul.specs.Inside.Representation.{promise_of}
+use Rattle.yayul.specs.Inside.WordLines.{AreLines, with_lines, words_given}
 use Rattle.yayul.proofs.LineAgrees.{named_keeps, next_keeps}
 use Rattle.yayul.proofs.Equalled.{settled_follows}
+use Rattle.yayul.proofs.LinesOfWords.{lines_next}
 
 -- what was told is what is to be told
 pub told_on : {A : Type 0} (result : Result (Unit {0}) A) (before after here there : List Finding) → here ≡ there → OnOk result (after ≡ before ++ here) → OnOk result (after ≡ before ++ there)
@@ -51,15 +53,16 @@ bare_waiting table s label (Ebank operand) = refl
 bare_waiting table s label (Gives content) = refl
 
 -- what is told of a line
-pub line_told : (line last : ℕ) (s w : Survey) (l v : Held) (text : List ℕ) (said : Statement) (faults : LineFaults) (d : Doubt)
+pub line_told : (line last : ℕ) (s w : Survey) (l v : Held) (text : List ℕ) (said : Statement) (faults : LineFaults) (d : Doubt) (taken : Option ℕ)
     → said ≡ statement_on s.layout text → Surveys line s l → Surveys last w v → d ≡ doubt v.lost l.lost l.known text said.operation
     → standing faults.of_text ≡ text_faults l.layout.language line text
     → standing faults.of_layout ≡ (statement_effect line s.layout said.label said.operation).faults
     → faults.of_promise ≡ waiting_kind v.layout.symbols (layout_of l.layout) said.label said.operation
     → standing faults.of_words ≡ word_kinds v.layout.symbols (layout_of l.layout) said.operation
-    → told_of l.layout.language d line text (kinds_of faults) ≡ told_line w line s text
+    → taken ≡ taken_by s.layout said.operation
+    → told_of l.layout.language d line text taken (kinds_of faults) ≡ told_line w line s text
 unfolding line_effect
-line_told line last s w l v text said faults d e here whole is of_text of_layout of_promise of_words =
+line_told line last s w l v text said faults d taken e here whole is of_text of_layout of_promise of_words of_place =
     let layout : standing faults.of_layout ≡ layout_kinds line s.layout text =
     of_layout ∙ ap (λ (x : Statement). (statement_effect line s.layout x.label x.operation).faults) e in
     let words : standing faults.of_words ≡ word_kinds w.layout.symbols s.layout (statement_on s.layout text).operation =
@@ -79,9 +82,11 @@ line_told line last s w l v text said faults d e here whole is of_text of_layout
     ∙ ap (λ lost. doubt w.lost lost l.known text said.operation) here.lost
     ∙ ap (λ known. doubt w.lost s.lost known text said.operation) here.known
     ∙ ap (λ (x : Statement). doubt w.lost s.lost s.known text x.operation) e in
-    ap (λ (t : Layout). told_of t.language d line text (kinds_of faults)) here.agrees.same
-    ∙ ap (λ x. told_of s.layout.language x line text (kinds_of faults)) doubted
-    ∙ ap (told_of s.layout.language (doubt w.lost s.lost s.known text (statement_on s.layout text).operation) line text) kinds
+    let place : taken ≡ taken_by s.layout (statement_on s.layout text).operation = of_place ∙ ap (λ (x : Statement). taken_by s.layout x.operation) e in
+    ap (λ (t : Layout). told_of t.language d line text taken (kinds_of faults)) here.agrees.same
+    ∙ ap (λ x. told_of s.layout.language x line text taken (kinds_of faults)) doubted
+    ∙ ap (λ x. told_of s.layout.language (doubt w.lost s.lost s.known text (statement_on s.layout text).operation) line text x (kinds_of faults)) place
+    ∙ ap (told_of s.layout.language (doubt w.lost s.lost s.known text (statement_on s.layout text).operation) line text (taken_by s.layout (statement_on s.layout text).operation)) kinds
 
 module _ (line : ℕ) (s : Survey) (old new : Held) (text : List ℕ) (said : Statement) (of_text of_layout : List FaultKind)
     (e : said ≡ statement_on s.layout text) (here : Surveys line s old) (text_is : of_text ≡ text_faults old.layout.language line text)
@@ -102,13 +107,14 @@ module _ (line : ℕ) (s : Survey) (old new : Held) (text : List ℕ) (said : St
       ∙ ap (λ ks. known_after s.known text (statement_on s.layout text).operation (is_refused line s.layout text) (list_any displaces ks)) same_layout
 
   -- a refused line does nothing, but that its label is lost
-  pub passed_refused : (some_stands of_text || some_stands of_layout) ≡ true → new.layout ≡ old.layout → new.placing ≡ old.placing → new.lost ≡ noted old.lost said.label
+  pub passed_refused : (some_stands of_text || some_stands of_layout) ≡ true → new.layout ≡ old.layout → new.placing ≡ old.placing → new.lines ≡ old.lines → new.lost ≡ noted old.lost said.label
       → Surveys (line + 1) (passed_line line s text) new
-  passed_refused refused layout placing lost =
+  passed_refused refused layout placing lines lost =
       let is : is_refused line s.layout text ≡ true = sym same_refused ∙ refused in
       record {
         agrees = subst (λ r. Agrees (line + 1) (cond r s.layout (line_effect line s.layout text).after) new.layout new.placing) (sym is)
             (rw (layout, placing) (record { same = here.agrees.same; keeps = next_keeps line s.layout old.placing here.agrees.keeps }));
+        lines = subst (λ r. AreLines new.lines (cond r s.layout (line_effect line s.layout text).after).requests) (sym is) (rw lines here.lines);
         lost = lost ∙ ap (λ names. noted names said.label) here.lost ∙ ap (λ (x : Statement). noted s.lost x.label) e
             ∙ ap (λ r. cond r (noted s.lost (statement_on s.layout text).label) s.lost) (sym is);
         known = known_next;
@@ -116,27 +122,32 @@ module _ (line : ℕ) (s : Survey) (old new : Held) (text : List ℕ) (said : St
 
   -- another does what it says
   pub passed_laid : (some_stands of_text || some_stands of_layout) ≡ false → Agrees (line + 1) (statement_effect line s.layout said.label said.operation).after new.layout new.placing
-      → new.lost ≡ old.lost → Surveys (line + 1) (passed_line line s text) new
+      → new.lines ≡ with_lines line old.layout.location (words_given said.operation) old.lines → new.lost ≡ old.lost → Surveys (line + 1) (passed_line line s text) new
   unfolding line_effect
-  passed_laid laid agrees lost =
+  passed_laid laid agrees lines lost =
       let is : is_refused line s.layout text ≡ false = sym same_refused ∙ laid in
+      let held : AreLines new.lines (statement_effect line s.layout said.label said.operation).after.requests =
+      lines_next line s.layout said.label said.operation old.layout.location old.lines new.lines (ap (λ (t : Layout). t.location) here.agrees.same) here.lines agrees.keeps.holds.within lines in
       record {
         agrees = subst (λ r. Agrees (line + 1) (cond r s.layout (line_effect line s.layout text).after) new.layout new.placing) (sym is)
             (subst (λ (x : Statement). Agrees (line + 1) (statement_effect line s.layout x.label x.operation).after new.layout new.placing) e agrees);
+        lines = subst (λ r. AreLines new.lines (cond r s.layout (line_effect line s.layout text).after).requests) (sym is)
+            (subst (λ (x : Statement). AreLines new.lines (statement_effect line s.layout x.label x.operation).after.requests) e held);
         lost = lost ∙ here.lost ∙ ap (λ r. cond r (noted s.lost (statement_on s.layout text).label) s.lost) (sym is);
         known = known_next;
       }
 
 -- a survey with the values of the names that wait
 pub settled_stands : (line : ℕ) (s : Survey) (old new : Held) → Surveys line s old → layout_of new.layout ≡ record (layout_of old.layout) { symbols = settled (map promise_of old.layout.promises.items) old.layout.symbols }
-    → new.placing ≡ old.placing → new.lost ≡ old.lost → new.known ≡ old.known → Surveys line (settled_survey s) new
-settled_stands line s old new here layout placing lost known =
+    → new.placing ≡ old.placing → new.lines ≡ old.lines → new.lost ≡ old.lost → new.known ≡ old.known → Surveys line (settled_survey s) new
+settled_stands line s old new here layout placing lines lost known =
     let more = settled_follows s.layout.promises s.layout.symbols in
     record {
       agrees = record {
         same = layout ∙ ap (λ (t : Layout). record t { symbols = settled t.promises t.symbols }) here.agrees.same;
         keeps = rw placing (subst (λ (table : List (List ℕ × Value)). Keeps line (record s.layout { symbols = table }) old.placing) (sym more.1) (named_keeps line s.layout old.placing more.0 here.agrees.keeps));
       };
+      lines = rw lines here.lines;
       lost = lost ∙ here.lost;
       known = known ∙ here.known;
     }

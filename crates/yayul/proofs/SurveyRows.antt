@@ -1,5 +1,5 @@
 -- Small sources, told by the definitions alone: where each fault stands, and what is left out since it follows from another.
-use Rattle.std.proofs.Common.{◌≡◌, ℕ, ◌+◌, List, [], ◌∷◌, ◌++◌, replicate, refl, map}
+use Rattle.std.proofs.Common.{◌≡◌, ℕ, ◌+◌, List, [], ◌∷◌, ◌++◌, replicate, Option, None, Some, refl, map}
 use Rattle.std.specs.Prelude.{codes, ◌==◌, if◌then◌else◌}
 use Rattle.agc_text.specs.Fields.{runs}
 use Rattle.agc_text.specs.Lines.{lines}
@@ -58,3 +58,33 @@ flight_rows =
 each_flight : map {B = List (ℕ × ℕ × ℕ × ℕ)} (λ r. map row (told Flight (source r.0))) flight_rows ≡ map {B = List (ℕ × ℕ × ℕ × ℕ)} (λ r. r.1) flight_rows
 unfolding told span_in span_at runs operators flight_operators statement_of uncounted_statement line_effect request_words request_faults lines window fb_of sup_of
 each_flight = refl
+
+-- of places that are taken, the line and that whose word stands there: the first word's, else the second's; no refused line has a word
+abbrev taken_row : Finding → ℕ × ℕ × Option ℕ
+taken_row f = (f.line, f.number, f.taken_by)
+
+abbrev taken_rows : List (List ℕ × List (ℕ × ℕ × Option ℕ))
+taken_rows =
+    (codes " OCT 1; SETLOC 4000; OCT 2", (3, 21, Some 1) ∷ [])
+    ∷ (codes " SETLOC 4001; OCT 1; SETLOC 4000; 2CADR 4000", (4, 21, Some 2) ∷ [])
+    ∷ (codes " 2CADR 4000; SETLOC 4001; OCT 1", (3, 21, Some 1) ∷ [])
+    ∷ (codes " OCT 1; OCT 2; SETLOC 4000; 2CADR 4000", (4, 21, Some 1) ∷ [])
+    ∷ (codes " OCT 1; SETLOC 4000; OCT 2; SETLOC 4000; OCT 3", (3, 21, Some 1) ∷ (5, 21, Some 1) ∷ [])
+    ∷ (codes " OCT 8; OCT 1; SETLOC 4000; OCT 2", (1, 16, None) ∷ (4, 21, Some 2) ∷ [])
+    ∷ (codes " SETLOC 4024; TC 0; TC 0; TC 0; TC 0; TC 0; SETLOC 4030; TC 0", (8, 21, Some 6) ∷ [])
+    ∷ (codes " BANK 5;X OCT 1; SETLOC 4000; OCT 2; SETLOC X; OCT 3", (6, 21, Some 2) ∷ [])
+    ∷ []
+
+each_taken : map {B = List (ℕ × ℕ × Option ℕ)} (λ r. map taken_row (told Standard (source r.0))) taken_rows ≡ map {B = List (ℕ × ℕ × Option ℕ)} (λ r. r.1) taken_rows
+unfolding told span_in span_at runs operators statement_of line_effect request_words request_faults lines window fb_of sup_of
+each_taken = refl
+
+-- and in the language of flight programs, where 2DEC gives two words
+abbrev flight_taken : List (List ℕ × List (ℕ × ℕ × Option ℕ))
+flight_taken =
+    (codes "+1 OCT 1; 2DEC .5; SETLOC 4002; OCT 1; SETLOC 4000; 2OCT 0000000001", (4, 21, Some 2) ∷ (6, 21, Some 1) ∷ [])
+    ∷ []
+
+each_flight_taken : map {B = List (ℕ × ℕ × Option ℕ)} (λ r. map taken_row (told Flight (source r.0))) flight_taken ≡ map {B = List (ℕ × ℕ × Option ℕ)} (λ r. r.1) flight_taken
+unfolding told span_in span_at runs operators flight_operators statement_of uncounted_statement line_effect request_words request_faults lines window fb_of sup_of
+each_flight_taken = refl

@@ -1,11 +1,11 @@
 -- Each fault of a source is told once.
-use Rattle.std.proofs.Common.{◌≡◌, ℕ, ◌+◌, ◌≤◌, ◌==◌, Bool, true, false, ◌&&◌, ◌||◌, not, cond, List, [], ◌∷◌, ◌++◌, map, refl, ap, ◌∙◌, arith}
+use Rattle.std.proofs.Common.{◌≡◌, ℕ, ◌+◌, ◌≤◌, ◌==◌, Bool, true, false, ◌&&◌, ◌||◌, not, cond, List, [], ◌∷◌, ◌++◌, Option, map, refl, ap, ◌∙◌, arith}
 use Rattle.std.specs.List.{list_any, filter}
 use Rattle.std.proofs.lemmas.Bool.{and_left, and_right, ne_eqb}
 use Rattle.std.proofs.lemmas.List.Folds.{list_any-append}
 use Rattle.yayul.specs.Layout.{statement_on, fault_number}
 use Rattle.yayul.specs.Laws.{same_fault, StandEachOnce, FindingsStandOnce}
-use Rattle.yayul.specs.Survey.{Survey, unmarked, doubt, follows, kinds_in_order, is_one_of, finding, line_kinds, passed_line, passed_lines, settled_survey, told_line, told_lines, looked_at, told}
+use Rattle.yayul.specs.Survey.{Survey, unmarked, doubt, follows, kinds_in_order, is_one_of, finding, taken_by, line_kinds, passed_line, passed_lines, settled_survey, told_line, told_lines, looked_at, told}
 use Rattle.yayul.specs.Language.{Language, FaultKind}
 use Rattle.yayul.specs.declared.finding.Finding.{Finding}
 use Rattle.yayul.proofs.TakenPlaces.{or-parts}
@@ -25,31 +25,31 @@ abbrev StandFrom : ℕ → List Finding → Type 0
 StandFrom line [] = Unit {0}
 StandFrom line (f ∷ fs) = (line ≤ f.line) × StandFrom line fs
 
-none_same : (test : FaultKind → Bool) (language : Language) (line : ℕ) (text : List ℕ) (k : FaultKind) (kinds : List FaultKind) → is_one_of kinds k ≡ false
-    → list_any (same_fault (finding language line text k)) (map (finding language line text) (filter test kinds)) ≡ false
-none_same test language line text k [] e = refl
-none_same test language line text k (j ∷ kinds) e =
+none_same : (test : FaultKind → Bool) (language : Language) (line : ℕ) (text : List ℕ) (taken : Option ℕ) (k : FaultKind) (kinds : List FaultKind) → is_one_of kinds k ≡ false
+    → list_any (same_fault (finding language line text taken k)) (map (finding language line text taken) (filter test kinds)) ≡ false
+none_same test language line text taken k [] e = refl
+none_same test language line text taken k (j ∷ kinds) e =
     by_test (or-parts (fault_number j == fault_number k) (is_one_of kinds k) e).0
-    (none_same test language line text k kinds (or-parts (fault_number j == fault_number k) (is_one_of kinds k) e).1) (test j)
+    (none_same test language line text taken k kinds (or-parts (fault_number j == fault_number k) (is_one_of kinds k) e).1) (test j)
   where
-    by_test : (fault_number j == fault_number k) ≡ false → list_any (same_fault (finding language line text k)) (map (finding language line text) (filter test kinds)) ≡ false
-        → (b : Bool) → list_any (same_fault (finding language line text k)) (map (finding language line text) (cond b (j ∷ filter test kinds) (filter test kinds))) ≡ false
+    by_test : (fault_number j == fault_number k) ≡ false → list_any (same_fault (finding language line text taken k)) (map (finding language line text taken) (filter test kinds)) ≡ false
+        → (b : Bool) → list_any (same_fault (finding language line text taken k)) (map (finding language line text taken) (cond b (j ∷ filter test kinds) (filter test kinds))) ≡ false
     by_test other later false = later
     by_test other later true =
-        ap (λ b. b || list_any (same_fault (finding language line text k)) (map (finding language line text) (filter test kinds))) (and_right (line == line) (fault_number j == fault_number k) other) ∙ later
+        ap (λ b. b || list_any (same_fault (finding language line text taken k)) (map (finding language line text taken) (filter test kinds))) (and_right (line == line) (fault_number j == fault_number k) other) ∙ later
 
-kinds_once : (test : FaultKind → Bool) (language : Language) (line : ℕ) (text : List ℕ) (kinds : List FaultKind) → Differ kinds → StandEachOnce (map (finding language line text) (filter test kinds))
-kinds_once test language line text [] differ = tt
-kinds_once test language line text (k ∷ kinds) differ = by_test (none_same test language line text k kinds differ.0) (kinds_once test language line text kinds differ.1) (test k)
+kinds_once : (test : FaultKind → Bool) (language : Language) (line : ℕ) (text : List ℕ) (taken : Option ℕ) (kinds : List FaultKind) → Differ kinds → StandEachOnce (map (finding language line text taken) (filter test kinds))
+kinds_once test language line text taken [] differ = tt
+kinds_once test language line text taken (k ∷ kinds) differ = by_test (none_same test language line text taken k kinds differ.0) (kinds_once test language line text taken kinds differ.1) (test k)
   where
-    by_test : list_any (same_fault (finding language line text k)) (map (finding language line text) (filter test kinds)) ≡ false → StandEachOnce (map (finding language line text) (filter test kinds))
-        → (b : Bool) → StandEachOnce (map (finding language line text) (cond b (k ∷ filter test kinds) (filter test kinds)))
+    by_test : list_any (same_fault (finding language line text taken k)) (map (finding language line text taken) (filter test kinds)) ≡ false → StandEachOnce (map (finding language line text taken) (filter test kinds))
+        → (b : Bool) → StandEachOnce (map (finding language line text taken) (cond b (k ∷ filter test kinds) (filter test kinds)))
     by_test other later true = (other, later)
     by_test other later false = later
 
-on_line : (language : Language) (line : ℕ) (text : List ℕ) (kinds : List FaultKind) → StandOn line (map (finding language line text) kinds)
-on_line language line text [] = tt
-on_line language line text (k ∷ kinds) = (refl, on_line language line text kinds)
+on_line : (language : Language) (line : ℕ) (text : List ℕ) (taken : Option ℕ) (kinds : List FaultKind) → StandOn line (map (finding language line text taken) kinds)
+on_line language line text taken [] = tt
+on_line language line text taken (k ∷ kinds) = (refl, on_line language line text taken kinds)
 
 none_later : (f : Finding) (line : ℕ) (later : List Finding) → f.line ≡ line → StandFrom (line + 1) later → list_any (same_fault f) later ≡ false
 none_later f line [] here from = refl
@@ -80,7 +80,7 @@ lines_from : (texts : List (List ℕ)) (whole : Survey) (line : ℕ) (s : Survey
 lines_from [] whole line s = tt
 lines_from (text ∷ texts) whole line s =
     from_both line (told_line whole line s text) (told_lines whole (line + 1) (passed_line line s text) texts)
-    (from_on line line (told_line whole line s text) (omega arith) (on_line s.layout.language line text _))
+    (from_on line line (told_line whole line s text) (omega arith) (on_line s.layout.language line text (taken_by s.layout (statement_on s.layout text).operation) _))
     (from_less line (line + 1) (told_lines whole (line + 1) (passed_line line s text) texts) (omega arith) (lines_from texts whole (line + 1) (passed_line line s text)))
 
 kinds_differ : Differ kinds_in_order
@@ -91,9 +91,10 @@ lines_once [] whole line s = tt
 lines_once (text ∷ texts) whole line s =
     let test : FaultKind → Bool =
     λ kind. is_one_of (line_kinds whole line s text) kind && not (follows (doubt whole.lost s.lost s.known text (statement_on s.layout text).operation) kind) in
+    let taken : Option ℕ = taken_by s.layout (statement_on s.layout text).operation in
     joined_once line (told_line whole line s text) (told_lines whole (line + 1) (passed_line line s text) texts)
-    (on_line s.layout.language line text (filter test kinds_in_order)) (lines_from texts whole (line + 1) (passed_line line s text))
-    (kinds_once test s.layout.language line text kinds_in_order kinds_differ) (lines_once texts whole (line + 1) (passed_line line s text))
+    (on_line s.layout.language line text taken (filter test kinds_in_order)) (lines_from texts whole (line + 1) (passed_line line s text))
+    (kinds_once test s.layout.language line text taken kinds_in_order kinds_differ) (lines_once texts whole (line + 1) (passed_line line s text))
 
 pub findings_stand_once : (language : Language) (source : List ℕ) → FindingsStandOnce language source
 unfolding told

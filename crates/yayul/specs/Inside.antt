@@ -4,5 +4,6 @@ pub mod Representation
 pub mod Sound
 pub mod Answers
 pub mod Waiting
+pub mod WordLines
 pub mod Surveys
 pub mod Names

@@ -1,9 +1,9 @@
 -- Decimal constants of flight programs: with a point and powers of ten and of two, in one word or two.
-use Rattle.std.specs.Prelude.{ℕ, ◌+◌, ◌*◌, ◌/◌, ◌%◌, ◌^◌, ◌==◌, ◌&&◌, ◌||◌, Bool, true, false, nat_le, nat_lt, List, [], ◌∷◌, length, drop, Option, None, Some, is_some, option_map, option_and_then, if◌then◌else◌}
+use Rattle.std.specs.Prelude.{ℕ, ◌+◌, ◌*◌, ◌/◌, ◌%◌, ◌^◌, ◌==◌, ◌||◌, Bool, true, false, nat_le, nat_lt, List, [], ◌∷◌, length, drop, Option, None, Some, is_some, option_map, option_and_then, if◌then◌else◌}
 use Rattle.std.specs.Option.{option_or}
 use Rattle.words.specs.Numbers.{neg}
 use Rattle.agc_text.specs.Digits.{number_of}
-use Rattle.yayul.specs.Forms.{first_is, before_point, greatest_magnitude, alone, decimal_in, with_form}
+use Rattle.yayul.specs.Forms.{first_is, before_point, greatest_magnitude, decimal_in, with_form}
 use Rattle.yayul.specs.Language.{Constant, Constants, Content, One, Precision, Two}
 use Rattle.yayul.specs.declared.scaled.Power.{Power}
 use Rattle.yayul.specs.declared.scaled.Quantity.{Quantity}

@@ -1,17 +1,17 @@
 -- All faults of a source: what each line is refused for, where on the line, and what is left out since it follows from an earlier fault.
-use Rattle.std.specs.Prelude.{ℕ, ◌+◌, ◌-◌, ◌==◌, ◌&&◌, ◌||◌, not, nat_le, Bool, true, false, List, [], ◌∷◌, ◌++◌, length, map, filter, take, Option, None, Some, is_some, slice_get, if◌then◌else◌}
-use Rattle.std.specs.List.{list_any, list_all, position_or_len}
-use Rattle.std.specs.Option.{option_map_or, option_or}
+use Rattle.std.specs.Prelude.{ℕ, ◌+◌, ◌-◌, ◌==◌, ◌&&◌, ◌||◌, not, nat_le, nat_lt, Bool, true, false, List, [], ◌∷◌, ◌++◌, length, map, filter, take, Option, None, Some, is_some, slice_get, if◌then◌else◌}
+use Rattle.std.specs.List.{find, list_any, list_all, position_or_len}
+use Rattle.std.specs.Option.{option_map, option_map_or, option_or}
 use Rattle.agc_text.specs.Bytes.{line_length, is_text_byte}
 use Rattle.agc_text.specs.Fields.{Piece, fields, label_of, others_of}
 use Rattle.agc_text.specs.Lines.{lines}
 use Rattle.agc_text.specs.Tables.{value_in}
 use Rattle.yayul.specs.Flight.{most_lines, measured, uncounted}
-use Rattle.yayul.specs.Layout.{Layout, start, word_place, standing, text_faults, fault_number, statement_on, line_effect, extends}
+use Rattle.yayul.specs.Layout.{Request, Layout, start, width, stands_at, word_place, after_words, standing, text_faults, fault_number, statement_on, line_effect, extends}
 use Rattle.yayul.specs.Later.{waiting_kind, with_values}
 use Rattle.yayul.specs.Words.{content_words, extracode_of, extracode_fault}
 use Rattle.std.specs.Result.{result_err}
-use Rattle.yayul.specs.Language.{Addressed, BadBank, BadLabel, BadOperand, Bank, BankFull, BankWord, CodeInErasable, Complemented, Content, Ebank, Equals, Erase, FarAddress, FarComplement, FaultKind, Fixed, Flight, Gives, Label, Language, LongLine, Malformed, Missing, Named, NeedsExtend, NotAscii, NoMemory, NotExtracode, Num, Operation, OutOfRange, PlaceTaken, Setloc, Standard, Term, TooManyLines, TwiceDefined, Undefined, Unknown, UnknownOperator, UsedTooEarly, Value, WrongKindOfAddress}
+use Rattle.yayul.specs.Language.{Addressed, BadBank, BadLabel, BadOperand, Bank, BankFull, BankWord, CodeInErasable, Complemented, Content, Ebank, Equals, Erase, FarAddress, FarComplement, FaultKind, Fixed, Flight, Gives, Label, Language, Location, LongLine, Malformed, Missing, Named, NeedsExtend, NotAscii, NoMemory, NotExtracode, Num, Operation, OutOfRange, PlaceTaken, Setloc, Standard, Term, TooManyLines, TwiceDefined, Undefined, Unknown, UnknownOperator, UsedTooEarly, Value, WrongKindOfAddress}
 use Rattle.yayul.specs.declared.finding.Span.{Span}
 use Rattle.yayul.specs.declared.finding.Finding.{Finding}
 use Rattle.yayul.specs.declared.doubt.Known.{Known}
@@ -162,6 +162,23 @@ abbrev pub word_kinds : List (List ℕ × Value) → Layout → Operation → Li
 word_kinds table s (Gives (Some content)) = content_kinds table s content
 word_kinds table s _ = []
 
+-- the line of the first of some requests that stands at a place
+abbrev pub word_line : List Request → ℕ → ℕ → Option ℕ
+word_line requests bank offset = option_map (λ r. r.line) (find (stands_at bank offset) requests)
+
+-- the line whose word stands at a location already
+abbrev pub line_at : Layout → Location → Option ℕ
+line_at s here = option_map_or (λ place. word_line s.requests place.0 place.1) (word_place here) None
+
+-- the line whose word stands already where the first of so many would, else the second where there are two
+abbrev pub taken_from : Layout → ℕ → Option ℕ
+taken_from s count = option_or (line_at s s.location) (if nat_lt 1 count then line_at s (after_words 1 s.location) else None)
+
+-- the line whose word stands already where those of another would
+abbrev pub taken_by : Layout → Operation → Option ℕ
+taken_by s (Gives (Some content)) = taken_from s (width content)
+taken_by s _ = None
+
 -- a term is one of some symbols
 abbrev pub is_among : List (List ℕ × Value) → Term → Bool
 is_among table (Term.Named name) = stands_in table name
@@ -232,13 +249,18 @@ kinds_in_order =
 abbrev pub is_one_of : List FaultKind → FaultKind → Bool
 is_one_of kinds kind = list_any (λ other. fault_number other == fault_number kind) kinds
 
--- a fault with its place
-abbrev pub finding : Language → ℕ → List ℕ → FaultKind → Finding
-finding language line text kind = record { line = line; number = fault_number kind; span = span_in language text kind }
+-- the line that a fault names: of a place that is taken that whose word stands there
+abbrev pub named_line : Option ℕ → FaultKind → Option ℕ
+named_line taken PlaceTaken = taken
+named_line taken _ = None
+
+-- a fault with its place, on a line whose place another may have taken
+abbrev pub finding : Language → ℕ → List ℕ → Option ℕ → FaultKind → Finding
+finding language line text taken kind = record { line = line; number = fault_number kind; span = span_in language text kind; taken_by = named_line taken kind }
 
 -- those of some faults that do not follow from others, each once
-abbrev pub told_of : Language → Doubt → ℕ → List ℕ → List FaultKind → List Finding
-told_of language d line text kinds = map (finding language line text) (filter (λ kind. is_one_of kinds kind && not (follows d kind)) kinds_in_order)
+abbrev pub told_of : Language → Doubt → ℕ → List ℕ → Option ℕ → List FaultKind → List Finding
+told_of language d line text taken kinds = map (finding language line text taken) (filter (λ kind. is_one_of kinds kind && not (follows d kind)) kinds_in_order)
 
 -- the faults of a line where a survey stands: of its bytes, its length and its number, of its fields, of a name that waits, and of its words
 abbrev pub line_kinds : Survey → ℕ → Survey → List ℕ → List FaultKind
@@ -249,7 +271,9 @@ line_kinds whole line s text =
 
 -- what is told of a line, where this stands before it, and this after the last line
 abbrev pub told_line : Survey → ℕ → Survey → List ℕ → List Finding
-told_line whole line s text = told_of s.layout.language (doubt whole.lost s.lost s.known text (statement_on s.layout text).operation) line text (line_kinds whole line s text)
+told_line whole line s text =
+    told_of s.layout.language (doubt whole.lost s.lost s.known text (statement_on s.layout text).operation) line text (taken_by s.layout (statement_on s.layout text).operation)
+    (line_kinds whole line s text)
 
 -- what is told of some lines
 abbrev pub told_lines : Survey → ℕ → Survey → List (List ℕ) → List Finding

@@ -32,6 +32,8 @@ pub struct Finding {
     pub number: u8,
     /// The bytes of the line that are to blame.
     pub span: Span,
+    /// The line whose word stands at the place already, of a place that is taken alone.
+    pub taken_by: Option<u32>,
 }
 
 impl Span {

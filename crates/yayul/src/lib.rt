@@ -36,6 +36,7 @@ mod statement;
 mod survey;
 mod values;
 mod word;
+mod word_lines;
 
 pub use assembled::Program;
 pub use assembly::assemble;

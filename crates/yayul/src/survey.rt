@@ -6,7 +6,7 @@ ghost use Rattle.std.specs.Option.{option_map_or};
 ghost use Rattle.yayul.specs.Layout.{standing, fault_number, statement_on};
 ghost use Rattle.yayul.specs.Inside.Answers.{layout_of};
 ghost use Rattle.yayul.specs.Program.{no_memory};
-ghost use Rattle.yayul.specs.Survey.{Survey as Surveyed, unmarked, noted, displaces, some_stands, passed_line, passed_lines, settled_survey, is_one_of, follows, finding, told_of, told_line, told_lines, looked_at, told};
+ghost use Rattle.yayul.specs.Survey.{Survey as Surveyed, unmarked, noted, displaces, some_stands, passed_line, passed_lines, settled_survey, is_one_of, follows, named_line, finding, taken_by, told_of, told_line, told_lines, looked_at, told};
 ghost use Rattle.yayul.specs.Inside.Surveys.{Surveys, kinds_of};
 
 use crate::assembly::NO_MEMORY;
@@ -15,10 +15,11 @@ use crate::doubt::{Doubt, Known};
 use crate::faults::{Fault, FaultKind, least_fault};
 use crate::finding::{Finding, span_in};
 use crate::flight::most_lines;
-use crate::language::{Label, Language, Statement};
+use crate::language::{Label, Language, Operation, Statement};
 use crate::later::settle;
 use crate::layout::{Layout, Placing};
 use crate::line::text_conditions;
+use crate::word_lines::WordLines;
 use agc_text::next_line;
 use std::alloc::{AllocError, Global};
 use symbols::{Symbols, Value};
@@ -29,6 +30,8 @@ use words::Word;
 pub(crate) struct Survey {
     layout: Layout,
     placing: Placing,
+    /// The lines whose words stand.
+    lines: WordLines,
     /// The labels of refused lines.
     lost: Symbols,
     known: Known,
@@ -42,9 +45,13 @@ impl Survey {
         let Ok(placing) = Placing::start(alloc) else {
             return Err(NO_MEMORY);
         };
+        let Ok(lines) = WordLines::nothing(alloc) else {
+            return Err(NO_MEMORY);
+        };
         Ok(Survey {
             layout: Layout::start(alloc, language),
             placing,
+            lines,
             lost: Symbols::new(alloc),
             known: Known {
                 location: true,
@@ -69,6 +76,7 @@ impl Survey {
         if refused {
             return self.lose(label);
         }
+        self.lines.hold(line, &self.layout, operation.width());
         match self
             .layout
             .operation(&mut self.placing, line, label, operation)
@@ -94,6 +102,7 @@ impl Survey {
         ensures lost { OnOk result (self.new.lost ≡ noted self.old.lost label) }
         ensures layout { self.new.layout ≡ self.old.layout }
         ensures placing { self.new.placing ≡ self.old.placing }
+        ensures lines { self.new.lines ≡ self.old.lines }
         ensures known { self.new.known ≡ self.old.known }
         ensures err { IfErr result (λ fault. fault ≡ no_memory) }
     {
@@ -236,9 +245,20 @@ struct Telling<'a> {
     line: u32,
     text: &'a [u8],
     doubt: Doubt,
+    taken_by: Option<u32>,
 }
 
 impl Survey {
+    // The line whose word stands already where those of a line would.
+    fn taken_by(&self, operation: &Operation) -> Option<u32>
+        ensures { (line : ℕ) (s : Surveyed) → Surveys line s self.now → result ≡ taken_by s.layout operation.now }
+    {
+        match operation {
+            Operation::Gives(Some(content)) => self.lines.from(&self.layout, content.width()),
+            _ => None,
+        }
+    }
+
     // Appends what is told of a line that says this, where `whole` stands after the last line.
     fn tell(
         &self,
@@ -257,6 +277,7 @@ impl Survey {
             line,
             text,
             doubt: Doubt::of(&whole.lost, &self.lost, self.known, text, operation),
+            taken_by: self.taken_by(operation),
         };
         let faults = LineFaults {
             of_text: text_conditions(self.layout.language, line, text),
@@ -275,7 +296,7 @@ impl Survey {
 impl Telling<'_> {
     // Appends what is told of the faults of the line.
     fn tell(self, faults: &LineFaults, told: &mut Vec<Finding>) -> Result<(), AllocError>
-        ensures { OnOk result (told.new.items ≡ told.old.items ++ told_of self.entry.language self.entry.doubt self.entry.line self.entry.text.now (kinds_of faults.now)) }
+        ensures { OnOk result (told.new.items ≡ told.old.items ++ told_of self.entry.language self.entry.doubt self.entry.line self.entry.text.now self.entry.taken_by (kinds_of faults.now)) }
     {
         self.tell_each(faults, &KINDS_IN_ORDER, told)
     }
@@ -287,7 +308,7 @@ impl Telling<'_> {
         kinds: &[FaultKind],
         told: &mut Vec<Finding>,
     ) -> Result<(), AllocError>
-        ensures { OnOk result (told.new.items ≡ told.old.items ++ map (finding self.entry.language self.entry.line self.entry.text.now) (filter (λ kind. is_one_of (kinds_of faults.now) kind && not (follows self.entry.doubt kind)) kinds.now)) }
+        ensures { OnOk result (told.new.items ≡ told.old.items ++ map (finding self.entry.language self.entry.line self.entry.text.now self.entry.taken_by) (filter (λ kind. is_one_of (kinds_of faults.now) kind && not (follows self.entry.doubt kind)) kinds.now)) }
     {
         for kind in kinds {
             if faults.has(*kind) && !self.doubt.follows(*kind) {
@@ -298,12 +319,23 @@ impl Telling<'_> {
     }
 
     fn finding(self, kind: FaultKind) -> Finding
-        ensures { result ≡ finding self.entry.language self.entry.line self.entry.text.now kind }
+        ensures { result ≡ finding self.entry.language self.entry.line self.entry.text.now self.entry.taken_by kind }
     {
         Finding {
             line: self.line,
             number: kind.number(),
             span: span_in(self.language, self.text, kind),
+            taken_by: self.named_line(kind),
+        }
+    }
+
+    // The line that a fault names.
+    fn named_line(self, kind: FaultKind) -> Option<u32>
+        ensures { result ≡ named_line self.entry.taken_by kind }
+    {
+        match kind {
+            FaultKind::PlaceTaken => self.taken_by,
+            _ => None,
         }
     }
 }

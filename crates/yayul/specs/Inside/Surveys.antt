@@ -4,6 +4,7 @@ use Rattle.yayul.specs.Layout.{standing}
 use Rattle.yayul.specs.Language.{FaultKind}
 use Rattle.yayul.specs.Survey.{Survey}
 use Rattle.yayul.specs.Inside.Answers.{Agrees}
+use Rattle.yayul.specs.Inside.WordLines.{AreLines}
 use Rattle.yayul.specs.declared.survey.LineFaults.{LineFaults}
 use Rattle.yayul.specs.declared.survey.Survey.{Survey as Held}
 
@@ -14,5 +15,6 @@ kinds_of f = standing f.of_text ++ standing f.of_layout ++ standing (f.of_promis
 -- what stands before a line agrees with a survey
 pub record Surveys (line : ℕ) (s : Survey) (v : Held) : Type 0 where
   pub agrees : Agrees line s.layout v.layout v.placing
+  pub lines : AreLines v.lines s.layout.requests
   pub lost : v.lost ≡ s.lost
   pub known : v.known ≡ s.known

@@ -1,4 +1,4 @@
-use Rattle.std.proofs.Common.{◌∙◌, ◌+◌, ◌++◌, List, ap, arith, drop, get_or, map, take}
+use Rattle.std.proofs.Common.{◌∙◌, ◌+◌, ◌++◌, List, None, ap, arith, drop, get_or, map, take}
 use Rattle.std.specs.Prelude.{flat_map}
 use Rattle.std.proofs.lemmas.List.{drop_more}
 use Rattle.yayul.specs.declared.finding.Finding.{Finding}
@@ -7,7 +7,7 @@ use Rattle.faults.proofs.Merging.{merged_step}
 use Rattle.faults.proofs.findings.push_merged.Goals as goal
 
 abbrev nothing : Finding
-nothing = record { line = 0; number = 0; span = record { start = 0; width = 0 } }
+nothing = record { line = 0; number = 0; span = record { start = 0; width = 0 }; taken_by = None }
 
 pub loop-fault-preserved : goal.loop-fault-preserved
 loop-fault-preserved c =
