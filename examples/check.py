@@ -198,9 +198,9 @@ def check_trace_of_inputs(room):
         b"3         6         02,4002  50100  INDEX X             -\n",
         b"4         8         02,4003  34006  CA 4007 -1          A=000007\n",
         b"5         8         -        INPUT  CHAN 015 00021 ASKS KEYRUPT1   CH015=00021\n",
-        b"6         9         -        INPUT  TIME6 DINC ASKS T6RUPT   0031=00000\n",
+        b"6         9         -        INPUT  TIME6 DINC ASKS T6RUPT   E0,0031=00000\n",
         b"7         9         -        INPUT  RUPT 10 ASKS RUPT10   -\n",
-        b"8         10        -        INPUT  CDUX PCDU           0032=00001\n",
+        b"8         10        -        INPUT  CDUX PCDU           E0,0032=00001\n",
     ]
     compare("a trace of inputs", agcws("trace", source, feed, "8"), 0, b"".join(lines))
 
@@ -797,6 +797,8 @@ def check_command_line():
         compare(f"agcws help for {name}", agcws("help", *([] if name == "agcws" else [name])), *got)
     compare("a subcommand that is none", agcws("fly"), 2, b"", read(f"{EXAMPLES}/help/unknown_subcommand.txt"))
     compare("a missing argument", agcws("run", "five.agc", "empty.feed"), 2, b"", read(f"{EXAMPLES}/help/missing_argument.txt"))
+    compare("a missing --image", agcws("run", "--rope", "1", "five.rope", "empty.feed", "100"), 2, b"", read(f"{EXAMPLES}/help/missing_image.txt"))
+    told("a session without --image", agcws("debug", "--symbols", "five.lst", "five.rope", "empty.feed")[2].endswith(read(f"{EXAMPLES}/help/missing_image.txt").split(b"\n\n")[-1]))
     compare("a missing feed", agcws("run", "five.agc", "100"), 2, b"", read(f"{EXAMPLES}/help/missing_feed.txt"))
     compare("a session without a feed", agcws("debug", "five.agc"), 2, b"", read(f"{EXAMPLES}/help/missing_feed_of_session.txt"))
     told("a trace without a feed", agcws("trace", "five.agc", "100")[2].endswith(read(f"{EXAMPLES}/help/missing_feed.txt").split(b"\n\n")[-1]))

@@ -313,14 +313,19 @@ def files_without_memory(refusing, source, feed, old, made):
 E6, E7 = b"agcws: E6\n", b"agcws: E7\n"
 
 
-def unread(path):
-    """What `check` says of a file that cannot be read."""
-    return f"{path}: error E6: a file could not be opened or read\n".encode()
+# What is said of a file that is refused, where it is named.
+MEANINGS = {
+    b"E3": b"the image ends before its 73,728 bytes",
+    b"E4": b"bytes stand after the 73,728 of the image",
+    b"E5": b"the lowest bit of two bytes of the image is wrong: in version 1 it is 1, in version 2 they have an even number of one bits",
+    b"E6": b"a file could not be opened or read",
+    b"E34": b"a source, a feed or a table of names has more than 8,388,608 bytes",
+}
 
 
-def too_long(path):
-    """What check says of a file that has too many bytes."""
-    return f"{path}: error E34: a source, a feed or a table of names has more than 8,388,608 bytes\n".encode()
+def refused(words, path, error):
+    """What a call says of a file that is refused: `check` and `compare` name it."""
+    return b"%s: error %s: %s\n" % (path.encode(), error, MEANINGS[error]) if words[0] in ("check", "compare") else b"agcws: %s\n" % error
 
 
 def name_of(words):
@@ -357,7 +362,7 @@ def devices(room):
         reading += [("trace", "--flight", bad, EMPTY, "1"), ("trace", "--image", bad, EMPTY, "1"), ("cover", "--flight", bad, EMPTY, "1"), ("cover", "--image", bad, EMPTY, "1"), ("check", "--flight", bad), ("compare", "--only", bad, image), ("compare", "--only", FIVE, bad), ("words", "--source", bad), ("words", "--where", bad), ("parity", "--form=hardware", bad)]
         for words in reading:
             answer = agcws(*words)
-            told(f"devices: {name_of(words)}", answer == (3, b"", unread(bad) if words[0] == "check" else E6), f"{answer}")
+            told(f"devices: {name_of(words)}", answer == (3, b"", refused(words, bad, b"E6")), f"{answer}")
     told("devices: a file that cannot be read leaves no image", not os.path.exists(made))
     inputs_that_fail(folder, sessions)
     no_streams(made)
@@ -445,8 +450,7 @@ def endless_inputs(made):
         (("debug", "--image", zeros, EMPTY), b"E5"),
     ):
         answer = agcws(*words)
-        wanted = too_long(zeros) if words[0] == "check" else b"agcws: " + error + b"\n"
-        told(f"devices: {name_of(words)}, which has no end", answer == (1, b"", wanted) and not os.path.exists(made), f"{answer}")
+        told(f"devices: {name_of(words)}, which has no end", answer == (1, b"", refused(words, zeros, error)) and not os.path.exists(made), f"{answer}")
     with open(zeros, "rb") as endless:
         ran = subprocess.run([PROGRAM, "debug", FIVE, EMPTY], stdin=endless, capture_output=True, timeout=60)
     told("devices: commands without an end", (ran.returncode, ran.stdout, ran.stderr) == (0, b"E51 LONG\n", b"agcws: commands end after 16777216 bytes\n"), f"{ran.returncode} {ran.stdout[-200:]} {ran.stderr}")
@@ -471,7 +475,7 @@ def few_of_the_system(writing):
         if len([it for it in words if "/" in it]) > 1:
             # three are the standard streams, and three stand in for those of them that may be closed
             ran = limited(words, resource.RLIMIT_NOFILE, 7)
-            wanted = E7 if words[0] == "asm" else unread(EMPTY) if words[0] == "check" else E6
+            wanted = E7 if words[0] == "asm" else refused(words, words[-1] if words[0] == "compare" else EMPTY, b"E6")
             told(f"devices: {name_of(words)}, with one file to be had", ran == (3, b"", wanted), f"{ran}")
 
 
@@ -495,8 +499,8 @@ def without_rights(room, image):
         (("trace", locked, feed, "1"), E6),
         (("cover", locked, feed, "1"), E6),
         (("run", "--notes", locked, feed, "1"), E6),
-        (("check", locked), unread(locked)),
-        (("check", feed, locked), unread(locked)),
+        (("check", locked), E6),
+        (("check", feed, locked), E6),
         (("parity", locked), E6),
         (("compare", "--only", locked, image), E6),
         (("words", "--symbols", locked, "--rope=1", image), E6),
@@ -509,7 +513,8 @@ def without_rights(room, image):
         (("upgrade", image, locked), E7),
     ):
         ran = subprocess.run([program, *words], stdin=subprocess.DEVNULL, capture_output=True, **who)
-        told(f"devices: {name_of(words)}, without rights", (ran.returncode, ran.stdout, ran.stderr) == (3, b"", error), f"{ran}")
+        wanted = refused(words, locked, b"E6") if error == E6 else error
+        told(f"devices: {name_of(words)}, without rights", (ran.returncode, ran.stdout, ran.stderr) == (3, b"", wanted), f"{ran}")
 
 
 # Sizes
@@ -521,7 +526,7 @@ def sizes(room):
     large = write(f"{room}/large", b"#" * 100 + b"\n" * (most - 99))
     for words in (("run", large, EMPTY, "1"), ("run", FIVE, large, "1"), ("trace", FIVE, large, "1"), ("asm", large, f"{room}/rope"), ("debug", FIVE, large), ("run", "--image", "--rope=1", zeros, large, "1"), ("debug", "--image", "--rope=1", zeros, large), ("words", "--symbols", large, "--rope=1", zeros), ("trace", "--image", "--symbols", large, "--rope=1", zeros, EMPTY, "1"), ("cover", FIVE, large, "1"), ("run", "--notes", FIVE, large, "1"), ("check", large), ("check", FIVE, EMPTY, large), ("compare", "--only", large, zeros), ("debug", "--extended", FIVE, large), ("asm", "--flight", large, f"{room}/rope")):
         answer = agcws(*words)
-        told(f"sizes: {words[0]} of {most + 1} bytes", answer == (1, b"", too_long(large) if words[0] == "check" else b"agcws: E34\n"), f"{answer}")
+        told(f"sizes: {words[0]} of {most + 1} bytes", answer == (1, b"", refused(words, large, b"E34")), f"{answer}")
     whole = write(f"{room}/whole", b" SETLOC 4000\n TCF 4000\n" + b"#\n" * 65_534)
     told("sizes: a source of 65,536 lines", agcws("run", whole, EMPTY, "5") == (0, b"", b""), f"{agcws('run', whole, EMPTY, '5')}")
     # The longest source that has no fault: as many lines as there may be, and each as long as it may be.
@@ -579,14 +584,15 @@ def image_sizes(room, zeros):
             ("upgrade", image, f"{room}/made"),
         ):
             answer = agcws(*words)
-            told(f"sizes: {name_of(words)}", answer == (1, b"", b"agcws: " + error + b"\n"), f"{answer}")
+            told(f"sizes: {name_of(words)}", answer == (1, b"", refused(words, image, error)), f"{answer}")
 
 
 # Bytes
 
 
-# A refusal; one with the place of the first bad parity, where that is asked for; and of a bank without room for check words.
+# A refusal; one of a file that is compared; one with the place of the first bad parity, where that is asked for; and of a bank without room for check words.
 REFUSED = re.compile(rb"agcws: E(\d+)(?: LINE [1-9]\d*)?\n")
+REFUSED_COMPARED = re.compile(rb"(?:agcws: E(\d+) LINE [1-9]\d*|[^\n]+/(?:case|twin): error E(\d+): [^\n]+)\n")
 REFUSED_WHERE = re.compile(rb"agcws: E(?:(5)\nagcws: BYTE \d*[02468] [0-4][0-7],[2-7][0-7]{3}\n|([34])\n)")
 NO_ROOM = re.compile(rb"agcws: bank [0-4][0-7] has no room for check words: they take 3 places after its last word\n")
 
@@ -639,7 +645,7 @@ class Worker:
             return "" if is_silent and is_made else f"done, with {err!r}"
         if "--sums" in words and status == 1 and NO_ROOM.fullmatch(err):
             return "" if not out and not has_made else "refused, with some output"
-        number = (REFUSED_WHERE if "--where" in words else REFUSED).fullmatch(err)
+        number = (REFUSED_WHERE if "--where" in words else REFUSED_COMPARED if words[0] == "compare" else REFUSED).fullmatch(err)
         refusals = cases.TABLE_REFUSALS if "--symbols" in words and kind != "image" else REFUSALS[kind]
         if status != 1 or not number or int(number[number.lastindex]) not in refusals:
             return f"status {status}, {err!r}"
@@ -649,7 +655,9 @@ class Worker:
         """What `hostile/long_run` would tell of a case."""
         (status, out, err, _, _), _ = self.call(cases.call_of(kind, number), kind, number)
         made = os.path.getsize(self.made) if os.path.exists(self.made) else -1
-        return f"told {number} {status} {err.decode().splitlines()[0] if err else '-'} {len(out)} {zlib.crc32(out)} {made}"
+        # (the program that is called in process knows the case by its name alone)
+        said = err.decode().replace(f"{self.room}/", "").splitlines()[0] if err else "-"
+        return f"told {number} {status} {said} {len(out)} {zlib.crc32(out)} {made}"
 
 
 def some_cases(made, seed, kind, first, last):

@@ -506,11 +506,25 @@ static const char *judge_done(const struct outcome *outcome)
     return outcome->is_made && outcome->made_length == IMAGE_BYTES && lines_of(outcome, NULL) > 0 ? NULL : "no whole image, or no listing";
 }
 
+/* The number of a refusal that begins with the name of a file of the call, as `compare` tells it, else 0. */
+static int refusal_of_file(const char *errors)
+{
+    const char *named = strstr(errors, ": error E"), *end = strchr(errors, '\n');
+    int number, length = 0;
+    if (!named || !end || end[1] || sscanf(named, ": error E%2d: %n", &number, &length) != 1 || length < 12 || named + length >= end) return 0;
+    for (size_t at = 0; at < call.file_count; at++) {
+        const char *path = call.files[at].path;
+        if (strlen(path) == (size_t)(named - errors) && memcmp(errors, path, strlen(path)) == 0) return number;
+    }
+    return 0;
+}
+
 /* The number of a refusal that is told as it has to be, else 0. */
 static int refusal_of(const struct outcome *outcome)
 {
     int number, length = 0;
     unsigned long line;
+    if (strcmp(command, "compare") == 0 && (number = refusal_of_file(outcome->errors)) > 0) return number;
     if (sscanf(outcome->errors, "agcws: E%2d%n", &number, &length) != 1 || length < 9) return 0;
     const char *rest = outcome->errors + length;
     if (strcmp(rest, "\n") == 0) return number;
@@ -555,7 +569,8 @@ static int is_beginning(const unsigned char *bytes, size_t length, const unsigne
 static const char *judge_failure(const struct outcome *failed, const struct outcome *plain, enum failure failure)
 {
     int is_begun = is_beginning(failed->out, failed->out_length, plain->out, plain->out_length) && is_beginning(failed->made, failed->made_length, plain->made, plain->made_length);
-    if (failed->status == STATUS_FAILED && strcmp(failed->errors, FAILURE_LINES[failure]) == 0) return is_begun ? NULL : "failed, and what was written is no beginning";
+    int is_told = strcmp(failed->errors, FAILURE_LINES[failure]) == 0 || (failure == NO_READ && refusal_of(failed) == 6);
+    if (failed->status == STATUS_FAILED && is_told) return is_begun ? NULL : "failed, and what was written is no beginning";
     if (failure != NO_MEMORY || failed->status != plain->status || strcmp(failed->errors, plain->errors) != 0) return "another end of a call that failed";
     if (is_begun && failed->out_length == plain->out_length && failed->made_length == plain->made_length) return NULL;
     return strcmp(command, "debug") == 0 && memmem(failed->out, failed->out_length, "E2 MEMORY\n", 10) ? NULL : "another output of a call that failed";

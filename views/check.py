@@ -98,8 +98,8 @@ def check_readings(room):
     steps = list(pipe.steps(*LOST, "60", "--from", "13", "--to", "18"))
     same("an instruction", steps[0], pipe.Step(13, 23, "02,4104", "54100", "TS COUNT", [("COUNT", "00003")], None))
     same("an instruction that writes nothing", steps[2], pipe.Step(15, 27, "02,4106", "50100", "INDEX COUNT", [], None))
-    same("an input", (steps[3][:4], steps[3].text.split()[:2], steps[3].written), ((16, 28, "-", "INPUT"), ["TIME3", "PINC"], [("0026", "00000")]))
-    same("an entry", steps[5][2:6], ("02,4014", "ENTRY", "T3RUPT", [("0017", "54101"), ("0015", "04111")]))
+    same("an input", (steps[3][:4], steps[3].text.split()[:2], steps[3].written), ((16, 28, "-", "INPUT"), ["TIME3", "PINC"], [("E0,0026", "00000")]))
+    same("an entry", steps[5][2:6], ("02,4014", "ENTRY", "T3RUPT", [("E0,0017", "54101"), ("E0,0015", "04111")]))
     [output] = pipe.steps(*LOST, "47", "--from", "47")
     same("an output", (output.written, output.output), ([("CH012", "00075")], pipe.Output(87, 0o12, 0o75)))
     same("a refused trace", refusal(lambda: list(pipe.steps(LOST[0], LOST[0], "4"))), (1, "agcws: E30 LINE 4"))
@@ -152,7 +152,7 @@ def check_talk(room):
         (4, ["LAST 43"]),
         (5, ["step 42, cycle 78: AD TABLE +0  A=000075", ">    29 02,4110 54101          TS      SUM"]),
         (6, ["MEM 00063 = 51 = +0.00311 = 000 000 000 110 011"]),
-        (8, ["breakpoint 1: at 02,0014", "step 18, cycle 33: T3RUPT  0017=54101 0015=04111", ">    16 02,4014 34117          CAF     ONE"]),
+        (8, ["breakpoint 1: at 02,4014", "step 18, cycle 33: T3RUPT  E0,0017=54101 E0,0015=04111", ">    16 02,4014 34117          CAF     ONE"]),
         (9, ["A 177765 = -10 = -0.00061 = 1 111 111 111 110 101", "L 00000 = 0 = +0.00000 = 000 000 000 000 000"]),
         (10, ["CLEAR"]),
         (11, ["no command foo"]),
@@ -366,7 +366,7 @@ def check_console(client):
     """The console hands commands to the program, and knows sums."""
     for text, context, wanted in [
         ("mem SUMM", "repl", "E50 COMMAND no symbol SUMM"),
-        ("breaks", "repl", "BREAK 1 at 02,0014\nCOUNT 1"),
+        ("breaks", "repl", "BREAK 1 at 02,4014\nCOUNT 1"),
         ("why TICKS", "repl", "START TICKS 00000"),
         ("p ONE", "repl", "00001 = 1 = +0.00006 = 000 000 000 000 001"),
         ("ONE +7", "watch", "10 = 8"),
@@ -501,7 +501,7 @@ def check_wave(room):
     for name, wanted in [
         (("interrupts", "T3RUPT"), [(0, 0), (30, 1), (39, 0)]),
         (("cells", "TICKS"), [(0, 0), (37, 1)]),
-        (("cells", "0026"), [(0, 0), (5, 0o37777), (28, 0)]),
+        (("cells", "E0,0026"), [(0, 0), (5, 0o37777), (28, 0)]),
         (("channels", "CH012"), [(0, 0), (87, 0o75)]),
     ]:
         same(f"changes of {name[1]}", dump.changes[name], wanted)
@@ -541,12 +541,12 @@ def check_dumps(room):
     pipe.answer("asm", source, rope)
     same("a dump in a file", call("wave", "--image", rope, EMPTY, "2", "--out", file), (0, "", ""))
     with open(file, encoding="ascii") as text:
-        same("a dump of an image", Dump(text.read()).changes["cells", "0100"], [(0, 0), (4, 5)])
+        same("a dump of an image", Dump(text.read()).changes["cells", "E0,0100"], [(0, 0), (4, 5)])
     same("a dump of no steps", Dump(call("wave", source, EMPTY, "0")[1]).changes["steps", "address"], [(0, 0o4000)])
     many = "".join(f" TS {it:o}\n" for it in range(0o100, 0o400))
     source = write(f"{room}/many.agc", f" SETLOC 4000\n{many}".encode())
     dump = Dump(call("wave", source, EMPTY, "192")[1])
-    same("many signals", sorted(name for group, name in dump.changes if group == "cells"), [f"{it:04o}" for it in range(0o100, 0o400)])
+    same("many signals", sorted(name for group, name in dump.changes if group == "cells"), [f"E0,{it:04o}" for it in range(0o100, 0o400)])
 
 
 # Words by hand, from the rows of relays and the digits that examples/relay_word.agc and decimal_digits.agc tell: PROG 06 (1011 0 10101 11100), VERB 37 and

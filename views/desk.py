@@ -15,8 +15,8 @@ MOST_STEPS, MOST_TOLD = 1_099_511_627_774, 100_000_000
 PART_SECONDS = 0.1
 
 
-# The least address of fixed memory.
-FIXED = 0o2000
+# The least address of a switched erasable bank, and of fixed memory.
+SWITCHED, FIXED = 0o1400, 0o2000
 # Registers, which steps tell by letters whatever symbols have their places.
 REGISTERS = {"0000": "A", "0001": "L", "0002": "Q", "0003": "EB", "0004": "FB"}
 # Those that steps do not tell, and why.
@@ -209,7 +209,7 @@ class Desk:
         number = f"{int(value, 8):04o}"
         if number in UNTOLD or int(value, 8) >= FIXED:
             raise ValueError(UNTOLD.get(number, "fixed memory does not change"))
-        return REGISTERS.get(number) or next((name for name, it in self.symbols.items() if it == ("ERASABLE", number)), number)
+        return REGISTERS.get(number) or next((name for name, it in self.symbols.items() if it == ("ERASABLE", number)), listed(int(value, 8)))
 
     def look_again(self):
         """The watched places have the words of the position."""
@@ -246,6 +246,11 @@ class Desk:
     def breakpoints(self):
         """What each breakpoint is, by its number."""
         return {int(it[1]): it[2] for line in self.ask("breaks") if (it := line.split(None, 2))[0] == "BREAK"}
+
+
+def listed(number):
+    """An erasable place as a listing writes it, from its number."""
+    return f"E{number >> 8:o},{number if number < SWITCHED else SWITCHED | number & 0o377:04o}"
 
 
 def place_in_command(place):

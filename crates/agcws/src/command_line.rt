@@ -295,8 +295,8 @@ fn compare_command<'a>(alloc: Global) -> Result<Command<'a>, AllocError> {
     Command::new(alloc, COMPARE)
         .about("Shows where the words of two rope images differ")
         .after_help(COMPARE_HELP)
-        .arg(image_argument(alloc, OLD))?
-        .arg(image_argument(alloc, NEW))?
+        .arg(image_argument(alloc, OLD).help("The first rope image, a file"))?
+        .arg(image_argument(alloc, NEW).help("The second rope image, a file"))?
         .arg(
             Arg::new(alloc, ONLY)
                 .long("only")

@@ -111,8 +111,9 @@ Exit status:
      lowest bit of two of its bytes is wrong (E5); or the source is refused
   2  the command line is wrong
   3  a file, a device or memory failed
-A refusal and status 3 print one line to standard error, as agcws: E5, and write
-no COUNT.";
+A refusal and status 3 print one line to standard error, and write no COUNT: of
+an image, and of a file that cannot be read, new.rope: error E5: and words; else
+as agcws: E14 LINE 9.";
 
 /// What `agcws sums --help` tells after its arguments.
 pub const SUMS_HELP: &str = "Files:
@@ -144,8 +145,9 @@ Status 1 and 3 print one line to standard error, as agcws: E5.";
 
 /// What `agcws parity --help` tells after its arguments.
 pub const PARITY_HELP: &str = "Files:
-  ROPE  a rope image, as agcws asm writes it. With --form hardware a parity
-        bit stands below the highest bit of each two bytes, and not lowest.
+  ROPE  a rope image of version 2, as agcws asm writes it: one of version 1 has
+        no parity bits. With --form hardware a parity bit stands below the
+        highest bit of each two bytes, and not lowest.
 
 Output: one line for each word whose two bytes have an even number of one bits,
 banks in the order of their numbers, as
@@ -239,8 +241,8 @@ Two blanks or more stand between two fields:
       has added, as +3; the interrupt's name; the input as in a feed, and after
       ASKS the interrupt for which it asks
   what the step has written, each as PLACE=WORD with a blank between two, or -:
-      registers by their letters, other places by symbol or number, channels as
-      CH010; A and Q in 16 bits. Z is not shown
+      registers by their letters, other places by symbol, or as in a listing,
+      channels as CH010; A and Q in 16 bits. Z is not shown
   what agcws run writes in this step, if anything
 With --progress, after each 1048576 steps one line to standard error, as
   agcws: STEPS 1048576

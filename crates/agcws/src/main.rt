@@ -7,18 +7,19 @@ mod command_line;
 mod gathered;
 mod help;
 mod image_file;
+mod ropes;
 mod target;
 
 use clap::ArgMatches;
 use clap::error::ErrorKind;
 use command_line::{
-    AS_SOURCE, ASM, BANK, BANK_COUNT, BANKS, CHECK, COMPARE, COVER, DEBUG, END, EXPLAIN, EXTENDED,
-    FEED, FLIGHT, FORM, FROM, IGNORED_PARITY, IMAGE, NEW, NEW_FORM, NEW_VERSION, NOTES, NUMBER,
-    OLD, OLD_FORM, OLD_VERSION, ONLY, PARITY, PROGRESS, ROPE, RUN, SOURCE, STEPS, SUMS, TO, TRACE,
-    UNUSED, UPGRADE, VERSION, VERSION_ONE, VERSION_TWO, WITH_SUMS, WORDS, command,
+    ASM, CHECK, COMPARE, COVER, DEBUG, END, EXPLAIN, EXTENDED, FEED, FLIGHT, FORM, FROM,
+    IGNORED_PARITY, IMAGE, NOTES, NUMBER, PARITY, PROGRESS, ROPE, RUN, SOURCE, STEPS, SUMS, TO,
+    TRACE, UNUSED, UPGRADE, VERSION, VERSION_ONE, VERSION_TWO, WITH_SUMS, WORDS, command,
 };
 use gathered::Gathered;
 use image_file::ImageFile;
+use ropes::{compare, show_parity, show_sums, show_words, upgrade};
 use std::alloc::{AllocError, Global};
 use std::cell::Cell;
 use std::process::ExitCode;
@@ -26,12 +27,11 @@ use std::{env, fs, io};
 use target::wrong_target;
 use words::{Read, ReadAhead, Std, Write, write_all};
 use workshop::{
-    Bank, Form, InForm, Language, Origin, Refusal, Summary, Unheard, Version, WorkshopFault,
-    all_headings, asm_engine, asm_with_check_words, check_feed, check_source, compare_engine,
-    compare_only_engine, cover_and_tell, cover_program, debug_extended, debug_program, explanation,
-    may_run, parity_engine, refusal_of, report, report_no_room, run_and_tell, run_program,
-    run_with_notes, source_engine, sums_engine, trace_and_tell, trace_program, unread_text,
-    upgrade_engine, words_engine, write_end, write_tally,
+    Form, InForm, Language, Origin, Refusal, Summary, Unheard, Version, WorkshopFault,
+    all_headings, asm_engine, asm_with_check_words, check_feed, check_source, cover_and_tell,
+    cover_program, debug_extended, debug_program, explanation, may_run, refusal_of, report,
+    report_no_room, run_and_tell, run_program, run_with_notes, trace_and_tell, trace_program,
+    unread_text, write_end, write_tally,
 };
 
 /// The exit status where all is done.
@@ -48,6 +48,10 @@ const WRONG_ARGUMENTS: u8 = 2;
 
 /// The null device.
 const NULL: &str = "/dev/null";
+
+/// What is said of options that go with `--image`, where this is missing.
+const NO_IMAGE: &[u8] =
+    b"\n--rope, --parity, --form and --symbols go with --image, by which SRC is a rope image.\n";
 
 /// What is said of a run, a trace or a profile without a feed, after what `clap` says.
 const NO_FEED: &[u8] =
@@ -112,15 +116,31 @@ fn perform(rt: &HostRuntime) -> Result<u8, WorkshopFault> {
         },
         Err(error) => {
             let status = answer(rt, &error)?;
-            if error.kind() != ErrorKind::MissingRequiredArgument {
-                return Ok(status);
+            if error.kind() == ErrorKind::MissingRequiredArgument {
+                tell_missing(rt, &words, &error)?;
             }
-            match said_of_feed(&words) {
-                Some(text) => refuse_arguments(rt, text),
-                None => Ok(status),
-            }
+            Ok(status)
         }
     }
+}
+
+/// Says more of arguments that are missing than `clap` does: with what an option goes, and where a feed stands.
+fn tell_missing(
+    rt: &HostRuntime,
+    words: &[String],
+    error: &clap::Error,
+) -> Result<(), WorkshopFault> {
+    let missing = format!(in rt.alloc(); "{error}").map_err(no_memory)?;
+    let missing = missing.as_str();
+    if missing.split_once("\n  --image\n").is_some() {
+        refuse_arguments(rt, NO_IMAGE)?;
+    }
+    if missing.split_once("\n  <FEED>\n").is_some() || missing.split_once("\n  <N>\n").is_some() {
+        if let Some(text) = said_of_feed(words) {
+            refuse_arguments(rt, text)?;
+        }
+    }
+    Ok(())
 }
 
 /// What is said where arguments that lack some lack the feed: those of a session always do, and those of `agcws run`, of
@@ -568,10 +588,10 @@ fn check(rt: &HostRuntime, matches: &ArgMatches<'_>) -> Result<u8, WorkshopFault
     }
 }
 
-/// Tells a fault: one of a file that can't be read as faults of a source are told.
+/// Tells a fault: one of a file that can't be read, and one of an image, as faults of a source are told.
 fn refused_file(rt: &HostRuntime, name: &str, fault: WorkshopFault) -> Result<u8, WorkshopFault> {
     match fault {
-        WorkshopFault::ReadFailed | WorkshopFault::TooLong => {
+        WorkshopFault::ReadFailed | WorkshopFault::TooLong | WorkshopFault::Rope(_) => {
             let text = unread_text(rt.alloc(), name.as_bytes(), &fault)?;
             write_all(&mut Std::new(rt.stderr()), text.as_slice())?;
             Ok(fault.status())
@@ -657,22 +677,6 @@ fn warning_named(name: &str) -> Option<Refusal> {
     workshop::warning_of(number)
 }
 
-/// `agcws upgrade OLD NEW`. The file NEW is made at the first write, so that a refused image leaves none. A path of the old
-/// image, or of a source, is refused for NEW before anything is opened.
-fn upgrade(rt: &HostRuntime, matches: &ArgMatches<'_>) -> Result<u8, WorkshopFault> {
-    let (Some(old), Some(new)) = (matches.get_str(OLD), matches.get_str(NEW)) else {
-        return Ok(WRONG_ARGUMENTS);
-    };
-    if let Some(wrong) = wrong_target(rt, old, new) {
-        return refuse_arguments(rt, wrong.of_an_upgrade());
-    }
-    let mut image = opened(rt, old)?;
-    let refused = Cell::new(false);
-    let mut out = Std::new(ImageFile::new(rt, new, &refused));
-    let outcome = upgrade_engine(rt.alloc(), &mut image, &mut out);
-    ended(outcome, &refused)
-}
-
 /// How a command ends that makes a file, where there may have been no memory to make it.
 fn ended<T: Drop>(
     outcome: Result<T, WorkshopFault>,
@@ -683,126 +687,6 @@ fn ended<T: Drop>(
         Err(_) if refused.get() => Err(WorkshopFault::NoMemory),
         Err(fault) => Err(fault),
     }
-}
-
-/// `agcws words [--source | --symbols FILE] [--where] [--rope VERSION] [--parity ignore] [--form FORM] ROPE [BANK]`. All files are opened before anything is read, and the table is read first.
-fn show_words(rt: &HostRuntime, matches: &ArgMatches<'_>) -> Result<u8, WorkshopFault> {
-    let (Some(rope), Some(version)) = (matches.get_str(ROPE), version(matches, VERSION)) else {
-        return Ok(WRONG_ARGUMENTS);
-    };
-    let bank = matches.get_str(BANK).and_then(bank_named);
-    let mut table = table(rt, matches)?;
-    let mut image = InForm::new(opened(rt, rope)?, form(matches, FORM));
-    let names = names(rt, &mut table)?;
-    let is_source = matches.get_flag(AS_SOURCE);
-    let outcome = with_stdout(rt, |out| match names {
-        Some(names) => workshop::named_words_engine(
-            rt.alloc(),
-            names,
-            &mut image,
-            version,
-            bank,
-            out,
-        ),
-        None if is_source => source_engine(rt.alloc(), &mut image, version, bank, out),
-        None => words_engine(rt.alloc(), &mut image, version, bank, out),
-    });
-    match outcome {
-        Ok(()) => Ok(DONE),
-        Err(fault) if matches.get_flag(command_line::WHERE) => refused_where(rt, &fault),
-        Err(fault) => Err(fault),
-    }
-}
-
-/// Tells a fault, and where an image is refused.
-fn refused_where(rt: &HostRuntime, fault: &WorkshopFault) -> Result<u8, WorkshopFault> {
-    let mut errors = Std::new(rt.stderr());
-    let status = report(fault, &mut errors)?;
-    workshop::report_where(fault, &mut errors)?;
-    Ok(status)
-}
-
-/// The bank of a name.
-fn bank_named(name: &str) -> Option<Bank> {
-    for (number, bank) in BANKS.iter().enumerate() {
-        if *bank == name {
-            return Bank::try_new((number % BANK_COUNT) as u16);
-        }
-    }
-    None
-}
-
-/// `agcws compare [--only] [--flight] [--old VERSION] [--new VERSION] [--parity ignore] [--old-form FORM] [--new-form FORM] OLD NEW`. Both files are opened before anything is read.
-fn compare(rt: &HostRuntime, matches: &ArgMatches<'_>) -> Result<u8, WorkshopFault> {
-    let (Some(old), Some(new)) = (matches.get_str(OLD), matches.get_str(NEW)) else {
-        return Ok(WRONG_ARGUMENTS);
-    };
-    let (Some(old_version), Some(new_version)) = (
-        version(matches, OLD_VERSION),
-        version(matches, NEW_VERSION),
-    ) else {
-        return Ok(WRONG_ARGUMENTS);
-    };
-    if matches.get_flag(ONLY) {
-        return compare_only(rt, matches, old, new, new_version);
-    }
-    let mut old = InForm::new(opened(rt, old)?, form(matches, OLD_FORM));
-    let mut new = InForm::new(opened(rt, new)?, form(matches, NEW_FORM));
-    let count = with_stdout(rt, |out| {
-        compare_engine(
-            rt.alloc(),
-            &mut old,
-            old_version,
-            &mut new,
-            new_version,
-            out,
-        )
-    })?;
-    Ok(if count == 0 { DONE } else { DIFFERENT })
-}
-
-/// `agcws compare --only [--flight] [--new VERSION] [--parity ignore] [--new-form FORM] SRC ROPE`. Both files are opened before anything is read.
-fn compare_only(
-    rt: &HostRuntime,
-    matches: &ArgMatches<'_>,
-    source: &str,
-    rope: &str,
-    version: Version,
-) -> Result<u8, WorkshopFault> {
-    let language = language(matches);
-    let mut source = Std::new(fs::open(rt, source).map_err(not_opened)?);
-    let mut image = InForm::new(opened(rt, rope)?, form(matches, NEW_FORM));
-    let count = with_stdout(rt, |out| {
-        compare_only_engine(rt.alloc(), language, &mut source, &mut image, version, out)
-    })?;
-    Ok(if count == 0 { DONE } else { DIFFERENT })
-}
-
-/// `agcws sums [--forms] [--rope VERSION] [--parity ignore] [--form FORM] ROPE`.
-fn show_sums(rt: &HostRuntime, matches: &ArgMatches<'_>) -> Result<u8, WorkshopFault> {
-    let (Some(rope), Some(version)) = (matches.get_str(ROPE), version(matches, VERSION)) else {
-        return Ok(WRONG_ARGUMENTS);
-    };
-    let mut image = InForm::new(opened(rt, rope)?, form(matches, FORM));
-    let is_both = matches.get_flag(command_line::BOTH_FORMS);
-    with_stdout(rt, |out| {
-        if is_both {
-            workshop::form_sums_engine(rt.alloc(), &mut image, version, out)
-        } else {
-            sums_engine(rt.alloc(), &mut image, version, out)
-        }
-    })?;
-    Ok(DONE)
-}
-
-/// `agcws parity [--form FORM] ROPE`.
-fn show_parity(rt: &HostRuntime, matches: &ArgMatches<'_>) -> Result<u8, WorkshopFault> {
-    let Some(rope) = matches.get_str(ROPE) else {
-        return Ok(WRONG_ARGUMENTS);
-    };
-    let mut image = InForm::new(opened(rt, rope)?, form(matches, FORM));
-    let count = with_stdout(rt, |out| parity_engine(rt.alloc(), &mut image, out))?;
-    Ok(if count == 0 { DONE } else { DIFFERENT })
 }
 
 /// A file that is read, from its beginning on.

@@ -61,19 +61,19 @@ unfolding extended_line extended_forms usages forms runs parsed counters sequenc
 indexed = refl
 
 unindexed : asked (codes "why SUM index 3" ∷ codes "why SUM 3 INDEX" ∷ codes "why SUM 3 index index" ∷ codes "why SUM indexes" ∷ [])
-    ≡ replicate 4 (Says (codes "E50 COMMAND why takes [PLACE [K]] [index]\n"))
+    ≡ replicate 4 (Says (codes "E50 COMMAND why takes a place, a place and a count, or nothing [index]\n"))
 unfolding extended_line extended_forms usages forms runs parsed counters sequences registers window
 unindexed = refl
 
 wrong_whys : asked (codes "why FIVE" ∷ codes "why CH12" ∷ codes "why SUMM" ∷ codes "why SUMM 3" ∷ codes "why SUM x" ∷ codes "why SUM 1000" ∷ codes "why SUM 3 4" ∷ codes "why CH1000" ∷ codes "why CH" ∷ [])
     ≡ map (λ text. Says (codes "E50 COMMAND " ++ text))
-    (codes "why takes [PLACE [K]] [index]\n"
-    ∷ codes "why takes [PLACE [K]] [index]\n"
+    (codes "FIVE is in fixed memory, whose words never change\n"
+    ∷ codes "CH12 is in fixed memory, whose words never change\n"
     ∷ codes "no symbol SUMM\n"
     ∷ codes "no symbol SUMM\n"
-    ∷ codes "why takes [PLACE [K]] [index]\n"
-    ∷ codes "why takes [PLACE [K]] [index]\n"
-    ∷ codes "why takes [PLACE [K]] [index]\n"
+    ∷ codes "why takes a place, a place and a count, or nothing [index]\n"
+    ∷ codes "why takes a place, a place and a count, or nothing [index]\n"
+    ∷ codes "why takes a place, a place and a count, or nothing [index]\n"
     ∷ codes "no symbol CH1000\n"
     ∷ codes "no symbol CH\n"
     ∷ [])
@@ -86,7 +86,7 @@ refusals : asked (codes "mem FIV" ∷ codes "break at FIV" ∷ codes "mem BIG" �
     ∷ Says (codes "E50 COMMAND no symbol FIV\n")
     ∷ Says (codes "E50 COMMAND mem takes a place, or a place and a count\n")
     ∷ Says (codes "E50 COMMAND mem takes a place, or a place and a count\n")
-    ∷ Says (codes "E50 COMMAND last takes an erasable place\n")
+    ∷ Says (codes "E50 COMMAND FIVE is in fixed memory, whose words never change\n")
     ∷ Says (codes "E50 COMMAND break takes at|exec|change PLACE, word PLACE W, chan C W [M]\n")
     ∷ Says (codes "E50 COMMAND until takes a number of cycles\n")
     ∷ Says (codes "E50 COMMAND regs takes all, or nothing\n")
@@ -126,7 +126,7 @@ wrong_places : asked (codes "mem 02,2005" ∷ codes "mem E3,1377" ∷ codes "mem
     ∷ codes "mem takes a place, or a place and a count\n"
     ∷ codes "mem takes a place, or a place and a count\n"
     ∷ codes "mem takes a place, or a place and a count\n"
-    ∷ codes "why takes [PLACE [K]] [index]\n"
+    ∷ codes "why takes a place, a place and a count, or nothing [index]\n"
     ∷ codes "break takes at|exec|change PLACE, word PLACE W, chan C W [M]\n"
     ∷ [])
 unfolding extended_line extended_forms usages forms runs parsed counters sequences registers window
@@ -142,7 +142,7 @@ looks = refl
 bits : asked (codes "break chan 10 12" ∷ codes "break chan 10 12 77" ∷ codes "break chan 10 12 77 1" ∷ codes "break chan 10 12 8" ∷ codes "break chan 1000 12 77" ∷ [])
     ≡ Common (Break (breakpoint.Channel 8 0o12)) ∷ Common (Break (breakpoint.Bits 8 0o12 0o77)) ∷ map (λ text. Says (codes "E50 COMMAND " ++ text))
     (codes "break takes at|exec|change PLACE, word PLACE W, chan C W [M]\n"
-    ∷ codes "break takes at|exec|change PLACE, word PLACE W, chan C W [M]\n"
+    ∷ codes "numbers of places, channels and words are octal, and 8 has a digit 8 or 9\n"
     ∷ codes "break takes at|exec|change PLACE, word PLACE W, chan C W [M]\n"
     ∷ [])
 unfolding extended_line extended_forms usages forms runs parsed counters sequences registers window
@@ -169,8 +169,8 @@ changed = refl
 -- fixed memory, which never changes, no place, a field too many, and no channel
 not_changed : asked (codes "break change FIVE" ∷ codes "break change 02,4005" ∷ codes "break change" ∷ codes "break change SUM 5" ∷ codes "break change CH012 5" ∷ codes "break change SUM +" ∷ codes "break change SUMM" ∷ codes "break change CH1000" ∷ codes "break changed SUM" ∷ [])
     ≡ map (λ text. Says (codes "E50 COMMAND " ++ text))
-    (codes "break takes at|exec|change PLACE, word PLACE W, chan C W [M]\n"
-    ∷ codes "break takes at|exec|change PLACE, word PLACE W, chan C W [M]\n"
+    (codes "FIVE is in fixed memory, whose words never change\n"
+    ∷ codes "02,4005 is in fixed memory, whose words never change\n"
     ∷ codes "break takes at|exec|change PLACE, word PLACE W, chan C W [M]\n"
     ∷ codes "break takes at|exec|change PLACE, word PLACE W, chan C W [M]\n"
     ∷ codes "break takes at|exec|change PLACE, word PLACE W, chan C W [M]\n"
@@ -233,3 +233,40 @@ channels_named : asked (codes "mem CH012" ∷ codes "mem CH1000" ∷ codes "mem 
     ∷ []
 unfolding extended_line extended_forms usages forms runs parsed counters sequences registers window
 channels_named = refl
+
+-- where octal numbers stand: alone, after a plus sign, and beside a comma; in words and masks too
+octal_alone : asked (codes "mem 18" ∷ codes "last 1009" ∷ codes "why 90 3" ∷ codes "list 08" ∷ codes "value 800000000000000000000" ∷ codes "chan 18" ∷ codes "break at 4018" ∷ codes "break exec 9" ∷ codes "break change 18" ∷ codes "break chan 18 5" ∷ codes "break chan 10 18" ∷ codes "break chan 10 12 79" ∷ codes "break word SUM 8" ∷ codes "break word SUM +1 9" ∷ codes "break word 18" ∷ codes "mem SUM +8" ∷ codes "break at SUM +18" ∷ codes "mem 02,4008" ∷ codes "mem 08,4000" ∷ codes "mem E3,1480" ∷ [])
+    ≡ map (λ number. Says (codes "E50 COMMAND numbers of places, channels and words are octal, and " ++ number ++ codes " has a digit 8 or 9\n"))
+    (codes "18" ∷ codes "1009" ∷ codes "90" ∷ codes "08" ∷ codes "800000000000000000000" ∷ codes "18" ∷ codes "4018" ∷ codes "9" ∷ codes "18" ∷ codes "18" ∷ codes "18" ∷ codes "79" ∷ codes "8" ∷ codes "9" ∷ codes "18" ∷ codes "+8" ∷ codes "+18" ∷ codes "02,4008" ∷ codes "08,4000" ∷ codes "E3,1480" ∷ [])
+unfolding extended_line extended_forms usages forms runs parsed counters sequences registers window
+octal_alone = refl
+
+-- numbers of words and of steps are decimal, and a symbol may have such a name
+abbrev numbered : SymbolTable
+numbered = (codes "X,18", value.Fixed 2 5) ∷ []
+
+not_octal_alone : asked (codes "mem SUM 18" ∷ codes "why SUM 9" ∷ codes "mem 18A" ∷ codes "mem SUM 18 9" ∷ codes "chan 1000" ∷ codes "mem 77777" ∷ []) ++ map (extended_line numbered) (codes "mem X,18" ∷ codes "mem X,18 1000" ∷ codes "mem X,19" ∷ [])
+    ≡ Words (Erasable 0o101) 18 ∷ Why (subject.Place 0o101) 9 Omitted
+    ∷ Says (codes "E50 COMMAND no symbol 18A\n")
+    ∷ Says (codes "E50 COMMAND mem takes a place, or a place and a count\n")
+    ∷ Says (codes "E50 COMMAND chan takes a channel\n")
+    ∷ Says (codes "E50 COMMAND no symbol 77777\n")
+    ∷ Common (Memory (Fixed 2 5))
+    ∷ Says (codes "E50 COMMAND mem takes a place, or a place and a count\n")
+    ∷ Says (codes "E50 COMMAND numbers of places, channels and words are octal, and X,19 has a digit 8 or 9\n")
+    ∷ []
+unfolding extended_line extended_forms usages forms runs parsed counters sequences registers window
+not_octal_alone = refl
+
+-- fixed memory, where an erasable place is asked for; a word is missing besides
+in_fixed_memory : asked (codes "break word FIVE 5" ∷ codes "break word 4000" ∷ codes "last CH12" ∷ codes "why 02,4005 index" ∷ codes "break word BIG 5" ∷ codes "break at FIVE 5" ∷ [])
+    ≡ map (λ text. Says (codes "E50 COMMAND " ++ text))
+    (codes "FIVE is in fixed memory, whose words never change\n"
+    ∷ codes "4000 is in fixed memory, whose words never change\n"
+    ∷ codes "CH12 is in fixed memory, whose words never change\n"
+    ∷ codes "02,4005 is in fixed memory, whose words never change\n"
+    ∷ codes "break takes at|exec|change PLACE, word PLACE W, chan C W [M]\n"
+    ∷ codes "break takes at|exec|change PLACE, word PLACE W, chan C W [M]\n"
+    ∷ [])
+unfolding extended_line extended_forms usages forms runs parsed counters sequences registers window
+in_fixed_memory = refl

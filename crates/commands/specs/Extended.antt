@@ -8,9 +8,10 @@ use Rattle.feed.specs.Statements.{word_in}
 use Rattle.space.specs.declared.place.Linear.{Linear}
 use Rattle.commands.specs.Commands.{count_in, channel_in, erasable_number, parsed_in}
 use Rattle.commands.specs.Lines.{command_length}
-use Rattle.commands.specs.NamedPlaces.{named_place, place_first, after_place}
+use Rattle.commands.specs.NamedPlaces.{place_first, after_place}
 use Rattle.commands.specs.Subjects.{channel_named, erasable_first, place_subject, channel_subject}
-use Rattle.commands.specs.Usages.{Usage, usages, help_line}
+use Rattle.commands.specs.Refusals.{refusal_line}
+use Rattle.commands.specs.Usages.{usages, help_line}
 use Rattle.commands.specs.declared.subject.Subject.{Subject}
 use Rattle.commands.specs.declared.command.Breakpoint.{Breakpoint}
 use Rattle.commands.specs.declared.command.Breakpoint.TheVariants as breakpoint
@@ -204,42 +205,6 @@ extended_forms symbols =
     ∷ (codes "list", with_counted_place symbols usual_links (λ place k. Listed place k))
     ∷ (codes "value", with_counted_place symbols 1 (λ place k. Values place k))
     ∷ []
-
--- the field that names a place
-abbrev pub breakpoint_place_field : List ℕ → List (List ℕ) → Option (List ℕ)
-breakpoint_place_field kind [] = None
-breakpoint_place_field kind (field ∷ more) = if same_name kind (codes "chan") then None else Some field
-
-abbrev pub place_field : List ℕ → List (List ℕ) → Option (List ℕ)
-place_field name [] = None
-place_field name (field ∷ more) =
-    if same_name name (codes "mem") || same_name name (codes "last") || same_name name (codes "why") then Some field
-    else if same_name name (codes "list") || same_name name (codes "value") then Some field
-    else if same_name name (codes "break") then breakpoint_place_field field more
-    else None
-
--- it names none, and is no symbol and no channel
-abbrev pub is_no_symbol : SymbolTable → List ℕ → Bool
-is_no_symbol symbols field = not (is_some (named_place symbols field)) && not (is_some (value_in symbols field)) && not (is_some (channel_named symbols field))
-
--- the symbol that is missing
-abbrev pub missing_symbol : SymbolTable → Option (List ℕ) → Option (List ℕ)
-missing_symbol symbols None = None
-missing_symbol symbols (Some field) = if is_no_symbol symbols field then Some field else None
-
--- why a line has no form of its command
-abbrev pub wrong_field : List ℕ → Usage → Option (List ℕ) → List ℕ
-wrong_field name usage None = name ++ codes " takes " ++ usage.takes
-wrong_field name usage (Some symbol) = codes "no symbol " ++ symbol
-
--- why a line is no command
-abbrev pub wrong_command : SymbolTable → List ℕ → List (List ℕ) → Option Usage → List ℕ
-wrong_command symbols name fields None = codes "no command " ++ name
-wrong_command symbols name fields (Some usage) = wrong_field name usage (missing_symbol symbols (place_field name fields))
-
--- the refusal of a line that is no command
-abbrev pub refusal_line : SymbolTable → List ℕ → List (List ℕ) → List ℕ
-refusal_line symbols name fields = codes "E50 COMMAND " ++ wrong_command symbols name fields (value_in usages name) ++ codes "\n"
 
 -- what any session is asked for, with words for what is no command
 abbrev pub in_words : SymbolTable → List ℕ → List (List ℕ) → ParsedLine → ExtendedLine

@@ -3,4 +3,5 @@ pub mod Lines
 pub mod NamedPlaces
 pub mod Subjects
 pub mod Usages
+pub mod Refusals
 pub mod Extended

@@ -30,7 +30,7 @@ usages =
     ∷ (codes "mem", usage (codes "a place, or a place and a count") (codes "the word there, or so many from there on"))
     ∷ (codes "chan", usage (codes "a channel") (codes "the word there"))
     ∷ (codes "last", usage (codes "an erasable place") (codes "the step that changed the word there last"))
-    ∷ (codes "why", usage (codes "[PLACE [K]] [index]") (codes "the steps that made the word there, last first"))
+    ∷ (codes "why", usage (codes "a place, a place and a count, or nothing [index]") (codes "the steps that made the word there, last first"))
     ∷ (codes "trace", usage (codes "a number of steps") (codes "the last so many steps, a line each"))
     ∷ (codes "where", usage (codes "nothing") (codes "the next instruction's place, and the interrupt"))
     ∷ (codes "list", usage (codes "a place, or a place and a count") (codes "the rows of the listing from there on"))

@@ -7,17 +7,18 @@ ghost use Rattle.agc_text.specs.Tables.{value_in};
 ghost use Rattle.commands.specs.Lines.{kept_line};
 ghost use Rattle.commands.specs.Commands.{count_in};
 ghost use Rattle.commands.specs.declared.extended.ExtendedLine.TheVariants as asked;
-ghost use Rattle.commands.specs.Extended.{extended_forms, most_count, sole, with_none, with_word, with_field, with_field_or, help_in, few_in, index_in, counted_links, links_in, why_of, why_place, why_form, memory_of, channel_form, memory_form, count_after, counted_place, if_none, place_alone, last_form, broken_at, watches, bits_of, watches_bits, subject_alone, break_form, breakpoint_place_field, place_field, is_no_symbol, missing_symbol, refusal_line, in_words, echoed, extended_in, extended_line, steps_in};
+ghost use Rattle.commands.specs.Extended.{extended_forms, most_count, sole, with_none, with_word, with_field, with_field_or, help_in, few_in, index_in, counted_links, links_in, why_of, why_place, why_form, memory_of, channel_form, memory_form, count_after, counted_place, if_none, place_alone, last_form, broken_at, watches, bits_of, watches_bits, subject_alone, break_form, in_words, echoed, extended_in, extended_line, steps_in};
 
 use crate::command::{Breakpoint, Command, ParsedLine};
 use crate::fields::{channel_in, count_in};
 use crate::line::CommandLine;
-use crate::named_places::{after_place, named_place, place_first};
+use crate::named_places::{after_place, place_first};
 use crate::parsing::parsed_in;
 use crate::phrase::Phrase;
 use crate::places::erasable_number;
+use crate::refusal::refusal_line;
 use crate::subject::{Subject, channel_named, channel_subject, erasable_first, place_subject};
-use crate::usage::{help_of, usage_of};
+use crate::usage::help_of;
 use agc_text::{before_comment, next_field, split_field};
 use feed::word_in;
 use space::Chan;
@@ -513,87 +514,5 @@ fn in_words(symbols: &Symbols, name: &[u8], rest: &[u8], request: ParsedLine) ->
         ParsedLine::TooLong => ExtendedLine::Plain(ParsedLine::TooLong),
         ParsedLine::WrongCounter => ExtendedLine::Plain(ParsedLine::WrongCounter),
         ParsedLine::Known(command) => ExtendedLine::Common(command),
-    }
-}
-
-// The refusal of a line that is no command.
-fn refusal_line(symbols: &Symbols, name: &[u8], rest: &[u8]) -> Phrase
-    requires name { length name.now ≤ 80 }
-    requires fields { All (λ field. length field ≤ 80) (texts (runs rest.now)) }
-    ensures { result ≡ refusal_line symbols.now name.now (texts (runs rest.now)) }
-{
-    let mut phrase = Phrase::new();
-    phrase.push(b"E50 COMMAND ");
-    match usage_of(name) {
-        None => {
-            phrase.push(b"no command ");
-            phrase.push(name);
-        }
-        Some(usage) => match missing_symbol(symbols, name, rest) {
-            None => {
-                phrase.push(name);
-                phrase.push(b" takes ");
-                phrase.push(usage.takes.as_bytes());
-            }
-            Some(symbol) => {
-                phrase.push(b"no symbol ");
-                phrase.push(symbol);
-            }
-        },
-    }
-    phrase.push(b"\n");
-    phrase
-}
-
-// The symbol that is missing where a place is named.
-fn missing_symbol<'a>(symbols: &Symbols, name: &[u8], rest: &'a [u8]) -> Option<&'a [u8]>
-    requires { All (λ field. length field ≤ 80) (texts (runs rest.now)) }
-    ensures symbol { option_map (λ symbol. symbol.now) result ≡ missing_symbol symbols.now (place_field name.now (texts (runs rest.now))) }
-    ensures short { IfSome result (λ symbol. length symbol.now ≤ 80) }
-{
-    match place_field(name, rest) {
-        Some(field) if is_no_symbol(symbols, field) => Some(field),
-        _ => None,
-    }
-}
-
-// Whether a field names no place, and is no symbol and no channel.
-fn is_no_symbol(symbols: &Symbols, field: &[u8]) -> bool
-    ensures { result ≡ is_no_symbol symbols.now field.now }
-{
-    named_place(symbols, field).is_none()
-        && symbols.symbol(field).is_none()
-        && channel_named(symbols, field).is_none()
-}
-
-// The field that names a place.
-fn place_field<'a>(name: &[u8], rest: &'a [u8]) -> Option<&'a [u8]>
-    requires { All (λ field. length field ≤ 80) (texts (runs rest.now)) }
-    ensures field { option_map (λ field. field.now) result ≡ place_field name.now (texts (runs rest.now)) }
-    ensures short { IfSome result (λ field. length field.now ≤ 80) }
-{
-    let (first, rest) = split_field(rest)?;
-    if name == "mem".as_bytes() || name == "last".as_bytes() || name == "why".as_bytes() {
-        Some(first)
-    } else if name == "list".as_bytes() || name == "value".as_bytes() {
-        Some(first)
-    } else if name == "break".as_bytes() {
-        breakpoint_place_field(first, rest)
-    } else {
-        None
-    }
-}
-
-// The field of `break` that names a place.
-fn breakpoint_place_field<'a>(kind: &[u8], rest: &'a [u8]) -> Option<&'a [u8]>
-    requires { All (λ field. length field ≤ 80) (texts (runs rest.now)) }
-    ensures field { option_map (λ field. field.now) result ≡ breakpoint_place_field kind.now (texts (runs rest.now)) }
-    ensures short { IfSome result (λ field. length field.now ≤ 80) }
-{
-    let (field, _) = split_field(rest)?;
-    if kind == "chan".as_bytes() {
-        None
-    } else {
-        Some(field)
     }
 }

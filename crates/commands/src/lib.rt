@@ -13,6 +13,7 @@ mod parsing;
 mod phrase;
 mod places;
 mod reading;
+mod refusal;
 mod subject;
 mod usage;
 

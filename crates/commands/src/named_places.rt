@@ -202,7 +202,7 @@ fn is_reached_at(address: u64, place: Linear) -> bool
 }
 
 // Whether a field begins with a plus sign.
-fn begins_with_plus(field: &[u8]) -> bool
+pub(crate) fn begins_with_plus(field: &[u8]) -> bool
     ensures { result ≡ begins_with_plus field.now }
 {
     !field.is_empty() && &field[..1] == "+".as_bytes()

@@ -79,7 +79,7 @@ const ROWS: [Row; 30] = [
     ),
     (
         "why",
-        "[PLACE [K]] [index]",
+        "a place, a place and a count, or nothing [index]",
         "the steps that made the word there, last first",
     ),
     (

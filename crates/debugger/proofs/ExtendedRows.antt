@@ -70,9 +70,9 @@ abbrev session : List (List ℕ) → List ℕ
 session lines = conversation (terms_of symbols no_source five) (extended_line symbols) (first_desk five [] []) lines
 
 -- breakpoints are told, and taken away one by one; those that stay are numbered anew
-breakpoints : session (codes "breaks" ∷ codes "break at FIVE" ∷ codes "break word 101 75" ∷ codes "break chan 10 12" ∷ codes "break chan 10 12 77" ∷ codes "break exec FIVE" ∷ codes "break change 101" ∷ codes "break change CH10" ∷ codes "breaks" ∷ codes "clear 2" ∷ codes "clear 5" ∷ codes "clear 5" ∷ codes "clear 5" ∷ codes "clear 0" ∷ codes "breaks" ∷ codes "clear" ∷ codes "breaks" ∷ [])
-    ≡ ended (codes "COUNT 0" ∷ codes "BREAK 1" ∷ codes "BREAK 2" ∷ codes "BREAK 3" ∷ codes "BREAK 4" ∷ codes "BREAK 5" ∷ codes "BREAK 6" ∷ codes "BREAK 7" ∷ codes "BREAK 1 at 02,0005" ∷ codes "BREAK 2 word 0101 00075" ∷ codes "BREAK 3 chan 010 00012" ∷ codes "BREAK 4 chan 010 00012 00077" ∷ codes "BREAK 5 exec 02,0005" ∷ codes "BREAK 6 change 0101" ∷ codes "BREAK 7 change CH010" ∷ codes "COUNT 7" ∷ codes "CLEAR 2" ∷ codes "CLEAR 5" ∷ codes "CLEAR 5" ∷ codes "NONE" ∷ codes "NONE" ∷ codes "BREAK 1 at 02,0005" ∷ codes "BREAK 2 chan 010 00012" ∷ codes "BREAK 3 chan 010 00012 00077" ∷ codes "BREAK 4 exec 02,0005" ∷ codes "COUNT 4" ∷ codes "CLEAR" ∷ codes "COUNT 0" ∷ [])
-unfolding registers window extended_line extended_forms extended_reply usages forms runs parsed counters sequences answer reply digits octal_text
+breakpoints : session (codes "breaks" ∷ codes "break at FIVE" ∷ codes "break word 101 75" ∷ codes "break chan 10 12" ∷ codes "break chan 10 12 77" ∷ codes "break exec FIVE" ∷ codes "break change E3,1400" ∷ codes "break change CH10" ∷ codes "breaks" ∷ codes "clear 2" ∷ codes "clear 5" ∷ codes "clear 5" ∷ codes "clear 5" ∷ codes "clear 0" ∷ codes "breaks" ∷ codes "clear" ∷ codes "breaks" ∷ [])
+    ≡ ended (codes "COUNT 0" ∷ codes "BREAK 1" ∷ codes "BREAK 2" ∷ codes "BREAK 3" ∷ codes "BREAK 4" ∷ codes "BREAK 5" ∷ codes "BREAK 6" ∷ codes "BREAK 7" ∷ codes "BREAK 1 at 02,4005" ∷ codes "BREAK 2 word E0,0101 00075" ∷ codes "BREAK 3 chan 010 00012" ∷ codes "BREAK 4 chan 010 00012 00077" ∷ codes "BREAK 5 exec 02,4005" ∷ codes "BREAK 6 change E3,1400" ∷ codes "BREAK 7 change CH010" ∷ codes "COUNT 7" ∷ codes "CLEAR 2" ∷ codes "CLEAR 5" ∷ codes "CLEAR 5" ∷ codes "NONE" ∷ codes "NONE" ∷ codes "BREAK 1 at 02,4005" ∷ codes "BREAK 2 chan 010 00012" ∷ codes "BREAK 3 chan 010 00012 00077" ∷ codes "BREAK 4 exec 02,4005" ∷ codes "COUNT 4" ∷ codes "CLEAR" ∷ codes "COUNT 0" ∷ [])
+unfolding registers window extended_line extended_forms extended_reply usages forms runs parsed counters sequences answer reply digits octal_text place_text
 breakpoints = refl
 
 -- a program that asks tells where a reply ends, and `quit` ends here too

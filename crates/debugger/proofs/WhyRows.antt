@@ -4,7 +4,7 @@ use Rattle.std.specs.Prelude.{codes, nat_le, ◌==◌, ◌&&◌, ◌||◌, if◌
 use Rattle.std.specs.Fmt.{digits}
 use Rattle.words.specs.Numerals.{octal_text}
 use Rattle.words.specs.declared.wide.Overflow.TheVariants.{No}
-use Rattle.space.specs.Places.{place}
+use Rattle.space.specs.Places.{place, window}
 use Rattle.space.specs.declared.place.Linear.TheVariants as linear
 use Rattle.feed.specs.declared.input.Input.TheVariants as input
 use Rattle.cpu.specs.State.{start}
@@ -18,14 +18,18 @@ use Rattle.cpu.specs.declared.next_step.NextStep.TheVariants as next
 use Rattle.cpu.specs.declared.spot.Spot.{Spot}
 use Rattle.cpu.specs.declared.spot.Spot.TheVariants.{Cell, InRope}
 use Rattle.replay.specs.LastHit.{last_hit}
-use Rattle.debugger.specs.Whys.{entered_mark, mark_by, by_line, added_by, operand_spots, index_by}
+use Rattle.rope.specs.Places.{Words, word_at}
+use Rattle.symbols.specs.declared.values.Value.TheVariants as value
+use Rattle.trace.specs.TraceLines.{symbol_at}
+use Rattle.yayul.specs.Listing.{place_text}
+use Rattle.debugger.specs.Whys.{entered_mark, mark_by, by_line, cells_part, reads_part, added_by, operand_spots, index_by}
 
 -- the interrupts of a run: step 18 enters one, which RESUME leaves as step 21, and step 30 another, which is served still
 abbrev inside : ℕ → Bool
 inside t = (nat_le 18 t && nat_le t 20) || nat_le 30 t
 
 -- the steps that enter stand outside; those after them, up to RESUME, are marked
-marks : mark_by inside 0 ++ mark_by inside 17 ++ mark_by inside 18 ++ mark_by inside 20 ++ mark_by inside 21 ++ mark_by inside 29 ++ mark_by inside 30 ++ mark_by inside 33 ≡ codes " IN 18 IN 18 IN 30 IN 30"
+marks : mark_by inside 0 ++ mark_by inside 17 ++ mark_by inside 18 ++ mark_by inside 20 ++ mark_by inside 21 ++ mark_by inside 29 ++ mark_by inside 30 ++ mark_by inside 33 ≡ codes " IN STEP 18 IN STEP 18 IN STEP 30 IN STEP 30"
 unfolding digits
 marks = refl
 
@@ -33,11 +37,16 @@ marks = refl
 never_entered : entered_mark None ≡ codes ""
 never_entered = refl
 
--- the mark ends a line
+-- the mark ends a line, and is no cell where a symbol is called IN: after a cell stands its word
 lines : by_line 20 (codes "ADS TICKS") (codes " A 000001") (codes " A 000001 TICKS 00000") (mark_by inside 19) ++ by_line 22 (codes "TS SUM") (codes " SUM 00001") (codes " A 000001") (mark_by inside 21)
-    ≡ codes "BY 20 ADS TICKS : A 000001 FROM A 000001 TICKS 00000 IN 18\nBY 22 TS SUM : SUM 00001 FROM A 000001\n"
+    ≡ codes "BY 20 ADS TICKS : A 000001 FROM A 000001 TICKS 00000 IN STEP 18\nBY 22 TS SUM : SUM 00001 FROM A 000001\n"
 unfolding digits
 lines = refl
+
+-- a word of fixed memory by its symbol, else by its place as a listing has it
+fixed : (rope : Words) → word_at rope 2 0o122 ≡ 0o12 → word_at rope 2 0o123 ≡ 0o24 → reads_part ((codes "TABLE", value.Fixed 2 0o122) ∷ []) rope start (InRope 2 0o122 ∷ InRope 2 0o123 ∷ []) ≡ codes " TABLE 00012 02,4123 00024"
+unfolding symbol_at place_text window octal_text
+fixed rope first second = rw (first, second) refl
 
 -- the line of an INDEX, with the sum as an offset of a source: 1, 0, and in ones' complement -2 and -0
 moved : index_by 34 (codes "INDEX COUNT") 1 (codes " COUNT 00001") ++ index_by 41 (codes "INDEX COUNT") 0 (codes " COUNT 00000") ++ index_by 9 (codes "INDEX L") 0o177775 (codes " L 77775") ++ index_by 10 (codes "INDEX 0007") 0o177777 (codes " NOTHING")

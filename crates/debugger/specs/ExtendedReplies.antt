@@ -2,6 +2,8 @@
 use Rattle.std.specs.Prelude.{ℕ, ◌+◌, ◌-◌, nat_lt, nat_le, ◌&&◌, min, Option, None, Some, is_some, List, [], ◌∷◌, ◌++◌, length, codes, decimal, if◌then◌else◌}
 use Rattle.std.specs.List.{remove}
 use Rattle.words.specs.Numerals.{octal_text}
+use Rattle.space.specs.declared.place.Linear.TheVariants.{Erasable}
+use Rattle.yayul.specs.Listing.{place_text}
 use Rattle.commands.specs.Usages.{usages, help_lines}
 use Rattle.commands.specs.declared.command.Breakpoint.{Breakpoint}
 use Rattle.commands.specs.declared.command.Breakpoint.TheVariants.{Place, Word, Channel, Bits, Cycles, Returned, Outside, Executed, Changed}
@@ -13,7 +15,6 @@ use Rattle.cpu.specs.Run.{run}
 use Rattle.debugger.specs.History.{History, in_manner}
 use Rattle.debugger.specs.declared.manner.Manner.TheVariants as manner
 use Rattle.debugger.specs.AllRegisters.{all_registers}
-use Rattle.debugger.specs.PlaceTexts.{place_text}
 use Rattle.debugger.specs.Whys.{subject_spots, why_text, last_text}
 use Rattle.debugger.specs.Standing.{where_text, found_text, words_text, rows_text}
 use Rattle.debugger.specs.declared.rows.RowKind.TheVariants.{Instruction, Number}
@@ -28,15 +29,15 @@ use Rattle.debugger.specs.declared.ending.Ending.TheVariants.{Reached, Hit, NoMe
 use Rattle.commands.specs.Extended.{most_count}
 use Rattle.debugger.specs.Replies.{Desk, Reply, says, here, line, refuses, answer, reply, sought, moves, stands, ending_line, after_text, after_growth, after_steps}
 
--- an erasable place or a channel as a command names it
+-- an erasable place as a listing has it, or a channel
 abbrev pub subject_text : Subject → List ℕ
-subject_text (subject.Place p) = octal_text 4 p
+subject_text (subject.Place p) = place_text (Erasable p)
 subject_text (subject.Channel c) = codes "CH" ++ octal_text 3 c
 
--- a breakpoint as the command that sets it
+-- a breakpoint as the command that sets it, with its place as a listing has it
 abbrev pub breakpoint_text : Breakpoint → List ℕ
 breakpoint_text (Place place) = codes "at " ++ place_text place
-breakpoint_text (Word p w) = codes "word " ++ octal_text 4 p ++ codes " " ++ octal_text 5 w
+breakpoint_text (Word p w) = codes "word " ++ place_text (Erasable p) ++ codes " " ++ octal_text 5 w
 breakpoint_text (Channel c w) = codes "chan " ++ octal_text 3 c ++ codes " " ++ octal_text 5 w
 breakpoint_text (Bits c w mask) = codes "chan " ++ octal_text 3 c ++ codes " " ++ octal_text 5 w ++ codes " " ++ octal_text 5 mask
 breakpoint_text (Cycles cycles) = codes "cycles " ++ decimal cycles

@@ -4,7 +4,6 @@ pub mod Growth
 pub mod Stopping
 pub mod Replies
 pub mod Positions
-pub mod PlaceTexts
 pub mod Whys
 pub mod ToldLinks
 pub mod Rows

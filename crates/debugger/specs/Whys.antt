@@ -8,6 +8,7 @@ use Rattle.space.specs.Cells.{Cells}
 use Rattle.space.specs.declared.place.Linear.TheVariants.{Fixed}
 use Rattle.rope.specs.Places.{Words, word_at}
 use Rattle.symbols.specs.Values.{SymbolTable}
+use Rattle.yayul.specs.Listing.{place_text}
 use Rattle.cpu.specs.State.{State, Scenario, start}
 use Rattle.cpu.specs.Run.{run}
 use Rattle.cpu.specs.Codes.{code_of}
@@ -29,7 +30,6 @@ use Rattle.commands.specs.declared.extended.IndexLines.TheVariants.{Omitted, Tol
 use Rattle.commands.specs.declared.subject.Subject.{Subject}
 use Rattle.commands.specs.declared.subject.Subject.TheVariants.{Place, Channel}
 use Rattle.debugger.specs.Replies.{line}
-use Rattle.debugger.specs.PlaceTexts.{place_text}
 
 -- cells
 abbrev pub CellSet : Type 0
@@ -131,7 +131,7 @@ last_outside scenario p = last_not (λ t. (run scenario t).inside) p
 -- after the last outside
 abbrev pub entered_mark : Option ℕ → List ℕ
 entered_mark None = []
-entered_mark (Some t) = codes " IN " ++ decimal (t + 1)
+entered_mark (Some t) = codes " IN STEP " ++ decimal (t + 1)
 
 abbrev pub mark_by : (ℕ → Bool) → ℕ → List ℕ
 mark_by inside t = if inside t then entered_mark (last_not inside t) else []

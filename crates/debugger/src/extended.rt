@@ -9,8 +9,8 @@ ghost use Rattle.cpu.specs.Run.{outs};
 ghost use Rattle.replay.specs.View.{SessionView};
 ghost use Rattle.debugger.specs.Terms.{Terms};
 ghost use Rattle.commands.specs.declared.extended.ExtendedLine.TheVariants as asked;
+ghost use Rattle.yayul.specs.Listing.{place_text};
 ghost use Rattle.debugger.specs.Replies.{last_of, tail_length, line, hit_text, at_line_of};
-ghost use Rattle.debugger.specs.PlaceTexts.{place_text};
 ghost use Rattle.debugger.specs.ExtendedReplies.{breakpoint_text, breaks_from, next_stop, subject_text};
 ghost use Rattle.debugger.specs.History.{history};
 ghost use Rattle.debugger.specs.Growth.{hit_at};
@@ -32,6 +32,7 @@ use replay::{Keeper, Session};
 use space::Chan;
 use space::place::Linear;
 use symbols::Symbols;
+use trace::place_text;
 use words::{Word, Write, WriteFailed, push_all, push_decimal, push_octal, write_all};
 use yayul::SourceRows;
 
@@ -214,7 +215,7 @@ fn breaks_text(breakpoints: &Breakpoints) -> BreaksText
     text
 }
 
-/// Adds a breakpoint as the command that sets it.
+/// Adds a breakpoint as the command that sets it, with its place as a listing has it.
 #[tactic(auto, using(words::proofs::Digits::short_decimal))]
 fn push_breakpoint(text: &mut BreaksText, breakpoint: Breakpoint)
     requires { array_vec_len text.old ≤ 1000 }
@@ -228,7 +229,7 @@ fn push_breakpoint(text: &mut BreaksText, breakpoint: Breakpoint)
         }
         Breakpoint::Word(place, word) => {
             push_all(text, b"word ");
-            push_octal(text, 4, place.number());
+            push_place(text, Linear::Erasable(place));
             push_all(text, b" ");
             push_octal(text, 5, word.to_u16());
         }
@@ -270,14 +271,14 @@ fn push_channel(text: &mut BreaksText, channel: Chan, word: Word)
     push_octal(text, 5, word.to_u16());
 }
 
-/// Adds an erasable place or a channel as a command names it.
+/// Adds an erasable place as a listing has it, or a channel.
 fn push_subject(text: &mut BreaksText, subject: Subject)
     requires { array_vec_len text.old ≤ 1009 }
     ensures items { text.new.items ≡ text.old.items ++ subject_text subject }
-    ensures short { array_vec_len text.new ≤ array_vec_len text.old + 5 }
+    ensures short { array_vec_len text.new ≤ array_vec_len text.old + 7 }
 {
     match subject {
-        Subject::Place(place) => push_octal(text, 4, place.number()),
+        Subject::Place(place) => push_place(text, Linear::Erasable(place)),
         Subject::Channel(channel) => {
             push_all(text, b"CH");
             push_octal(text, 3, channel.number());
@@ -285,18 +286,11 @@ fn push_subject(text: &mut BreaksText, subject: Subject)
     }
 }
 
-/// Adds a place as a command names it.
+/// Adds a place as a listing has it.
 fn push_place(text: &mut BreaksText, place: Linear)
     requires { array_vec_len text.old ≤ 1009 }
     ensures items { text.new.items ≡ text.old.items ++ place_text place }
-    ensures short { array_vec_len text.new ≤ array_vec_len text.old + 7 }
+    ensures len { array_vec_len text.new ≡ array_vec_len text.old + 7 }
 {
-    match place {
-        Linear::Erasable(number) => push_octal(text, 4, number.number()),
-        Linear::Fixed(bank, offset) => {
-            push_octal(text, 2, bank.number());
-            push_all(text, b",");
-            push_octal(text, 4, offset.number());
-        }
-    }
+    push_all(text, place_text(place).as_slice());
 }

@@ -6,7 +6,6 @@ ghost use Rattle.arrayvec.specs.ArrayVec.{array_vec_len};
 ghost use Rattle.space.specs.declared.place.Linear.TheVariants.{Fixed};
 ghost use Rattle.cpu.specs.State.{FitsRun};
 ghost use Rattle.trace.specs.TraceLines.{place_name};
-ghost use Rattle.debugger.specs.PlaceTexts.{place_text};
 ghost use Rattle.debugger.specs.Whys.{cell_text, fixed_text, spot_text, kind_part, cells_part, reads_part, entered_mark, by_line, end_text, cells_of};
 
 use crate::links::{Cells, cells_of};
@@ -14,7 +13,7 @@ use arrayvec::ArrayVec;
 use cpu::{Cell, CellSet, Machine, NextStep, Processor, Spot};
 use space::{Bank, Linear, Offset};
 use symbols::Symbols;
-use trace::{cell_name, cell_reading, fetched_text, input_text, place_name};
+use trace::{cell_name, cell_reading, fetched_text, input_text, place_name, place_text};
 use words::{push_all, push_decimal, push_octal};
 
 /// The most bytes of what a step is, or of a spot with its word.
@@ -163,13 +162,10 @@ fn fixed_text(symbols: &Symbols, processor: &Processor, bank: Bank, offset: Offs
 {
     let mut text = ArrayVec::new();
     push_all(&mut text, b" ");
-    match place_name(symbols, Linear::Fixed(bank, offset)) {
+    let place = Linear::Fixed(bank, offset);
+    match place_name(symbols, place) {
         Some(name) => push_all(&mut text, name),
-        None => {
-            push_octal(&mut text, 2, bank.number());
-            push_all(&mut text, b",");
-            push_octal(&mut text, 4, offset.number());
-        }
+        None => push_all(&mut text, place_text(place).as_slice()),
     }
     push_all(&mut text, b" ");
     push_octal(&mut text, 5, processor.rope().word(bank, offset).to_u16());
@@ -181,10 +177,10 @@ fn fixed_text(symbols: &Symbols, processor: &Processor, bank: Bank, offset: Offs
 pub(crate) fn entered_mark(outside: u64) -> Piece
     requires { outside + 1 < 2 ^ 64 }
     ensures items { result.items ≡ entered_mark (Some outside) }
-    ensures short { array_vec_len result ≤ 24 }
+    ensures short { array_vec_len result ≤ 29 }
 {
     let mut mark = ArrayVec::new();
-    push_all(&mut mark, b" IN ");
+    push_all(&mut mark, b" IN STEP ");
     push_decimal(&mut mark, outside + 1);
     mark
 }
@@ -198,7 +194,7 @@ pub(crate) fn by_line(
     reads: &Part,
     mark: &Piece,
 ) -> LinkLine
-    requires { array_vec_len mark.now ≤ 24 }
+    requires { array_vec_len mark.now ≤ 29 }
     ensures items { result.items ≡ by_line number kind.now.items cells.now.items reads.now.items mark.now.items }
     ensures short { array_vec_len result ≤ 2048 }
 {

@@ -210,7 +210,7 @@ fn mark_part<K: Keeper>(session: &mut Session<K>, step: u64, inside: bool) -> Pi
     requires within { step < session.old.n }
     requires known { inside ≡ (run session.old.scenario step).inside }
     ensures items { result.items ≡ mark_part session.old.scenario step }
-    ensures short { array_vec_len result ≤ 24 }
+    ensures short { array_vec_len result ≤ 29 }
     ensures looked { HasLooked session.old session.new (2 * session.old.n) }
 {
     if !inside {

@@ -8,8 +8,8 @@ use std::process::Abort;
 use test_devices::{FaultyReader, FaultyWriter, Trouble};
 use words::{Buffer, Read, Write};
 use workshop::{
-    Language, Version, WorkshopFault, asm_engine, compare_engine, debug_engine, debug_image_engine,
-    run_engine, run_image_engine, sums_engine, upgrade_engine, words_engine,
+    Compared, Language, Version, WorkshopFault, asm_engine, compare_engine, debug_engine,
+    debug_image_engine, run_engine, run_image_engine, sums_engine, upgrade_engine, words_engine,
 };
 
 /// The engines.
@@ -74,7 +74,15 @@ impl<R: Read, W: Write> Devices<R, W> {
             Engine::DebugImage => debug_image_engine(alloc, first, two, second, third, out),
             Engine::Upgrade => upgrade_engine(alloc, first, out),
             Engine::Words => words_engine(alloc, first, two, Bank::try_new(2), out),
-            Engine::Compare => match compare_engine(alloc, first, two, second, two, out) {
+            Engine::Compare => match compare_engine(
+                alloc,
+                first,
+                two,
+                second,
+                two,
+                &mut Compared::Old,
+                out,
+            ) {
                 Ok(_) => Ok(()),
                 Err(fault) => Err(fault),
             },

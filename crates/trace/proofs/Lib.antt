@@ -1,2 +1,3 @@
 pub mod Finding
+mod Rows
 pub mod Lines

@@ -147,10 +147,10 @@ what_text symbols rope s (Takes input) = step_fields (codes "-") (codes "INPUT")
 what_text symbols rope s (Enters k) = step_fields (place_text (entry_place k)) (codes "ENTRY") (interrupt_name k)
 what_text symbols rope s (Executes f) = step_fields (word_place f) (octal_text 5 f.word) (fetched_text symbols rope s f)
 
--- a cell: a place by its name or number, or a channel
+-- a cell: a place by its name, or as a listing has it; or a channel
 abbrev pub cell_name : SymbolTable → ℕ → List ℕ
 cell_name symbols c =
-    if nat_lt c erasable_count then unwrap_or (place_name symbols (linear.Erasable c)) (octal_text 4 c)
+    if nat_lt c erasable_count then unwrap_or (place_name symbols (linear.Erasable c)) (place_text (linear.Erasable c))
     else codes "CH" ++ octal_text 3 (c - erasable_count)
 
 -- what is read there: 16 bits at A and Q, elsewhere a word

@@ -3,11 +3,11 @@
 ghost use Rattle.std.specs.Prelude.{◌≡◌, ◌*◌, ◌+◌, ◌≤◌, ◌++◌, length, unwrap_or};
 ghost use Rattle.std.specs.List.{flat_map};
 ghost use Rattle.arrayvec.specs.ArrayVec.{array_vec_len};
-ghost use Rattle.words.specs.Numerals.{octal_text};
 ghost use Rattle.space.specs.declared.place.Linear.TheVariants.{Erasable};
+ghost use Rattle.yayul.specs.Listing.{place_text};
 ghost use Rattle.trace.specs.TraceLines.{cell_name, cell_reading, or_none, place_name, written};
 
-use crate::fields::Text;
+use crate::fields::{Text, place_text};
 use crate::names::{Names, place_name};
 use arrayvec::ArrayVec;
 use cpu::{Cell, Machine};
@@ -67,7 +67,7 @@ fn push_written<N: Names>(line: &mut Line, names: &N, machine: &Machine, cell: C
     }
 }
 
-/// A cell: a place by its name or its number, or a channel.
+/// A cell: a place by its name, or as a listing has it; or a channel.
 pub fn cell_name<N: Names>(names: &N, cell: Cell) -> Text
     ensures items { result.items ≡ cell_name (N.table names.now) cell }
     ensures short { array_vec_len result ≤ 8 }
@@ -84,17 +84,19 @@ pub fn cell_name<N: Names>(names: &N, cell: Cell) -> Text
     }
 }
 
-/// An erasable place by its name, or by its number.
+/// An erasable place by its name, or as a listing has it.
 fn erasable_name<N: Names>(names: &N, place: Eras) -> Text
-    ensures items { result.items ≡ unwrap_or (place_name (N.table names.now) (Erasable place)) (octal_text 4 place) }
+    ensures items { result.items ≡ unwrap_or (place_name (N.table names.now) (Erasable place)) (place_text (Erasable place)) }
     ensures short { array_vec_len result ≤ 8 }
 {
-    let mut text = ArrayVec::new();
     match place_name(names, Linear::Erasable(place)) {
-        Some(name) => push_all(&mut text, name),
-        None => push_octal(&mut text, 4, place.number()),
+        Some(name) => {
+            let mut text = ArrayVec::new();
+            push_all(&mut text, name);
+            text
+        }
+        None => place_text(Linear::Erasable(place)),
     }
-    text
 }
 
 /// What is read at a cell: 16 bits at A and Q, elsewhere a word.

@@ -12,6 +12,8 @@ use Rattle.audit.specs.declared.differences.Extent.TheVariants.{All, Filled}
 use Rattle.audit.specs.Parities.{wrong, parities}
 use Rattle.workshop.specs.declared.fault.WorkshopFault.{WorkshopFault}
 use Rattle.workshop.specs.declared.fault.WorkshopFault.TheVariants.{WriteFailed}
+use Rattle.workshop.specs.declared.ropes.Compared.{Compared}
+use Rattle.workshop.specs.declared.ropes.Compared.TheVariants as compared
 use Rattle.workshop.specs.Failures.{Reader, Writer}
 use Rattle.workshop.specs.Faults.{of_rope_fault}
 use Rattle.workshop.specs.Inputs.{assembled}
@@ -65,27 +67,29 @@ pub record ComparesNext (extent : Extent) (version : Version) (words : Words) (b
   pub reads : ReadsRope version before.new after.new read
   pub next : WritesDifferences extent words read before.out after.out result
 
-abbrev pub ComparesThen : Version → Result Words RopeFault → Comparing → Comparing → Result ℕ WorkshopFault → Type 0
-ComparesThen version (Ok words) before after result = ComparesNext All version words before after result
-ComparesThen version (Err fault) before after result =
-    (result ≡ Err (of_rope_fault fault)) × (after.new ≡ before.new) × (after.out ≡ before.out)
+abbrev pub ComparesThen : Version → Result Words RopeFault → Comparing → Comparing → Compared → Result ℕ WorkshopFault → Type 0
+ComparesThen version (Ok words) before after last result = ComparesNext All version words before after result × (last ≡ compared.New)
+ComparesThen version (Err fault) before after last result =
+    (result ≡ Err (of_rope_fault fault)) × (after.new ≡ before.new) × (after.out ≡ before.out) × (last ≡ compared.Old)
 
--- the first image is read, and then the second
-pub record Compares (first second : Version) (before after : Comparing) (result : Result ℕ WorkshopFault) : Type 0 where
+-- the first image is read, and then the second; and which was read last, of which a fault of an image is
+pub record Compares (first second : Version) (before after : Comparing) (last : Compared) (result : Result ℕ WorkshopFault) : Type 0 where
   pub read : Result Words RopeFault
   pub reads : ReadsRope first before.old after.old read
-  pub next : ComparesThen second read before after result
+  pub next : ComparesThen second read before after last result
 
 -- where a source was assembled an image is read, and after a fault nothing of it, and nothing is written
-abbrev pub ComparesOnlyThen : Version → Result Program WorkshopFault → Comparing → Comparing → Result ℕ WorkshopFault → Type 0
-ComparesOnlyThen version (Ok p) before after result = ComparesNext Filled version p.rope before after result
-ComparesOnlyThen version (Err fault) before after result = (result ≡ Err fault) × (after.new ≡ before.new) × (after.out ≡ before.out)
+abbrev pub ComparesOnlyThen : Version → Result Program WorkshopFault → Comparing → Comparing → Compared → Result ℕ WorkshopFault → Type 0
+ComparesOnlyThen version (Ok p) before after last result = ComparesNext Filled version p.rope before after result × (last ≡ compared.New)
+ComparesOnlyThen version (Err fault) before after last result =
+    (result ≡ Err fault) × (after.new ≡ before.new) × (after.out ≡ before.out) × (last ≡ compared.Old)
 
--- a source of a language is assembled, and then an image is read: they are compared at the places that the source fills
-pub record ComparesOnly (language : Language) (version : Version) (before after : Comparing) (result : Result ℕ WorkshopFault) : Type 0 where
+-- a source of a language is assembled, and then an image is read: they are compared at the places that the source fills; and which was
+-- read last
+pub record ComparesOnly (language : Language) (version : Version) (before after : Comparing) (last : Compared) (result : Result ℕ WorkshopFault) : Type 0 where
   pub program : Result Program WorkshopFault
   pub reads : Reads (λ old new. ReadsText (assembled language old) old new) before.old after.old program
-  pub next : ComparesOnlyThen version program before after result
+  pub next : ComparesOnlyThen version program before after last result
 
 -- the bytes of an image are read, where they are told; and the reader has failed exactly where that is answered
 pub record ReadsBytes (before after : Reader) (read : Result (List ℕ) RopeFault) : Type 0 where

@@ -41,8 +41,8 @@ pub use progress::Unheard;
 pub use refused::report_where;
 pub use rope::{Form, InForm, Version};
 pub use ropes::{
-    compare_engine, compare_only_engine, form_sums_engine, named_words_engine, parity_engine,
-    source_engine, sums_engine, upgrade_engine, words_engine,
+    Compared, compare_engine, compare_only_engine, form_sums_engine, named_words_engine,
+    parity_engine, source_engine, sums_engine, upgrade_engine, words_engine,
 };
 pub use space::Bank;
 pub use tracing::{trace_and_tell, trace_program};

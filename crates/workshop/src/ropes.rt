@@ -24,6 +24,15 @@ use trace::PlaceNames;
 use words::{Read, Write};
 use yayul::{Language, Symbols};
 
+/// Which of two that are compared.
+#[derive(Clone, Copy, PartialEq, Eq, Debug)]
+pub enum Compared {
+    /// The first: an image, or a source.
+    Old,
+    /// The second, an image.
+    New,
+}
+
 /// Reads a rope image of a version to its end, and writes a line for each word of a bank, or of all banks: its place, the
 /// word, and the instruction that it is.
 ///
@@ -139,20 +148,24 @@ pub fn upgrade_engine<R: Read, W: Write>(
 /// Reads two rope images, each of its version, to their ends, and writes a line for each place where their words differ, and
 /// then how many places there are, which it answers.
 ///
-/// The first fault of the old image is answered, else that of the new one, and then nothing is written.
+/// The first fault of the old image is answered, else that of the new one, and then nothing is written. Which of them was read last,
+/// of which a fault is, stands in `last`.
 pub fn compare_engine<A: Read, B: Read, W: Write>(
     alloc: Global,
     old: &mut A,
     old_version: Version,
     new: &mut B,
     new_version: Version,
+    last: &mut Compared,
     out: &mut W,
 ) -> Result<u32, WorkshopFault>
     ensures { Compares old_version new_version
         (record { old = reader A.told A.left A.failures old.old; new = reader B.told B.left B.failures new.old; out = writer W.told W.written W.failures out.old })
-        (record { old = reader A.told A.left A.failures old.new; new = reader B.told B.left B.failures new.new; out = writer W.told W.written W.failures out.new }) result }
+        (record { old = reader A.told A.left A.failures old.new; new = reader B.told B.left B.failures new.new; out = writer W.told W.written W.failures out.new }) last.new result }
 {
+    *last = Compared::Old;
     let words = Rope::read(alloc, old, old_version)?;
+    *last = Compared::New;
     let others = Rope::read(alloc, new, new_version)?;
     Ok(write_differences(&words, &others, Extent::All, out)?)
 }
@@ -160,20 +173,24 @@ pub fn compare_engine<A: Read, B: Read, W: Write>(
 /// Assembles a source of a language, reads a rope image of a version to its end, and writes a line for each place that the source fills where
 /// the words differ, and then how many places there are, which it answers. Of the other places nothing is said.
 ///
-/// The source has at most 8,388,608 bytes. Its first fault is answered, else that of the image, and then nothing is written.
+/// The source has at most 8,388,608 bytes. Its first fault is answered, else that of the image, and then nothing is written. Which of
+/// them was read last stands in `last`.
 pub fn compare_only_engine<S: Read, R: Read, W: Write>(
     alloc: Global,
     language: Language,
     source: &mut S,
     image: &mut R,
     version: Version,
+    last: &mut Compared,
     out: &mut W,
 ) -> Result<u32, WorkshopFault>
     ensures { ComparesOnly language version
         (record { old = reader S.told S.left S.failures source.old; new = reader R.told R.left R.failures image.old; out = writer W.told W.written W.failures out.old })
-        (record { old = reader S.told S.left S.failures source.new; new = reader R.told R.left R.failures image.new; out = writer W.told W.written W.failures out.new }) result }
+        (record { old = reader S.told S.left S.failures source.new; new = reader R.told R.left R.failures image.new; out = writer W.told W.written W.failures out.new }) last.new result }
 {
+    *last = Compared::Old;
     let program = read_program(alloc, language, source)?;
+    *last = Compared::New;
     let words = Rope::read(alloc, image, version)?;
     Ok(write_differences(program.rope(), &words, Extent::Filled, out)?)
 }

@@ -1,4 +1,4 @@
-use Rattle.std.proofs.Common.{Ok}
+use Rattle.std.proofs.Common.{Ok, refl}
 use Rattle.std.proofs.lemmas.Result.{err_from_is_err_and}
 use Rattle.workshop.proofs.ropes.compare_only_engine.Goals as goal
 
@@ -8,9 +8,12 @@ returns-in_err-write_differences g c =
     rw (p.1, p.2) (record {
       program = Ok c.in_ok-program.program;
       reads = c.in_ok-program.ensures;
-      next = record {
-        read = Ok c.in_ok-words.words;
-        reads = record { bytes = c.in_ok-words.ensures.bytes; failures = c.in_ok-words.ensures.failures };
-        next = ((λ told. rw c.rope.ensures at (c.in_err-write_differences.ensures.written told), c.in_err-write_differences.ensures.failures), tt);
-      };
+      next = (
+        record {
+          read = Ok c.in_ok-words.words;
+          reads = record { bytes = c.in_ok-words.ensures.bytes; failures = c.in_ok-words.ensures.failures };
+          next = ((λ told. rw c.rope.ensures at (c.in_err-write_differences.ensures.written told), c.in_err-write_differences.ensures.failures), tt);
+        },
+        refl,
+      );
     })
