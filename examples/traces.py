@@ -67,7 +67,11 @@ def place_asked(name, symbols):
     if name.startswith("CH") and name not in symbols:
         return f"chan {name[2:]}"
     number = REGISTERS.get(name, symbols.get(name))
-    return f"mem {int(name, 8) if number is None else number:o}"
+    if number is None:
+        # (an erasable place as a listing has it)
+        bank, address = name[1:].split(",")
+        number = int(bank, 8) << 8 | int(address, 8) & 0o377
+    return f"mem {number:o}"
 
 
 def is_same_text(line, told, symbols):

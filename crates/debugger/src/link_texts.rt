@@ -162,10 +162,12 @@ fn fixed_text(symbols: &Symbols, processor: &Processor, bank: Bank, offset: Offs
 {
     let mut text = ArrayVec::new();
     push_all(&mut text, b" ");
-    let place = Linear::Fixed(bank, offset);
-    match place_name(symbols, place) {
+    match place_name(symbols, Linear::Fixed(bank, offset)) {
         Some(name) => push_all(&mut text, name),
-        None => push_all(&mut text, place_text(place).as_slice()),
+        None => push_all(
+            &mut text,
+            place_text(Linear::Fixed(bank, offset)).as_slice(),
+        ),
     }
     push_all(&mut text, b" ");
     push_octal(&mut text, 5, processor.rope().word(bank, offset).to_u16());
