@@ -4,6 +4,7 @@ pub mod ChainText
 pub mod CellNumbers
 pub mod WhyLines
 pub mod Indexing
+pub mod Moved
 pub mod PartByPart
 pub mod Standings
 pub mod Based

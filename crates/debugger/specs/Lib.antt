@@ -7,6 +7,7 @@ pub mod Positions
 pub mod PlaceTexts
 pub mod Whys
 pub mod ToldLinks
+pub mod Moved
 pub mod Rows
 pub mod Standing
 pub mod Retracing
