@@ -28,6 +28,8 @@ mod Retraced
 pub mod Travelling
 pub mod Added
 pub mod InputsRead
+pub mod AddedLines
+pub mod AddedBack
 mod RoutineRows
 mod InputRows
 pub mod Entered
