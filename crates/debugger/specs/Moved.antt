@@ -35,7 +35,8 @@ MovesWord scenario s x =
     unsigned_abs (value (word_at_z scenario.rope s) +ℤ value x) < 2 ^ 14
     → IsMovedBy s.extra (word_at_z scenario.rope s) x (instruction_word scenario.rope s)
 
--- What `why` tells of an instruction to which a sum was added, as the step of the INDEX, is one, and it is that INDEX which moved it.
+-- What `why` tells of an instruction to which a sum was added, as the step of the INDEX, is one, and it is that INDEX which moved it: by the value where it read a
+-- word.
 pub record TellsIndex (scenario : Scenario) (t sum : ℕ) : Type 0 where
   pub stands : is_some (last_executed scenario t) ≡ true
   pub index : (i : ℕ) → last_executed scenario t ≡ Some i → IsIndexBefore scenario t sum i
