@@ -3,6 +3,7 @@ use Rattle.std.proofs.Common.{◌≡◌, ℕ, ◌+◌, ◌<◌, ◌≤◌, suc, 
 use Rattle.std.specs.Prelude.{nat_le, nat_lt, codes}
 use Rattle.std.proofs.lemmas.Bool.{cases_Bool}
 use Rattle.std.proofs.lemmas.Bool.Decides.{nat_tests}
+use Rattle.std.proofs.lemmas.List.{nil_from_length}
 use Rattle.std.proofs.lemmas.List.Elements.{All-nil, All-cons, All-head, All-tail, All-weaker}
 use Rattle.symbols.specs.Values.{SymbolTable}
 use Rattle.yayul.specs.Program.{Source}
@@ -28,7 +29,7 @@ use Rattle.debugger.specs.Additions.{line_after, with_added}
 use Rattle.debugger.specs.Conversation.{Reading, to_asked, desk_after}
 use Rattle.debugger.specs.ExtendedReplies.{extended_reply, clears_one, next_stop, stops_on, first_at, goes_until, further}
 use Rattle.debugger.specs.History.{History, history}
-use Rattle.debugger.specs.ReadBack.{SessionReadsBack, standing_from}
+use Rattle.debugger.specs.ReadBack.{NoneAtFirst, SessionReadsBack, standing_from}
 use Rattle.debugger.specs.Replies.{Desk, Reply, answer, reply, refuses, addition_to_come, added_on, adds}
 use Rattle.debugger.specs.Routines.{next_end, goes_on, goes_out_to}
 use Rattle.debugger.specs.Terms.{Terms, first_added, terms_of}
@@ -93,14 +94,17 @@ none_stands first (e ∷ more) h = elim (cases_Bool (is_from None e)) [
   | inr passed ↦ rw passed (none_stands first more (All-tail (IsBelow first) e more h))
 ]
 
+pub none_at_first : (scenario : Scenario) → NoneAtFirst scenario
+none_at_first scenario =
+    nil_from_length (standing_from (first_added scenario) scenario) (none_stands (first_added scenario) scenario.inputs (all_below (first_added scenario) scenario.inputs (omega arith)))
+
 good_at_first : (scenario : Scenario) → AreGood (first_added scenario) scenario
 good_at_first scenario =
     let first = first_added scenario in
     let below = all_below first scenario.inputs (omega arith) in
-    let none = none_stands first scenario.inputs below in
     record {
       each = All-weaker (IsBelow first) (IsGood first) (λ e low told from. absurd (let no_more = not_told first e.line (low from) in cc)) scenario.inputs below;
-      few = omega (arith, none);
+      few = rw (none_at_first scenario) (omega arith);
     }
 
 -- one more

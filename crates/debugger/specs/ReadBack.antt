@@ -10,7 +10,7 @@ use Rattle.yayul.specs.Program.{Source}
 use Rattle.commands.specs.Extended.{extended_line}
 use Rattle.commands.specs.declared.extended.ExtendedLine.TheVariants.{Inputs}
 use Rattle.debugger.specs.Conversation.{to_asked, desk_after}
-use Rattle.debugger.specs.Terms.{plain_inputs, terms_of}
+use Rattle.debugger.specs.Terms.{plain_inputs, first_added, terms_of}
 use Rattle.debugger.specs.Transcript.{first_desk}
 
 -- what a line says that gives an input
@@ -21,11 +21,15 @@ giving e = Gives e.cycle e.input
 abbrev pub standing_from : ℕ → Scenario → List Entry
 standing_from first scenario = filter (λ e. nat_le first e.line) (plain_inputs scenario)
 
+-- Of the inputs with which a session begins none stands on the line from which on `inputs` tells, or after it.
+abbrev pub NoneAtFirst : Scenario → Type 0
+NoneAtFirst scenario = standing_from (first_added scenario) scenario ≡ []
+
 -- read as a feed, the lines of a text give each of them, in order, and the comment after them nothing
 abbrev pub ReadsBack : ℕ → Scenario → List ℕ → Type 0
 ReadsBack first scenario text = statements text ≡ map giving (standing_from first scenario) ++ Nothing ∷ []
 
--- Whatever lines an extended session has replied to, its reply to `inputs` reads back as the inputs that then stand after those with which it began.
+-- Whatever lines an extended session has replied to, its reply to `inputs` reads back as the inputs that then stand there.
 abbrev pub SessionReadsBack : SymbolTable → Source → Scenario → List Bool → List (Option ℕ) → List (List ℕ) → Type 0
 SessionReadsBack symbols source scenario answers additions lines =
     let terms = terms_of symbols source scenario in

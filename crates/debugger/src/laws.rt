@@ -5,11 +5,12 @@ ghost use Rattle.cpu.specs.State.{Scenario};
 ghost use Rattle.symbols.specs.Values.{SymbolTable};
 ghost use Rattle.yayul.specs.Program.{Source};
 ghost use Rattle.debugger.specs.Moved.{IndexIsTold};
-ghost use Rattle.debugger.specs.ReadBack.{SessionReadsBack};
+ghost use Rattle.debugger.specs.ReadBack.{NoneAtFirst, SessionReadsBack};
 
 /// Whatever an extended session was asked before, what `inputs` replies is a feed: its lines give the inputs that were added, in order, and no others.
 pub fn inputs_read_back()
-    ensures { (symbols : SymbolTable) (source : Source) (scenario : Scenario) (answers : List Bool) (additions : List (Option ℕ)) (lines : List (List ℕ)) →
+    ensures none_at_first { (scenario : Scenario) → NoneAtFirst scenario }
+    ensures reads_back { (symbols : SymbolTable) (source : Source) (scenario : Scenario) (answers : List Bool) (additions : List (Option ℕ)) (lines : List (List ℕ)) →
         SessionReadsBack symbols source scenario answers additions lines }
 {}
 
