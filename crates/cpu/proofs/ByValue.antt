@@ -108,7 +108,7 @@ signed_below false m lt = omega arith
 value_small : (w : ℕ) → w < 32768 → unsigned_abs (value w) < 16384
 value_small w lt = magnitude_small w lt
 
-corrected_below : (x : ℕ) → correct x < 32768
+pub corrected_below : (x : ℕ) → correct x < 32768
 corrected_below x = grind (arith, nat_tests)
 
 -- ## MP
@@ -252,17 +252,17 @@ barred : (b c d : Bool) (o : Option ℕ) → cond (b || true || c || d) None o �
 barred true c d o = refl
 barred false c d o = refl
 
-sum_bars : (t : State) (x : ℕ) → t.waiting_sum ≡ Some x → entry t ≡ None
+pub sum_bars : (t : State) (x : ℕ) → t.waiting_sum ≡ Some x → entry t ≡ None
 unfolding entry
 sum_bars t x e =
     let overflows = has_overflow (over (accumulator_of t)) in
     ap (λ (o : Option ℕ). cond (t.inhibit || t.inside || t.extra || is_some o || is_some t.waiting_word || overflows) None (least_request t.requests)) e
     ∙ barred (t.inhibit || t.inside || t.extra) (is_some t.waiting_word) overflows (least_request t.requests)
 
-indexed : (w x : ℕ) → w < 32768 → x < 32768 → unsigned_abs (value w +ℤ value x) < 16384 → value (correct (sum (extend w) (extend x))) ≡ value w +ℤ value x
+pub indexed : (w x : ℕ) → w < 32768 → x < 32768 → unsigned_abs (value w +ℤ value x) < 16384 → value (correct (sum (extend w) (extend x))) ≡ value w +ℤ value x
 indexed w x p q few = grind (arith, ints, nat_tests)
 
-word_of : (rope : Words) (t : State) (x : ℕ) → t.waiting_sum ≡ Some x → t.waiting_word ≡ None → instruction_word rope t ≡ correct (sum (extend (word_at_z rope t)) x)
+pub word_of : (rope : Words) (t : State) (x : ℕ) → t.waiting_sum ≡ Some x → t.waiting_word ≡ None → instruction_word rope t ≡ correct (sum (extend (word_at_z rope t)) x)
 unfolding instruction_word
 word_of rope t x es ew = rw (es, ew) refl
 

@@ -35,7 +35,7 @@ use Rattle.cpu.proofs.Following.{Leads}
 use Rattle.cpu.proofs.Linking.{fetched_by, fetched_place, fetched_agree, next_tracks, alike_agree}
 
 -- what waits is as it was
-abbrev Keeps : State → State → Type 0
+abbrev pub Keeps : State → State → Type 0
 Keeps s u = (u.waiting_sum ≡ s.waiting_sum) × (u.waiting_word ≡ s.waiting_word)
 
 cond_keeps : (s : State) (b : Bool) (cs ds : List Change) → Keeps s (changes s cs) → Keeps s (changes s ds) → Keeps s (changes s (cond b cs ds))
@@ -56,18 +56,18 @@ two_edits_keep u l m x y =
     )
 
 -- what each instruction leaves waiting
-abbrev left_sum : Words → State → Instruction → ℕ → Option ℕ
+abbrev pub left_sum : Words → State → Instruction → ℕ → Option ℕ
 left_sum r s Index k = Some (value_at r s (place_in s k))
 left_sum r s _ k = s.waiting_sum
 
-abbrev left_word : State → Instruction → Option ℕ
+abbrev pub left_word : State → Instruction → Option ℕ
 left_word s Resume = Some (correct (get s.cells interrupted_word))
 left_word s _ = s.waiting_word
 
-abbrev LeavesWaiting : Words → State → Instruction → ℕ → Type 0
+abbrev pub LeavesWaiting : Words → State → Instruction → ℕ → Type 0
 LeavesWaiting r s i k = ((after r s i k).waiting_sum ≡ left_sum r s i k) × ((after r s i k).waiting_word ≡ left_word s i)
 
-leaves_waiting : (r : Words) (s : State) (i : Instruction) (k : ℕ) → LeavesWaiting r s i k
+pub leaves_waiting : (r : Words) (s : State) (i : Instruction) (k : ℕ) → LeavesWaiting r s i k
 unfolding after resume tc ccs tcf das lxch incr ads ca cs index dxch ts xch ad mask read write rand wand ror wor rxor dv bzf msu qxch aug dim dca dcs su bzmf mp relint inhint
 leaves_waiting r s Tc k = cond_keeps s (k == return_address) _ _ (refl, refl) (refl, refl)
 leaves_waiting r s Ccs k = edits_keep _ (place_in s k) _
@@ -107,7 +107,7 @@ carry_keeps s (Some other) x false e = (
   ap (λ b. (cond b (stepped s other (pinc (count_of s other))) s).waiting_word) e,
 )
 
-input_keeps : (s : State) (input : Input) → Keeps s (input_effect s input)
+pub input_keeps : (s : State) (input : Input) → Keeps s (input_effect s input)
 unfolding counted received
 input_keeps s (Count counter sequence) =
     let step = step_of sequence (count_of s counter) in

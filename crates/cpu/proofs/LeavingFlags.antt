@@ -111,14 +111,14 @@ carry_stays s (Some other) x true e =
 carry_stays s (Some other) x false e =
     (ap (λ b. (cond b (stepped s other (pinc (count_of s other))) s).extra) e, (ap (λ b. (cond b (stepped s other (pinc (count_of s other))) s).inhibit) e, (ap (λ b. (cond b (stepped s other (pinc (count_of s other))) s).inside) e, ap (λ b. (cond b (stepped s other (pinc (count_of s other))) s).requests) e)))
 
-abbrev KeepsFlags : State → State → Type 0
+abbrev pub KeepsFlags : State → State → Type 0
 KeepsFlags s u = (u.extra ≡ s.extra) × ((u.inhibit ≡ s.inhibit) × (u.inside ≡ s.inside))
 
 asked_keeps : (s : State) (o : Option ℕ) → KeepsFlags s (asked s o)
 asked_keeps s None = (refl, (refl, refl))
 asked_keeps s (Some k) = (refl, (refl, refl))
 
-input_keeps : (s : State) (input : Input) → KeepsFlags s (input_effect s input)
+pub input_keeps : (s : State) (input : Input) → KeepsFlags s (input_effect s input)
 unfolding counted received
 input_keeps s (Count counter sequence) =
     let step = step_of sequence (count_of s counter) in

@@ -24,6 +24,8 @@ pub mod Leaving
 pub mod Trails
 pub mod LeavingBeside
 pub mod LeavingFlags
+pub mod WaitingSums
+pub mod CodeWords
 pub mod Framing
 pub mod Chaining
 pub mod CellSets

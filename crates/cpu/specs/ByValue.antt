@@ -95,6 +95,10 @@ abbrev pub CountsDown : Scenario → State → (k x z : ℕ) → Type 0
 CountsDown scenario s k x z = Executes scenario s Ccs k → reads_at scenario s k ≡ x → next_address (fetched s) ≡ z → Counts (next scenario s).0 x z
 
 -- ## INDEX
+-- a step executes INDEX with an operand
+abbrev pub ExecutesIndex : Scenario → State → ℕ → Type 0
+ExecutesIndex scenario s k = Executes scenario s Index k
+
 -- The next instruction has the sum of the values of its word and of K's, where a word has that; extracode stays as it is, and no interrupt comes between.
 pub record AddsToNext (scenario : Scenario) (s t : State) (x : ℕ) : Type 0 where
   pub sum : unsigned_abs (value (word_at_z scenario.rope t) +ℤ value x) < 2 ^ 14 → value (instruction_word scenario.rope t) ≡ value (word_at_z scenario.rope t) +ℤ value x
@@ -102,7 +106,7 @@ pub record AddsToNext (scenario : Scenario) (s t : State) (x : ℕ) : Type 0 whe
   pub none_entered : entry t ≡ None
 
 abbrev pub IndexesByValue : Scenario → State → (k x : ℕ) → Type 0
-IndexesByValue scenario s k x = Executes scenario s Index k → reads_at scenario s k ≡ extend x → AddsToNext scenario s (next scenario s).0 x
+IndexesByValue scenario s k x = ExecutesIndex scenario s k → reads_at scenario s k ≡ extend x → AddsToNext scenario s (next scenario s).0 x
 
 -- ## TIME2 and TIME1
 abbrev pub greatest_value : ℕ

@@ -1,5 +1,5 @@
 -- Inputs that were added, told as lines by the definitions alone.
-use Rattle.std.proofs.Common.{◌≡◌, ℕ, List, [], ◌∷◌, ◌++◌, Some, None, Ok, map, refl}
+use Rattle.std.proofs.Common.{◌≡◌, ℕ, [], ◌∷◌, Some, None, Ok, map, refl}
 use Rattle.std.specs.Prelude.{codes}
 use Rattle.std.specs.Fmt.{digits}
 use Rattle.agc_text.specs.Fields.{runs}
@@ -12,11 +12,19 @@ use Rattle.feed.specs.declared.input.Counter.TheVariants.{Time3, PipaX}
 use Rattle.feed.specs.declared.input.Input.{Input}
 use Rattle.feed.specs.declared.input.Input.TheVariants.{Count, Word, Interrupt}
 use Rattle.feed.specs.declared.input.Sequence.TheVariants.{Pinc, Minc}
-use Rattle.cpu.specs.State.{Scenario}
+use Rattle.cpu.specs.State.{Scenario, start}
+use Rattle.cpu.specs.Run.{run}
 use Rattle.cpu.proofs.FiveRun.{five}
+use Rattle.commands.specs.Extended.{extended_line, extended_forms}
+use Rattle.yayul.specs.PlaceRows.{no_source}
 use Rattle.debugger.specs.Additions.{with_added}
+use Rattle.debugger.specs.Conversation.{desk_after}
+use Rattle.debugger.specs.ExtendedReplies.{extended_reply}
+use Rattle.debugger.specs.History.{history}
 use Rattle.debugger.specs.Inputs.{inputs_text}
-use Rattle.debugger.specs.Terms.{first_added}
+use Rattle.debugger.specs.Replies.{answer, reply}
+use Rattle.debugger.specs.Terms.{first_added, terms_of}
+use Rattle.debugger.specs.Transcript.{first_desk}
 use Rattle.debugger.proofs.Scripts.{ended}
 
 -- what runs at first: two lines of a feed, and an input of a series on the third
@@ -42,3 +50,8 @@ all_added = refl
 read_back : map parsed (codes "9 PIPAX MINC" ∷ codes "20 CHAN 007 00012" ∷ codes "20 RUPT 5" ∷ []) ≡ Ok (9, Count PipaX Minc) ∷ Ok (20, Word 7 0o12) ∷ Ok (20, Interrupt 5) ∷ []
 unfolding parsed runs counters sequences
 read_back = refl
+
+-- where a session stands that was asked to add these, and one more by a sequence that its counter does not take
+asked : (desk_after (terms_of [] no_source first) (extended_line []) (first_desk first [] (Some 9 ∷ [])) (codes "add 20 CHAN 7 12" ∷ codes "add 20 RUPT 5" ∷ codes "add 20 TIME3 MINC" ∷ codes "add 9 PIPAX MINC" ∷ [])).scenario ≡ more
+unfolding extended_line extended_forms extended_reply answer reply parsed runs counters sequences digits history run start with_added inserted is_before
+asked = refl

@@ -1,5 +1,5 @@
 -- The lines that `inputs` tells, read as a feed.
-use Rattle.std.proofs.Common.{◌≡◌, ◌<◌, ◌≤◌, ◌+◌, ◌-◌, ◌*◌, ◌/◌, ◌%◌, ◌^◌, ◌&&◌, not, eqb, nat_le, ℕ, zero, suc, List, [], ◌∷◌, ◌++◌, length, take, drop, get_or, map, filter, All, Some, None, Ok, Bool, true, false, refl, arith, ◌∙◌, ap, sym, inl, inr, append_assoc, length-append}
+use Rattle.std.proofs.Common.{◌≡◌, ◌<◌, ◌≤◌, ◌+◌, ◌/◌, ◌%◌, ◌^◌, ◌&&◌, not, eqb, nat_le, ℕ, List, [], ◌∷◌, ◌++◌, length, take, drop, get_or, map, filter, All, Some, Ok, Bool, true, false, refl, arith, ◌∙◌, ap, sym, inl, inr, append_assoc, length-append}
 use Rattle.std.specs.Prelude.{codes, decimal}
 use Rattle.std.specs.List.{list_all, position_or_len}
 use Rattle.std.specs.Int.Digits.{number_from_digits}
@@ -13,17 +13,17 @@ use Rattle.std.proofs.lemmas.List.Elements.{All-head, All-tail}
 use Rattle.std.proofs.lemmas.List.Folds.{list_all-append}
 use Rattle.words.specs.Numerals.{octal_text}
 use Rattle.words.proofs.Digits.{length-octal_text}
-use Rattle.agc_text.specs.Bytes.{is_text_byte, line_feed}
-use Rattle.agc_text.specs.Digits.{digit_value, digits_value, is_digit, number_of}
-use Rattle.agc_text.specs.Fields.{is_blank, before_comment, fields, runs, texts}
+use Rattle.agc_text.specs.Bytes.{is_text_byte}
+use Rattle.agc_text.specs.Digits.{digit_value, is_digit, number_of}
+use Rattle.agc_text.specs.Fields.{is_blank, before_comment, runs, texts}
 use Rattle.agc_text.specs.Lines.{lines, HasNoFeed}
 use Rattle.agc_text.specs.Tables.{same_name, value_in}
 use Rattle.agc_text.proofs.LineLaws.{lines-ended, lines-none}
 use Rattle.agc_text.proofs.Splits.{texts-skip, texts-take, texts-none}
 use Rattle.feed.specs.Counters.{row_of}
-use Rattle.feed.specs.Feed.{statements}
+use Rattle.feed.specs.Given.{CanBeGiven, CanBeGivenAt}
 use Rattle.feed.specs.Names.{counters, sequences}
-use Rattle.feed.specs.Statements.{channel_in, cycle_in, input_in, is_input_channel, request_in, statement_in, statement_of, word_in}
+use Rattle.feed.specs.Statements.{input_in, statement_in, statement_of}
 use Rattle.feed.specs.declared.entry.Entry.{Entry}
 use Rattle.feed.specs.declared.input.Counter.{Counter}
 use Rattle.feed.specs.declared.input.Counter.TheVariants.{Time1, Time2, Time3, Time4, Time5, Time6, CduX, CduY, CduZ, OptY, OptX, PipaX, PipaY, PipaZ, Inlink}
@@ -31,13 +31,17 @@ use Rattle.feed.specs.declared.input.Input.{Input}
 use Rattle.feed.specs.declared.input.Input.TheVariants.{Count, Word, Interrupt}
 use Rattle.feed.specs.declared.input.Sequence.{Sequence}
 use Rattle.feed.specs.declared.input.Sequence.TheVariants.{Pinc, Minc, Dinc, Pcdu, Mcdu, Shinc, Shanc}
-use Rattle.feed.specs.declared.statement.Statement.TheVariants.{Nothing, Gives}
+use Rattle.feed.specs.declared.statement.Statement.TheVariants.{Nothing}
 use Rattle.yayul.proofs.Octals.{octal_all, octal_number}
 use Rattle.trace.specs.TraceLines.{input_text, sequence_name}
 use Rattle.cpu.specs.State.{Scenario}
-use Rattle.debugger.specs.Inputs.{input_line, inputs_text, lines_from}
-use Rattle.debugger.specs.ReadBack.{CanBeGiven, CanStand, ReadsBack, giving}
+use Rattle.debugger.specs.Inputs.{inputs_text, lines_from}
+use Rattle.debugger.specs.ReadBack.{ReadsBack, giving, standing_from}
 use Rattle.debugger.specs.Terms.{plain_inputs}
+
+-- an input that a line can give at its cycle
+abbrev pub IsGivable : Entry → Type 0
+IsGivable e = CanBeGivenAt e.cycle e.input
 
 -- ## Bytes
 -- a byte of a field, and one of a line before its comment
@@ -332,7 +336,7 @@ no_every (x ∷ xs) all = elim (cases_Bool (is_digit 10 x)) [
 ]
 
 -- a line that tells an input gives it
-line_says : (e : Entry) → CanStand e → statement_of (text_of_input e) ≡ giving e
+line_says : (e : Entry) → IsGivable e → statement_of (text_of_input e) ≡ giving e
 line_says e stands =
     let small : e.cycle < 2 ^ 64 = omega (arith, stands.0) in
     let few : length (decimal e.cycle) ≤ 15 = length-decimal-le 15 e.cycle (omega arith) stands.0 small in
@@ -355,7 +359,7 @@ no_feed (x ∷ xs) all = elim (cases_Bool (is_text_byte x)) [
 line_then : (text rest : List ℕ) → list_all is_text_byte text ≡ true → lines ((text ++ codes "\n") ++ rest) ≡ text ∷ lines rest
 line_then text rest all = ap lines (append_assoc text (codes "\n") rest) ∙ lines-ended text rest (no_feed text all)
 
-text_bytes : (e : Entry) → CanStand e → list_all is_text_byte (text_of_input e) ≡ true
+text_bytes : (e : Entry) → IsGivable e → list_all is_text_byte (text_of_input e) ≡ true
 text_bytes e stands =
     rw (is_joined e.cycle e.input) (all_weaker is_open is_text_byte text_of (joined (decimal e.cycle) (input_fields e.input)) (joined_open (decimal e.cycle) (input_fields e.input) (decimal_field e.cycle (omega (arith, stands.0))) (are_fields e.input stands.1)))
 
@@ -370,10 +374,10 @@ comment_says n small =
     let short : nat_le (length (codes "# COUNT " ++ decimal n)) 120 ≡ true = grind (arith, nat_tests, few) in
     rw (short, comment_bytes n small, texts-none [] refl) refl
 
-abbrev told_first : ℕ → Entry → Bool
+abbrev pub told_first : ℕ → Entry → Bool
 told_first first e = nat_le first e.line
 
-read_lines : (first n : ℕ) (es : List Entry) → n + length es < 2 ^ 64 → All CanStand (filter (told_first first) es)
+read_lines : (first n : ℕ) (es : List Entry) → n + length (filter (told_first first) es) < 2 ^ 64 → All IsGivable (filter (told_first first) es)
     → map statement_of (lines (lines_from first n es)) ≡ map giving (filter (told_first first) es) ++ Nothing ∷ []
 read_lines first n [] few all =
     let small : n < 2 ^ 64 = omega (arith, few) in
@@ -382,17 +386,20 @@ read_lines first n [] few all =
     ∙ rw (comment_says n small, lines-none [] refl) refl
 read_lines first n (e ∷ more) few all = elim (cases_Bool (nat_le first e.line)) [
   | inl told ↦ (
-      let here : All CanStand (e ∷ filter (told_first first) more) = rw told at all in
-      let stands = All-head CanStand e (filter (told_first first) more) here in
-      let later = read_lines first (n + 1) more (omega (arith, few)) (All-tail CanStand e (filter (told_first first) more) here) in
+      let here : All IsGivable (e ∷ filter (told_first first) more) = rw told at all in
+      let room : n + length (e ∷ filter (told_first first) more) < 2 ^ 64 = rw told at few in
+      let stands = All-head IsGivable e (filter (told_first first) more) here in
+      let later = read_lines first (n + 1) more (omega (arith, room)) (All-tail IsGivable e (filter (told_first first) more) here) in
       rw told (ap (map statement_of) (line_then (text_of_input e) (lines_from first (n + 1) more) (text_bytes e stands))
       ∙ ap (λ s. s ∷ map statement_of (lines (lines_from first (n + 1) more))) (line_says e stands)
       ∙ ap (λ ss. giving e ∷ ss) later))
   | inr passed ↦ (
-      let rest : All CanStand (filter (told_first first) more) = rw passed at all in
-      rw passed (read_lines first n more (omega (arith, few)) rest))
+      let rest : All IsGivable (filter (told_first first) more) = rw passed at all in
+      let room : n + length (filter (told_first first) more) < 2 ^ 64 = rw passed at few in
+      rw passed (read_lines first n more room rest))
 ]
 
-pub reads_back : (first : ℕ) (scenario : Scenario) → ReadsBack first scenario
+pub reads_back : (first : ℕ) (scenario : Scenario) → length (standing_from first scenario) < 2 ^ 64 → All IsGivable (standing_from first scenario)
+    → ReadsBack first scenario (inputs_text first scenario)
 unfolding inputs_text
 reads_back first scenario few all = read_lines first 0 (plain_inputs scenario) (omega (arith, few)) all

@@ -4,6 +4,7 @@ pub mod ChainText
 pub mod CellNumbers
 pub mod WhyLines
 pub mod Indexing
+pub mod Moved
 pub mod PartByPart
 pub mod Standings
 pub mod Based
@@ -27,6 +28,8 @@ mod Retraced
 pub mod Travelling
 pub mod Added
 pub mod InputsRead
+pub mod AddedLines
+pub mod AddedBack
 mod RoutineRows
 mod InputRows
 pub mod Entered

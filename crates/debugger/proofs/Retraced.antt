@@ -1,10 +1,9 @@
 -- The last steps up to one, a line each, by the steps that are made once more.
-use Rattle.std.proofs.Common.{◌≡◌, ℕ, zero, suc, ◌+◌, ◌-◌, ◌<◌, ◌≤◌, ltb, leb, true, false, List, [], ◌++◌, min, refl, sym, ap, ◌∙◌, arith, append-nil, add-one}
+use Rattle.std.proofs.Common.{◌≡◌, ℕ, zero, suc, ◌+◌, ◌-◌, ◌<◌, ◌≤◌, leb, true, false, [], min, refl, sym, ◌∙◌, arith}
 use Rattle.std.proofs.lemmas.Bool.Decides.{nat_tests}
-use Rattle.cpu.specs.State.{State, Scenario}
-use Rattle.cpu.specs.Run.{run}
+use Rattle.cpu.specs.State.{Scenario}
 use Rattle.symbols.specs.Values.{SymbolTable}
-use Rattle.trace.specs.TraceLines.{trace_line, line_from, trace_lines}
+use Rattle.trace.specs.TraceLines.{trace_line, trace_lines}
 use Rattle.trace.proofs.Lines.{lines_more}
 use Rattle.replay.specs.Retraced.{texts_after}
 use Rattle.debugger.specs.Retracing.{traced_text}

@@ -3,7 +3,6 @@ use Rattle.std.proofs.Common.{◌≡◌, ℕ, Bool, true, false, List, [], ◌�
 use Rattle.std.specs.Prelude.{codes}
 use Rattle.std.specs.Fmt.{digits}
 use Rattle.words.specs.Numerals.{octal_text}
-use Rattle.space.specs.declared.place.Linear.{Linear}
 use Rattle.space.specs.declared.place.Linear.TheVariants.{Erasable, Fixed}
 use Rattle.space.specs.Places.{place, window}
 use Rattle.yayul.specs.Listing.{place_text}
@@ -18,7 +17,7 @@ use Rattle.debugger.specs.Growth.{grow, lowest_hit}
 use Rattle.debugger.specs.Replies.{Desk, at_line}
 use Rattle.debugger.specs.Transcript.{first_desk}
 use Rattle.debugger.specs.ExtendedReplies.{further}
-use Rattle.debugger.specs.Routines.{is_tc, leads_on, without, with_routine, innermost, end_of, goes_to}
+use Rattle.debugger.specs.Routines.{is_tc, leads_on, without, with_routine, innermost, goes_to}
 use Rattle.debugger.proofs.Scripts.{ended}
 use Rattle.debugger.proofs.FiveRows.{history-five}
 

@@ -17,7 +17,7 @@ ended [] = []
 ended (line ∷ more) = line ++ 10 ∷ ended more
 
 -- an input is added
-abbrev adds : ParsedLine → Bool
+abbrev pub adds : ParsedLine → Bool
 adds (Known (Add cycle input)) = true
 adds request = false
 
@@ -34,7 +34,7 @@ replies_over h symbols d (line ∷ more) =
     else (let r = answer h d (parsed_line symbols line) in r.text ++ replies_over h symbols r.desk more)
 
 -- where no input is added the same runs on
-abbrev Keeps : Desk → Reply → Type 0
+abbrev pub Keeps : Desk → Reply → Type 0
 Keeps d r = r.desk.scenario ≡ d.scenario
 
 keeps-goto : (h : History) (d : Desk) (t : ℕ) → Keeps d (reply h d (Goto t))
@@ -67,7 +67,7 @@ keeps-changed h d t =
       | false ↦ refl
     ]
 
-keeps : (h : History) (d : Desk) (request : ParsedLine) → adds request ≡ false → Keeps d (answer h d request)
+pub keeps : (h : History) (d : Desk) (request : ParsedLine) → adds request ≡ false → Keeps d (answer h d request)
 unfolding answer reply
 keeps h d Nothing e = refl
 keeps h d TooLong e = refl

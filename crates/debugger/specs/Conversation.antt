@@ -71,6 +71,11 @@ is_end (Values place k) = false
 abbrev pub to_asked : Terms → ExtendedLine → Desk → Reply
 to_asked terms request d = extended_reply terms (history d.scenario) d request
 
+-- where a session stands after its replies to lines
+abbrev pub desk_after : Terms → Reading → Desk → List (List ℕ) → Desk
+desk_after terms read d [] = d
+desk_after terms read d (line ∷ more) = desk_after terms read (to_asked terms (read line) d).desk more
+
 -- the replies to lines, up to the end
 abbrev pub conversation : Terms → Reading → Desk → List (List ℕ) → List ℕ
 conversation terms read d [] = []

@@ -6,6 +6,7 @@ pub mod Replies
 pub mod Positions
 pub mod Whys
 pub mod ToldLinks
+pub mod Moved
 pub mod Rows
 pub mod Standing
 pub mod Retracing

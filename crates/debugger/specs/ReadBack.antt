@@ -1,26 +1,17 @@
--- What `inputs` tells is a feed of the inputs that it tells.
-use Rattle.std.specs.Prelude.{◌≡◌, ℕ, ◌≤◌, ◌<◌, ◌^◌, ◌++◌, true, nat_le, List, [], ◌∷◌, All, filter, map, length}
-use Rattle.feed.specs.Counters.{takes}
+-- What `inputs` tells is a feed of the inputs that were added.
+use Rattle.std.specs.Prelude.{◌≡◌, ℕ, ◌++◌, Bool, nat_le, List, [], ◌∷◌, Option, filter, map}
 use Rattle.feed.specs.Feed.{statements}
-use Rattle.feed.specs.Statements.{is_input_channel}
 use Rattle.feed.specs.declared.entry.Entry.{Entry}
-use Rattle.feed.specs.declared.input.Input.{Input}
-use Rattle.feed.specs.declared.input.Input.TheVariants.{Count, Word, Interrupt}
 use Rattle.feed.specs.declared.statement.Statement.{Statement}
 use Rattle.feed.specs.declared.statement.Statement.TheVariants.{Nothing, Gives}
 use Rattle.cpu.specs.State.{Scenario}
-use Rattle.debugger.specs.Inputs.{inputs_text}
-use Rattle.debugger.specs.Terms.{plain_inputs}
-
--- an input that a line of a feed can give
-abbrev pub CanBeGiven : Input → Type 0
-CanBeGiven (Count counter sequence) = takes counter sequence ≡ true
-CanBeGiven (Word n w) = (n < 8 ^ 3) × (w < 8 ^ 5) × (is_input_channel n ≡ true)
-CanBeGiven (Interrupt k) = (1 ≤ k) × (k ≤ 10)
-
--- the same at a cycle
-abbrev pub CanStand : Entry → Type 0
-CanStand e = (e.cycle < 10 ^ 15) × CanBeGiven e.input
+use Rattle.symbols.specs.Values.{SymbolTable}
+use Rattle.yayul.specs.Program.{Source}
+use Rattle.commands.specs.Extended.{extended_line}
+use Rattle.commands.specs.declared.extended.ExtendedLine.TheVariants.{Inputs}
+use Rattle.debugger.specs.Conversation.{to_asked, desk_after}
+use Rattle.debugger.specs.Terms.{plain_inputs, first_added, terms_of}
+use Rattle.debugger.specs.Transcript.{first_desk}
 
 -- what a line says that gives an input
 abbrev pub giving : Entry → Statement
@@ -30,8 +21,17 @@ giving e = Gives e.cycle e.input
 abbrev pub standing_from : ℕ → Scenario → List Entry
 standing_from first scenario = filter (λ e. nat_le first e.line) (plain_inputs scenario)
 
--- read as a feed, the lines that tell them give each of them, in order, and the comment after them nothing
-abbrev pub ReadsBack : ℕ → Scenario → Type 0
-ReadsBack first scenario =
-    length (plain_inputs scenario) < 2 ^ 64 → All CanStand (standing_from first scenario)
-    → statements (inputs_text first scenario) ≡ map giving (standing_from first scenario) ++ Nothing ∷ []
+-- Of the inputs with which a session begins none stands on the line from which on `inputs` tells, or after it.
+abbrev pub NoneAtFirst : Scenario → Type 0
+NoneAtFirst scenario = standing_from (first_added scenario) scenario ≡ []
+
+-- read as a feed, the lines of a text give each of them, in order, and the comment after them nothing
+abbrev pub ReadsBack : ℕ → Scenario → List ℕ → Type 0
+ReadsBack first scenario text = statements text ≡ map giving (standing_from first scenario) ++ Nothing ∷ []
+
+-- Whatever lines an extended session has replied to, its reply to `inputs` reads back as the inputs that then stand there.
+abbrev pub SessionReadsBack : SymbolTable → Source → Scenario → List Bool → List (Option ℕ) → List (List ℕ) → Type 0
+SessionReadsBack symbols source scenario answers additions lines =
+    let terms = terms_of symbols source scenario in
+    let d = desk_after terms (extended_line symbols) (first_desk scenario answers additions) lines in
+    ReadsBack terms.first d.scenario (to_asked terms Inputs d).text

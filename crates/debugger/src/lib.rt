@@ -36,5 +36,5 @@ mod why;
 
 pub use ending::Ending;
 pub use fault::DebugFault;
-pub use laws::inputs_read_back;
+pub use laws::{index_is_told, inputs_read_back};
 pub use session::{MOST_COMMAND_BYTES, debug_session, extended_session};

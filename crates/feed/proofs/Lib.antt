@@ -11,3 +11,4 @@ pub mod DueLaws
 mod KeptLaws
 mod AddLaws
 mod GrowLaws
+pub mod Givens

@@ -11,3 +11,4 @@ pub mod Reading
 pub mod Heads
 pub mod Kept
 pub mod Gathering
+pub mod Given

@@ -7,6 +7,7 @@ mod entry;
 mod fault;
 pub mod input;
 pub mod interrupt;
+pub mod laws;
 mod list;
 mod merge;
 mod names;

@@ -1,4 +1,4 @@
-use Rattle.std.proofs.Common.{◌∙◌, refl, sym}
+use Rattle.std.proofs.Common.{refl}
 use Rattle.cpu.specs.Run.{run}
 use Rattle.commands.specs.declared.extended.ExtendedLine.TheVariants.{Over}
 use Rattle.debugger.specs.ExtendedReplies.{extended_reply}

@@ -1,4 +1,4 @@
-use Rattle.std.proofs.Common.{◌≡◌, ◌∙◌, List, Some, None, refl, sym, ap}
+use Rattle.std.proofs.Common.{◌≡◌, ◌∙◌, Some, None, refl, ap}
 use Rattle.commands.specs.declared.command.Command.TheVariants.{Seek}
 use Rattle.commands.specs.declared.command.ParsedLine.TheVariants.{Known}
 use Rattle.debugger.specs.History.{history}

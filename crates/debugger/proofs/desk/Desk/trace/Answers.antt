@@ -1,4 +1,4 @@
-use Rattle.std.proofs.Common.{◌≡◌, ◌+◌, ◌-◌, min, refl, ap, arith}
+use Rattle.std.proofs.Common.{◌-◌, refl, ap, arith}
 use Rattle.replay.specs.View.{SessionView}
 use Rattle.debugger.proofs.Retraced.{traced}
 use Rattle.debugger.proofs.desk.Desk.trace.Goals as goal

@@ -1,4 +1,4 @@
-use Rattle.std.proofs.Common.{◌≡◌, ◌∙◌, sym, ap, None, filter, map, List}
+use Rattle.std.proofs.Common.{◌∙◌, sym, ap, None, filter, map, List}
 use Rattle.feed.specs.CountsTaken.{is_from}
 use Rattle.feed.specs.Merged.{plain_entry}
 use Rattle.feed.specs.declared.entry.Plain.{Plain}
