@@ -1,12 +1,15 @@
 -- What is told of the faults of flight sources, by the definitions alone.
-use Rattle.std.proofs.Common.{◌≡◌, ℕ, ◌+◌, List, [], ◌∷◌, ◌++◌, None, true, false, refl, map, take, drop}
+use Rattle.std.proofs.Common.{◌≡◌, ℕ, ◌+◌, List, [], ◌∷◌, ◌++◌, replicate, None, true, false, refl, map, take, drop}
 use Rattle.std.specs.Fmt.{digits}
 use Rattle.std.specs.List.{list_any}
 use Rattle.std.specs.Prelude.{codes, ◌==◌, is_some, if◌then◌else◌}
 use Rattle.agc_text.specs.Fields.{runs}
 use Rattle.agc_text.specs.Lines.{lines}
 use Rattle.feed.specs.Statements.{parsed}
-use Rattle.yayul.specs.Flight.{flight_operator, flight_operators}
+use Rattle.yayul.specs.Flight.{flight_operator, flight_operators, uncounted_statement}
+use Rattle.yayul.specs.FlightForms.{has_flight_form}
+use Rattle.yayul.specs.Forms.{statement_of}
+use Rattle.yayul.specs.Layout.{line_effect}
 use Rattle.yayul.specs.Operators.{operators}
 use Rattle.yayul.specs.declared.finding.Finding.{Finding}
 use Rattle.yayul.specs.declared.language.Language.{Language}
@@ -15,7 +18,7 @@ use Rattle.faults.specs.Causes.{Cause, filled}
 use Rattle.faults.specs.FlightCauses.{downlist_words, bank_words, comparisons, channel_words, count_words, decimals, double_octals, fixed_words, octal_words, told_cause, unsure_effects, unsure_values, unsure_words, verb_nouns}
 use Rattle.faults.specs.Interpretive.{count_before_first, first_and_others, interpretive_operators}
 use Rattle.faults.specs.Kinds.{kind_of_source}
-use Rattle.faults.specs.Report.{beside_text, report, shown_line, told_text}
+use Rattle.faults.specs.Report.{beside_text, cure_text, report, shown_line, told_text}
 use Rattle.faults.specs.Warnings.{Parts, parts_for, warnings}
 
 -- a source of lines, each but the last followed by a semicolon here
@@ -144,3 +147,40 @@ all_are_operators = refl
 none_is_one : list_any (λ name. is_some (flight_operator name)) (unsure_words ++ unsure_values ++ unsure_effects ++ comparisons) ≡ false
 unfolding operators flight_operators
 none_is_one = refl
+
+-- ## Of the standard language
+-- the row of the cure of a fault of a line, by its number
+abbrev cure_row : List ℕ × ℕ → List ℕ
+cure_row r = cure_text (parts_for Standard r.0) [] (told_cause Standard false r.0 (parts_for Standard r.0) (fault (1, r.1)))
+
+-- what `--flight` takes is told so, behind a cure or alone: of faults of a line's form, where that language takes the form
+abbrev lines_with_cures : List ((List ℕ × ℕ) × List ℕ)
+lines_with_cures =
+    ((codes " 2DEC .5", 15), codes "      = two words: a DEC for each; with --flight this is taken\n")
+    ∷ ((codes " 2DEC 5", 15), codes "      = two words: a DEC for each\n")
+    ∷ ((codes " COUNT* $$/EXEC", 15), codes "      = with --flight this is taken\n")
+    ∷ ((codes "+3 OCT 1", 13), codes "      = with --flight this is taken\n")
+    ∷ ((codes " +3 OCT 1", 15), codes "      = a label begins in the first column: no blank before +3; with --flight this is taken\n")
+    ∷ ((codes "-PHASE1 ERASE", 13), codes "      = with --flight this is taken\n")
+    ∷ ((codes " BANK", 16), codes "      = with --flight this is taken\n")
+    ∷ ((codes "X BANK", 13), codes "      = put X on the next line\n")
+    ∷ ((codes "X BANK", 16), [])
+    ∷ ((codes " DEC 1.0 E4 B-14", 16), codes "      = a comment begins with #; with --flight this is taken\n")
+    ∷ ((codes " OCT -1", 16), codes "      = DEC takes one; a minus complements the word; with --flight this is taken\n")
+    ∷ ((codes " OCT 9", 16), codes "      = DEC takes decimal digits\n")
+    ∷ ((codes " OCT 1 #" ++ replicate 120 0o40, 11), codes "      = part the comment into two lines; with --flight this is taken\n")
+    ∷ ((codes " OCT 1" ++ replicate 120 0o40 ++ codes "#", 11), codes "      = part the comment into two lines\n")
+    ∷ ((codes " TFC LOOP", 15), codes "      = did you mean TCF?\n")
+    ∷ ((codes " XYZZY LOOP", 15), [])
+    ∷ ((codes " MM 37", 15), [])
+    ∷ ((codes "+3 CA X", 17), [])
+    ∷ []
+
+each_cure : map {B = List ℕ} (λ r. cure_row r.0) lines_with_cures ≡ map {B = List ℕ} (λ r. r.1) lines_with_cures
+unfolding has_flight_form statement_of line_effect uncounted_statement runs operators flight_operators digits
+each_cure = refl
+
+-- nothing is told so of a flight source
+none_of_flight : list_any (λ r. (told_cause Flight false r.0.0 (parts_for Flight r.0.0) (fault (1, r.0.1))).flight) lines_with_causes ≡ false
+unfolding runs operators digits
+none_of_flight = refl

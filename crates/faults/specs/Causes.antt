@@ -13,20 +13,21 @@ use Rattle.faults.specs.declared.causes.Closeness.TheVariants.{AsLong, InCapital
 use Rattle.faults.specs.Shown.{shown_byte}
 use Rattle.faults.specs.Warnings.{Parts, bank_operators, erase_operators, has_operator, is_among, is_short, operator_names}
 
--- what is wrong, how it is mended or nothing, and a text that stands in either
+-- what is wrong, how it is mended or nothing, and a text that stands in either; and whether `--flight` takes what stands there
 pub record Cause : Type 0 where
   pub words : List ℕ
   pub cure : List ℕ
   pub other : List ℕ
+  pub flight : Bool
 
 abbrev pub said : List ℕ → Cause
-said words = record { words = words; cure = []; other = [] }
+said words = record { words = words; cure = []; other = []; flight = false }
 
 abbrev pub cured : List ℕ → List ℕ → Cause
-cured words cure = record { words = words; cure = cure; other = [] }
+cured words cure = record { words = words; cure = cure; other = []; flight = false }
 
 abbrev pub cured_by : List ℕ → List ℕ → List ℕ → Cause
-cured_by words cure other = record { words = words; cure = cure; other = other }
+cured_by words cure other = record { words = words; cure = cure; other = other; flight = false }
 
 -- ## Marks
 -- the bytes of a field, none where it does not stand

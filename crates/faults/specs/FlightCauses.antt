@@ -1,9 +1,10 @@
 -- What a fault of a flight source is in words, where these are others than those of the standard language: of a form that is not taken, since what yaYUL makes of it is not known for sure, that
 -- this is so.
-use Rattle.std.specs.Prelude.{ℕ, ◌==◌, ◌&&◌, not, Bool, false, nat_le, nat_lt, List, [], ◌∷◌, codes, is_some, if◌then◌else◌}
+use Rattle.std.specs.Prelude.{ℕ, ◌==◌, ◌&&◌, ◌||◌, not, Bool, false, nat_le, nat_lt, List, [], ◌∷◌, codes, is_some, if◌then◌else◌}
 use Rattle.std.specs.Option.{option_map_or}
 use Rattle.agc_text.specs.Digits.{digits_value}
 use Rattle.yayul.specs.Flight.{is_count}
+use Rattle.yayul.specs.FlightForms.{has_flight_form}
 use Rattle.yayul.specs.declared.finding.Finding.{Finding}
 use Rattle.yayul.specs.declared.language.Language.{Language}
 use Rattle.yayul.specs.declared.language.Language.TheVariants.{Flight, Standard}
@@ -175,7 +176,11 @@ flight_cause near text parts f =
     else if f.number == 26 then flight_range_cause near text parts f
     else fault_cause near text parts f
 
+-- a fault of a line's form, its length, its label, its operator or its operand, where the language of flight programs takes that form
+abbrev pub is_of_flight : List ℕ → ℕ → Bool
+is_of_flight text number = (number == 11 || number == 13 || number == 15 || number == 16) && has_flight_form text
+
 -- a fault of a line of a language in words, where a text from other lines stands for `~` or none does
 abbrev pub told_cause : Language → Bool → List ℕ → Parts → Finding → Cause
-told_cause Standard near text parts f = fault_cause near text parts f
+told_cause Standard near text parts f = record (fault_cause near text parts f) { flight = is_of_flight text f.number }
 told_cause Flight near text parts f = flight_cause near text parts f

@@ -61,9 +61,13 @@ abbrev pub message_text : Parts → List ℕ → Severity → Finding → Cause 
 message_text parts label severity f c =
     kind_text severity ++ decimal f.number ++ codes ": " ++ filled parts c.other label c.words ++ codes "\n"
 
+-- that `--flight` takes what stands there, behind a cure or alone
+abbrev pub flight_clause : Cause → List ℕ
+flight_clause c = if not c.flight then [] else if length c.cure == 0 then codes "with --flight this is taken" else codes "; with --flight this is taken"
+
 -- its cure, in a row of its own, where there is one
 abbrev pub cure_text : Parts → List ℕ → Cause → List ℕ
-cure_text parts label c = if length c.cure == 0 then [] else codes "      = " ++ filled parts c.other label c.cure ++ codes "\n"
+cure_text parts label c = if length c.cure == 0 && not c.flight then [] else codes "      = " ++ filled parts c.other label c.cure ++ flight_clause c ++ codes "\n"
 
 -- a finding with why it is one, and a text from other lines
 abbrev pub caused_text : List ℕ → List ℕ → Parts → List ℕ → Severity → Finding → Cause → List ℕ

@@ -10,7 +10,7 @@ use Rattle.faults.specs.declared.slips.Slip.{Slip as Slipped}
 
 -- a cause without where its texts lie in memory
 abbrev pub cause_in : Told → Cause
-cause_in c = record { words = c.words.now; cure = c.cure.now; other = c.other.now }
+cause_in c = record { words = c.words.now; cure = c.cure.now; other = c.other.now; flight = c.flight }
 
 -- a table of texts without where they lie in memory
 abbrev pub entries : List (Bor (List ℕ) × Bor (List ℕ)) → List (List ℕ × List ℕ)

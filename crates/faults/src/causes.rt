@@ -18,7 +18,7 @@ use crate::registers::registers;
 use agc_text::{Field, Line, decimal_value, octal_value};
 use yayul::Finding;
 
-/// What is wrong, how it is mended or nothing, and a text that stands in either. Marks stand for the fields of the line:
+/// What is wrong, how it is mended or nothing, and a text that stands in either; and whether `--flight` takes what stands there. Marks stand for the fields of the line:
 /// `&` for the label, `%` for the operator, `@` for the operand, `!` for the other text, `~` for a text from other lines,
 /// `^` for the line that it is the number of.
 #[derive(Clone, Copy, Drop)]
@@ -29,6 +29,8 @@ pub(crate) struct Cause {
     pub(crate) cure: &'static [u8],
     /// The other text.
     pub(crate) other: &'static [u8],
+    /// Whether `--flight` takes what stands there.
+    pub(crate) flight: bool,
 }
 
 /// How close a name is to a text.
@@ -64,7 +66,12 @@ impl Cause {
     pub(crate) fn cured_by(words: &'static [u8], cure: &'static [u8], other: &'static [u8]) -> Cause
         ensures { cause_in result ≡ cured_by words.now cure.now other.now }
     {
-        Cause { words, cure, other }
+        Cause {
+            words,
+            cure,
+            other,
+            flight: false,
+        }
     }
 }
 

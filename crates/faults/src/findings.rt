@@ -487,8 +487,9 @@ fn line_beside(
 {
     match finding.taken_by {
         Some(line) => Some(u64::from(line)),
-        None => told_by_line(labels, parts, finding.number)
-            .map(|label| first_line(language, texts, label)),
+        None => told_by_line(labels, parts, finding.number).map(|label| first_line(
+            language, texts, label,
+        )),
     }
 }
 
@@ -611,9 +612,10 @@ fn push_cure(
 ) -> Result<(), AllocError>
     ensures { OnOk result (out.new.items ≡ out.old.items ++ cure_text (parts_in parts.now) label.now (cause_in cause.now)) }
 {
-    if !cause.cure.is_empty() {
+    if !cause.cure.is_empty() || cause.flight {
         out.extend_from_slice(b"      = ")?;
         push_filled(out, parts, cause.other, label, cause.cure)?;
+        out.extend_from_slice(cause.flight_clause())?;
         out.extend_from_slice(b"\n")?;
     }
     Ok(())

@@ -2,7 +2,8 @@
 
 ghost use Rattle.std.specs.Prelude.{◌≡◌, map};
 ghost use Rattle.faults.specs.Warnings.{parts_in};
-ghost use Rattle.faults.specs.FlightCauses.{unsure_words, unsure_values, unsure_effects, comparisons, octal_words, double_octals, verb_nouns, decimals, double_decimals, equalities, fixed_constants, bank_words, downlist_words, channel_words, fixed_words, count_words, form_cause, signed_label_cause, has_signed_label, has_octal_alone, has_signed_alone, decimal_cause, flight_operand_cause, flight_label_cause, flight_operator_cause, flight_early_cause, waiting_cause, flight_kind_cause, is_moved_back, is_between_banks, flight_range_cause, flight_cause, told_cause};
+ghost use Rattle.faults.specs.FlightCauses.{unsure_words, unsure_values, unsure_effects, comparisons, octal_words, double_octals, verb_nouns, decimals, double_decimals, equalities, fixed_constants, bank_words, downlist_words, channel_words, fixed_words, count_words, form_cause, signed_label_cause, has_signed_label, has_octal_alone, has_signed_alone, decimal_cause, flight_operand_cause, flight_label_cause, flight_operator_cause, flight_early_cause, waiting_cause, flight_kind_cause, is_moved_back, is_between_banks, flight_range_cause, flight_cause, is_of_flight, told_cause};
+ghost use Rattle.faults.specs.Report.{flight_clause};
 ghost use Rattle.faults.specs.Views.{cause_in};
 
 use crate::causes::{
@@ -13,7 +14,7 @@ use crate::mistakes::{erase_operators, has_operator};
 use crate::names::is_short;
 use crate::parts::is_count;
 use agc_text::{Line, Number, decimal_value, octal_value};
-use yayul::{Finding, Language};
+use yayul::{Finding, Language, has_flight_form};
 
 /// A fault of a line of a language in words, where a text from other lines stands for `~` or none does.
 pub(crate) fn told_cause(
@@ -26,8 +27,49 @@ pub(crate) fn told_cause(
     ensures { cause_in result ≡ told_cause language near text.now (parts_in parts.now) finding.now }
 {
     match language {
-        Language::Standard => fault_cause(text, parts, near, finding),
+        Language::Standard => fault_cause(text, parts, near, finding).with_flight(is_of_flight(
+            text,
+            finding.number,
+        )),
         Language::Flight => flight_cause(near, text, parts, finding),
+    }
+}
+
+// Whether a number is that of a fault of a line's form, and the language of flight programs takes that form.
+fn is_of_flight(text: &[u8], number: u8) -> bool
+    ensures { result ≡ is_of_flight text.now number }
+{
+    matches!(number, 11 | 13 | 15 | 16) && has_flight_form(text)
+}
+
+impl Cause {
+    // The same cause of what `--flight` takes, or does not.
+    fn with_flight(self, flight: bool) -> Cause
+        ensures { cause_in result ≡ record (cause_in self) { flight = flight } }
+    {
+        let Cause {
+            words,
+            cure,
+            other,
+            ..
+        } = self;
+        Cause {
+            words,
+            cure,
+            other,
+            flight,
+        }
+    }
+
+    /// That `--flight` takes what stands there, behind a cure or alone.
+    pub(crate) fn flight_clause(&self) -> &'static [u8]
+        ensures { result.now ≡ flight_clause (cause_in self.now) }
+    {
+        match (self.flight, self.cure.is_empty()) {
+            (false, _) => b"",
+            (true, true) => b"with --flight this is taken",
+            (true, false) => b"; with --flight this is taken",
+        }
     }
 }
 

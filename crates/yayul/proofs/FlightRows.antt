@@ -1,5 +1,6 @@
 -- Small sources in the language of flight programs, assembled by the definitions alone: each comes to its words, or to its least fault.
-use Rattle.std.proofs.Common.{◌≡◌, ℕ, Bool, true, List, [], ◌∷◌, Err, refl, map}
+use Rattle.std.proofs.Common.{◌≡◌, ℕ, Bool, true, false, List, [], ◌∷◌, ◌++◌, replicate, Err, refl, map}
+use Rattle.std.specs.List.{list_all, list_any}
 use Rattle.std.specs.Prelude.{codes, ◌==◌, if◌then◌else◌, is_ok}
 use Rattle.agc_text.specs.Fields.{runs}
 use Rattle.agc_text.specs.Lines.{lines}
@@ -7,6 +8,7 @@ use Rattle.space.specs.Places.{window, fb_of, sup_of}
 use Rattle.yayul.specs.Operators.{operators}
 use Rattle.yayul.specs.Forms.{statement_of}
 use Rattle.yayul.specs.Flight.{flight_operators, uncounted_statement}
+use Rattle.yayul.specs.FlightForms.{has_flight_form}
 use Rattle.yayul.specs.Layout.{fault_number, start, line_effect, layout_after}
 use Rattle.yayul.specs.Later.{with_values}
 use Rattle.yayul.specs.Words.{request_words, request_faults}
@@ -155,3 +157,26 @@ refused =
 each_refused : map (λ row. program Standard (source row.0)) refused ≡ map (λ row. Err (record { line = row.1; number = fault_number row.2 })) refused
 unfolding program runs operators statement_of line_effect request_words request_faults lines window fb_of sup_of
 each_refused = refl
+
+-- ## Forms
+-- lines whose form the language takes, whatever their symbols are; most of them the standard language refuses
+abbrev taken_forms : List (List ℕ)
+taken_forms =
+    codes "+3 OCT 1" ∷ codes " +3 OCT 1" ∷ codes " -1" ∷ codes " COUNT* $$/EXEC" ∷ codes " BNKSUM 05" ∷ codes " SUBRO X" ∷ codes " MEMORY 120000 - 167777" ∷ codes "TAG EQUALS" ∷ codes "N = M" ∷
+    codes " BANK" ∷ codes " BLOCK" ∷ codes " BANK 77777" ∷ codes " 2DEC .57735027" ∷ codes " DEC 1.0 E4 B-14" ∷ codes " 1DNADR X" ∷ codes " -6DNADR 154" ∷ codes " BBCON X" ∷ codes " GENADR X" ∷
+    codes " VN 0633" ∷ codes " DNCHAN 34" ∷ codes "-PHASE1 ERASE" ∷ codes " OCT -20000" ∷ codes " OCTAL 37777" ∷ codes " 2OCT 0000500000" ∷ codes " AD -MAXADRS" ∷ codes "X CA FIVE +1 # it" ∷
+    codes " SETLOC 77777 +1" ∷ codes " EBANK= 4000" ∷ codes " " ∷ (codes " OCT 1 #" ++ replicate 120 0o40) ∷ []
+
+all_are_taken : list_all has_flight_form taken_forms ≡ true
+unfolding has_flight_form runs operators flight_operators statement_of uncounted_statement line_effect
+all_are_taken = refl
+
+-- and lines whose form it does not take
+abbrev refused_forms : List (List ℕ)
+refused_forms =
+    codes " MM 37" ∷ codes " 2DEC 5" ∷ codes " 2DEC 1.5" ∷ codes " DEC 16384" ∷ codes " OCT -100000" ∷ codes " FROB" ∷ codes " OCT 9" ∷ codes " EQUALS 5" ∷ codes "X BANK 5" ∷ codes "X BANK" ∷ codes "X SETLOC 4000" ∷ codes "X EBANK= 100" ∷ codes " SETLOC" ∷
+    codes " ERASE 0 - 7" ∷ codes "$FILE.agc" ∷ codes "LONGLABEL CA X" ∷ codes " CA FIVE // it" ∷ codes " CA" ∷ codes " CALL" ∷ codes " TFC LOOP" ∷ codes " VN 12" ∷ (replicate 120 0o40 ++ codes "CA X") ∷ []
+
+none_is_taken : list_any has_flight_form refused_forms ≡ false
+unfolding has_flight_form runs operators flight_operators statement_of uncounted_statement line_effect
+none_is_taken = refl

@@ -9,6 +9,7 @@ mod Least
 mod LeastOfSet
 mod Labels
 mod LateFaults
+mod FormFaults
 mod Lines
 mod Tables
 mod TakenPlaces

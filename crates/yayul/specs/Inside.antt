@@ -1,5 +1,6 @@
 -- What only contracts of private functions cite. No public contract stands on these files.
 pub mod Codes
+pub mod Forms
 pub mod Representation
 pub mod Sound
 pub mod Answers

@@ -4,6 +4,7 @@ pub mod Forms
 pub mod Scales
 pub mod Flight
 pub mod Layout
+pub mod FlightForms
 pub mod Later
 pub mod Words
 pub mod Program

@@ -1,4 +1,4 @@
-use Rattle.std.proofs.Common.{◌∙◌, ◌≡◌, ◌+◌, ◌∷◌, List, ℕ, Bor, [], ap, arith, drop, get_or, map, sym}
+use Rattle.std.proofs.Common.{◌∙◌, ◌+◌, List, ℕ, Bor, [], ap, arith, drop, map, sym}
 use Rattle.std.specs.List.{fold}
 use Rattle.std.proofs.lemmas.List.{drop_more}
 use Rattle.faults.specs.Warnings.{banks_after, parts_for, with_field, with_read, with_single}

@@ -1,0 +1,29 @@
+-- What the code asks of the form of a line.
+use Rattle.std.specs.Prelude.{Bool, true, false, is_some}
+use Rattle.yayul.specs.Language.{Bank, Ebank, Equals, Erase, Gives, Label, Malformed, Missing, Named, NoForm, Nothing, Numeral, Operation, Setloc, Unknown}
+
+-- a number, too large or not
+abbrev pub is_number : Numeral → Bool
+is_number NoForm = false
+is_number _ = true
+
+-- the operator is known, and the operand has the form that it asks for
+abbrev pub has_form : Operation → Bool
+has_form Nothing = true
+has_form Unknown = false
+has_form (Setloc operand) = is_some operand
+has_form (Bank taken number) = is_number number
+has_form (Erase count) = is_number count
+has_form (Equals operand) = is_some operand
+has_form (Ebank operand) = is_some operand
+has_form (Gives content) = is_some content
+
+-- a label that stands, or is missing
+abbrev pub takes_label : Label → Operation → Bool
+takes_label Malformed operation = false
+takes_label Missing (Equals operand) = false
+takes_label Missing operation = true
+takes_label (Named name) (Setloc operand) = false
+takes_label (Named name) (Bank taken number) = false
+takes_label (Named name) (Ebank operand) = false
+takes_label (Named name) operation = true

@@ -1,0 +1,96 @@
+//! Whether the language of flight programs takes the form of a line.
+
+ghost use Rattle.std.specs.Prelude.{◌≡◌, ◌&&◌, not};
+ghost use Rattle.yayul.specs.FlightForms.{gives_too_great, has_flight_form, is_too_great};
+ghost use Rattle.yayul.specs.Inside.Forms.{has_form, is_number, takes_label};
+
+use crate::flight::{flight_statement, measured};
+use crate::language::{Content, Label, Language, Location, Numeral, Operation, Statement};
+use agc_text::LINE_LENGTH;
+use symbols::FixedBank;
+
+/// Whether the language of flight programs takes the form of a line: as the first of a source the line has no fault of
+/// its length, its label, its operator and its operand, and no constant that is too great.
+#[tactic(auto, using(crate::proofs::FormFaults::short_form, crate::proofs::FormFaults::long_form))]
+pub fn has_flight_form(text: &[u8]) -> bool
+    ensures { result ≡ has_flight_form text.now }
+{
+    let first = Location::Fixed(FixedBank::two(), 0);
+    measured(Language::Flight, text).len() <= LINE_LENGTH
+        && flight_statement(first, text).has_form()
+}
+
+impl Statement {
+    // Whether its label, its operator and its operand have a form, and no constant is too great.
+    fn has_form(&self) -> bool
+        ensures { result ≡ (has_form self.now.operation && takes_label self.now.label self.now.operation && not (gives_too_great self.now.operation)) }
+    {
+        self.operation.has_form()
+            && self.label.is_taken_by(&self.operation)
+            && !self.operation.gives_too_great()
+    }
+}
+
+impl Operation {
+    // Whether the operator is known, and the operand has the form that it asks for.
+    fn has_form(&self) -> bool
+        ensures { result ≡ has_form self.now }
+    {
+        match self {
+            Operation::Nothing => true,
+            Operation::Unknown => false,
+            Operation::Setloc(operand) | Operation::Equals(operand) | Operation::Ebank(operand) => {
+                operand.is_some()
+            }
+            Operation::Bank(_, number) => is_number(*number),
+            Operation::Erase(count) => is_number(*count),
+            Operation::Gives(content) => content.is_some(),
+        }
+    }
+
+    // Whether it gives a constant that is more than its words hold.
+    fn gives_too_great(&self) -> bool
+        ensures { result ≡ gives_too_great self.now }
+    {
+        match self {
+            Operation::Gives(Some(content)) => content.is_too_great(),
+            _ => false,
+        }
+    }
+}
+
+impl Content {
+    // Whether a constant is more than its words hold.
+    fn is_too_great(&self) -> bool
+        ensures { result ≡ is_too_great self.now }
+    {
+        match self {
+            Content::Constant(number) => number.is_none(),
+            Content::Constants(pair) => pair.is_none(),
+            _ => false,
+        }
+    }
+}
+
+impl Label {
+    // Whether an operation takes it, or that none stands.
+    fn is_taken_by(&self, operation: &Operation) -> bool
+        ensures { result ≡ takes_label self.now operation.now }
+    {
+        match self {
+            Label::Malformed => false,
+            Label::Missing => !matches!(operation, Operation::Equals(_)),
+            Label::Named(_) => !matches!(
+                operation,
+                Operation::Setloc(_) | Operation::Bank(..) | Operation::Ebank(_)
+            ),
+        }
+    }
+}
+
+// Whether this is a number, too large or not.
+fn is_number(numeral: Numeral) -> bool
+    ensures { result ≡ is_number numeral }
+{
+    !matches!(numeral, Numeral::NoForm)
+}
