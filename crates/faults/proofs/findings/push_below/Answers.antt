@@ -1,6 +1,6 @@
 use Rattle.std.proofs.Common.{◌≡◌, ◌∙◌, ap, ◌++◌, decimal, subst, List, ℕ}
 use Rattle.std.specs.Prelude.{OnOk}
-use Rattle.faults.specs.Causes.{Cause, below_cause}
+use Rattle.faults.specs.Causes.{Cause}
 use Rattle.faults.specs.Report.{caused_text}
 use Rattle.faults.specs.Views.{cause_in}
 use Rattle.faults.specs.Warnings.{parts_in}
