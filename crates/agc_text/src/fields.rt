@@ -1,6 +1,6 @@
 //! The fields of a line.
 
-ghost use Rattle.std.specs.Prelude.{◌≡◌, ◌<◌, ◌≤◌, ◌^◌, ◌∷◌, [], nat_le, nat_lt, length, find, slice_get, drop, IfSome, MatchOption, slice_index, false};
+ghost use Rattle.std.specs.Prelude.{◌≡◌, ℕ, ◌<◌, ◌≤◌, ◌^◌, ◌∷◌, [], nat_le, nat_lt, length, find, slice_get, drop, IfSome, MatchOption, slice_index, true, false};
 ghost use Rattle.std.specs.Option.{option_map};
 ghost use Rattle.agc_text.specs.Fields.{is_blank, before_comment, is_run_start, run_at, runs, runs_after, texts, fields, label_of, others_of};
 ghost use Rattle.agc_text.specs.Views.{piece, end_of, runs_from, IsSliceOf, AreSlicesOf};
@@ -134,12 +134,25 @@ fn next_run(text: &[u8], from: usize) -> Option<Field<'_>>
     ensures first { runs_from text.now result ≡ runs_after text.now from }
     ensures slice { IfSome result (IsSliceOf text.now) }
 {
-    for start in from..text.len() {
+    for start in after_blanks(text, from)..text.len() {
         if begins_run(text, start) {
             return Some(run_from(text, start));
         }
     }
     None
+}
+
+// The first place at byte `from` or later at which no blank stands.
+fn after_blanks(text: &[u8], from: usize) -> usize
+    ensures from { from ≤ result }
+    ensures blanks { (k : ℕ) → from ≤ k → k < result → k < length text.now → is_blank (slice_index text.now k) ≡ true }
+{
+    for place in from..text.len() {
+        if !is_blank_byte(text[place]) {
+            return place;
+        }
+    }
+    from.max(text.len())
 }
 
 fn begins_run(text: &[u8], place: usize) -> bool

@@ -1,5 +1,6 @@
 pub mod Merging
 mod Around
+mod Filling
 mod GrowingTexts
 mod Nearness
 mod OfLength

@@ -1,5 +1,5 @@
 -- Lists that are gone through, and what is appended on the way.
-use Rattle.std.proofs.Common.{◌≡◌, ◌∙◌, ℕ, ◌+◌, ◌≤◌, length, arith, Bool, true, not, List, [], ◌∷◌, ◌++◌, map, take, drop, is_some, ap, sym, inl, inr, append_assoc}
+use Rattle.std.proofs.Common.{◌≡◌, ◌∙◌, ℕ, ◌+◌, ◌≤◌, length, arith, Bool, true, not, List, [], ◌∷◌, ◌++◌, map, take, drop, suc, is_some, ap, sym, inl, inr, append_assoc}
 use Rattle.std.specs.Prelude.{flat_map, if◌then◌else◌}
 use Rattle.std.proofs.lemmas.Bool.{cases_Bool}
 use Rattle.std.proofs.lemmas.Bool.Decides.{nat_tests}
@@ -14,7 +14,8 @@ use Rattle.faults.specs.declared.findings.Severity.{Severity}
 use Rattle.faults.specs.declared.flow.Before.{Before}
 use Rattle.faults.specs.declared.mistakes.Names.{Names}
 use Rattle.faults.specs.Report.{count_before, as_error, as_warning, merged}
-use Rattle.faults.specs.Warnings.{is_short, is_among, with_name, parts_for, before_next, line_warnings, warned_lines}
+use Rattle.agc_text.specs.declared.fields.Line.{Line}
+use Rattle.faults.specs.Warnings.{Parts, parts_for, parts_in, is_short, is_among, with_name, before_next, line_warnings, warned_lines}
 
 -- a fault, after the warnings of earlier lines
 pub merged_step :
@@ -33,13 +34,31 @@ merged_step g faults rest warnings f o0 o1 o2 next e1 e2 =
 
 -- the warnings of a line, and of those after it
 pub warned_step :
-    (language : Language) (unused : Bool) (names : Names) (before : Before) (line : ℕ) (texts rest : List (List ℕ)) (text : List ℕ) (o0 o1 : List Finding)
-    → texts ≡ text ∷ rest → o1 ≡ o0 ++ line_warnings language unused names before rest line (parts_for language text)
-    → o1 ++ warned_lines language unused names (before_next before (parts_for language text)) (line + 1) rest ≡ o0 ++ warned_lines language unused names before line texts
-warned_step language unused names before line texts rest text o0 o1 next e =
-    ap (λ o. o ++ warned_lines language unused names (before_next before (parts_for language text)) (line + 1) rest) e
-    ∙ append_assoc o0 (line_warnings language unused names before rest line (parts_for language text)) (warned_lines language unused names (before_next before (parts_for language text)) (line + 1) rest)
+    (language : Language) (unused : Bool) (names : Names) (before : Before) (line : ℕ) (lines rest : List Parts) (parts : Parts) (o0 o1 : List Finding)
+    → lines ≡ parts ∷ rest → o1 ≡ o0 ++ line_warnings language unused names before rest line parts
+    → o1 ++ warned_lines language unused names (before_next before parts) (line + 1) rest ≡ o0 ++ warned_lines language unused names before line lines
+warned_step language unused names before line lines rest parts o0 o1 next e =
+    ap (λ o. o ++ warned_lines language unused names (before_next before parts) (line + 1) rest) e
+    ∙ append_assoc o0 (line_warnings language unused names before rest line parts) (warned_lines language unused names (before_next before parts) (line + 1) rest)
     ∙ ap (λ t. o0 ++ warned_lines language unused names before line t) (sym next)
+
+-- so many of some lines, where a line stands first
+take_first : (n m : ℕ) (here after : List (List ℕ)) (text : List ℕ) → n ≡ m + 1 → here ≡ text ∷ after → take n here ≡ text ∷ take m after
+take_first n m here after text count lines =
+    let more : n ≡ suc m = omega (arith, count) in
+    ap (λ k. take k here) more ∙ ap (take (suc m)) lines
+
+-- one line more that is taken apart
+pub apart_step :
+    (language : Language) (made now : List Line) (parts : Line) (n m : ℕ) (here after : List (List ℕ)) (text : List ℕ) → n ≡ m + 1 → here ≡ text ∷ after
+    → now ≡ made ++ parts ∷ [] → parts_in parts ≡ parts_for language text
+    → map parts_in now ++ map (parts_for language) (take m after) ≡ map parts_in made ++ map (parts_for language) (take n here)
+apart_step language made now parts n m here after text count lines grows same =
+    ap (λ (ls : List Line). map parts_in ls ++ map (parts_for language) (take m after)) grows
+    ∙ ap (λ (ps : List Parts). ps ++ map (parts_for language) (take m after)) (map-append parts_in made (parts ∷ []))
+    ∙ append_assoc (map parts_in made) (parts_in parts ∷ []) (map (parts_for language) (take m after))
+    ∙ ap (λ (p : Parts). map parts_in made ++ p ∷ map (parts_for language) (take m after)) same
+    ∙ sym (ap (λ texts. map parts_in made ++ map (parts_for language) texts) (take_first n m here after text count lines))
 
 -- a name that is defined in a table where it is not there yet
 pub name_added :

@@ -42,6 +42,10 @@ shown_field field = map shown_byte (text_of field)
 abbrev pub of_line : List ℕ → List ℕ
 of_line digits = if length digits == 0 then [] else codes ", of line " ++ digits ++ codes ","
 
+-- one of the marks
+abbrev pub is_mark : ℕ → Bool
+is_mark byte = byte == 0o46 || byte == 0o45 || byte == 0o100 || byte == 0o41 || byte == 0o176 || byte == 0o136
+
 -- what a byte of a text stands for: `&` for the label, `%` for the operator, `@` for the operand, `!` for another text, `~` for a text from other lines, `^` for the line that it is the number of
 abbrev pub filled_byte : Parts → List ℕ → List ℕ → ℕ → List ℕ
 filled_byte parts other beside byte =

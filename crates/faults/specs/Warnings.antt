@@ -185,10 +185,10 @@ abbrev pub leaves : Parts → Bool
 leaves parts = has_operator leaving_operators parts || (has_operator storing_operators parts && option_map_or is_jump_place parts.operand false)
 
 -- of some lines the first that gives words or moves the location gives an instruction
-abbrev pub goes_on_to_instruction : List (List ℕ) → Bool
+abbrev pub goes_on_to_instruction : List Parts → Bool
 goes_on_to_instruction [] = false
-goes_on_to_instruction (text ∷ texts) =
-    if gives_word (parts_of text) || has_operator moving_operators (parts_of text) then is_instruction (parts_of text) else goes_on_to_instruction texts
+goes_on_to_instruction (parts ∷ rest) =
+    if gives_word parts || has_operator moving_operators parts then is_instruction parts else goes_on_to_instruction rest
 
 -- operators that read a word, an instruction as well as any
 abbrev pub word_readers : List (List ℕ)
@@ -199,7 +199,7 @@ abbrev pub with_read : List (List ℕ) → Parts → List (List ℕ)
 with_read names parts = if has_operator word_readers parts then with_field names parts.operand else names
 
 -- an instruction, none that is read as a word, is not left, and the lines after it do not go on with another
-abbrev pub end_warnings : List (List ℕ) → List (List ℕ) → ℕ → Parts → List Finding
+abbrev pub end_warnings : List (List ℕ) → List Parts → ℕ → Parts → List Finding
 end_warnings read after line parts =
     at_field (λ p. warned_if (is_among operator_names p.text && is_instruction parts && not (leaves parts) && not (option_map_or (λ l. is_among read l.text) parts.label false)
     && not (goes_on_to_instruction after)) line 4 p) parts.operator
@@ -322,8 +322,8 @@ banks_after banks parts = record {
 abbrev pub no_banks : Banks
 no_banks = record { region = Common; erasable = []; fixed = []; erasable_registers = []; fixed_registers = []; stored = []; far = false }
 
-abbrev pub banks_of : Language → List (List ℕ) → Banks
-banks_of language texts = fold (λ banks text. banks_after banks (parts_for language text)) no_banks texts
+abbrev pub banks_of : List Parts → Banks
+banks_of lines = fold (λ banks parts. banks_after banks parts) no_banks lines
 
 -- a field is the number of one of these places, or one of some names
 abbrev pub is_bank_field : BankRegister → List (List ℕ) → List ℕ → Bool
@@ -397,15 +397,15 @@ abbrev pub at_start : Before
 at_start = record { indexed = false; filled = None; left = false; region = Common }
 
 -- ## All
--- the names of a source of a language: those for which one word is reserved, those that an operand is and those that are read; and what is known of banks
-abbrev pub names_of : Language → List (List ℕ) → Names
-names_of language texts = record {
-  singles = fold (λ names text. with_single names (parts_for language text)) [] texts;
-  operands = fold (λ names text. with_field names (parts_for language text).operand) [] texts;
-  read = fold (λ names text. with_read names (parts_for language text)) [] texts;
-  banks = banks_of language texts;
-  sets_erasable = may_set_erasable (banks_of language texts);
-  sets_fixed = may_set_fixed (banks_of language texts);
+-- the names of some lines: those for which one word is reserved, those that an operand is and those that are read; and what is known of banks
+abbrev pub names_of : List Parts → Names
+names_of lines = record {
+  singles = fold (λ names parts. with_single names parts) [] lines;
+  operands = fold (λ names parts. with_field names parts.operand) [] lines;
+  read = fold (λ names parts. with_read names parts) [] lines;
+  banks = banks_of lines;
+  sets_erasable = may_set_erasable (banks_of lines);
+  sets_fixed = may_set_fixed (banks_of lines);
 }
 
 -- a source without forms of flight programs, whose words of other kinds are not told from instructions
@@ -418,7 +418,7 @@ abbrev pub name_warnings : Bool → Names → ℕ → Parts → List Finding
 name_warnings unused names line parts = label_warnings line parts ++ register_warnings line parts ++ (if unused then unused_warnings names.operands line parts else [])
 
 -- the warnings of its operator, by what stands before it and the lines after it
-abbrev pub flow_warnings : Language → Names → Before → List (List ℕ) → ℕ → Parts → List Finding
+abbrev pub flow_warnings : Language → Names → Before → List Parts → ℕ → Parts → List Finding
 flow_warnings language names before after line parts = (if is_standard language then end_warnings names.read after line parts else []) ++ vector_warnings before line parts
 
 -- the warnings of its operand
@@ -427,16 +427,20 @@ operand_warnings names before line parts =
     number_warnings before.indexed line parts ++ pair_warnings names.singles line parts ++ erasable_warnings names line parts ++ fixed_warnings names before.region line parts
 
 -- the warnings of a line, in the order of its fields
-abbrev pub line_warnings : Language → Bool → Names → Before → List (List ℕ) → ℕ → Parts → List Finding
+abbrev pub line_warnings : Language → Bool → Names → Before → List Parts → ℕ → Parts → List Finding
 line_warnings language unused names before after line parts =
     name_warnings unused names line parts ++ flow_warnings language names before after line parts ++ operand_warnings names before line parts
 
--- the warnings of some lines of a language, the first of them with a number
-abbrev pub warned_lines : Language → Bool → Names → Before → ℕ → List (List ℕ) → List Finding
+-- the warnings of some lines of a source of a language, the first of them with a number
+abbrev pub warned_lines : Language → Bool → Names → Before → ℕ → List Parts → List Finding
 warned_lines language unused names before line [] = []
-warned_lines language unused names before line (text ∷ texts) =
-    line_warnings language unused names before texts line (parts_for language text) ++ warned_lines language unused names (before_next before (parts_for language text)) (line + 1) texts
+warned_lines language unused names before line (parts ∷ rest) =
+    line_warnings language unused names before rest line parts ++ warned_lines language unused names (before_next before parts) (line + 1) rest
+
+-- the lines of a source that are looked at, taken apart
+abbrev pub lines_apart : Language → List ℕ → List Parts
+lines_apart language source = map (parts_for language) (looked_at language source)
 
 -- the warnings of a source of a language, of as many lines as are looked at for faults
 unfoldable pub warnings : Language → Bool → List ℕ → List Finding
-warnings language unused source = warned_lines language unused (names_of language (looked_at language source)) at_start 1 (looked_at language source)
+warnings language unused source = warned_lines language unused (names_of (lines_apart language source)) at_start 1 (lines_apart language source)

@@ -10,9 +10,9 @@ ghost use Rattle.faults.specs.Registers.{registers};
 ghost use Rattle.faults.specs.declared.causes.Closeness.TheVariants.{AsLong, InCapitals, Near};
 ghost use Rattle.faults.specs.Views.{cause_in, entries};
 
-use crate::mistakes::{erase_operators, has_operator, operator_names};
+use crate::mistakes::{erase_operators, has_operator};
 use crate::names::{NameSet, is_short};
-use crate::operators::is_operator;
+use crate::operators::{is_operator, near_operator};
 use crate::refusals::meaning;
 use crate::registers::registers;
 use agc_text::{Field, Line, decimal_value, octal_value};
@@ -248,7 +248,7 @@ fn operator_cause(parts: &Line<'_>) -> Cause
         )
     } else if let Some(meant) = value_in(foreign_operators(), text_of(parts.operator)) {
         Cause::cured_by(b"% is no operator of this assembler", b"!", meant)
-    } else if let Some(near) = near_in(operator_names(), text_of(parts.operator)) {
+    } else if let Some(near) = near_operator(text_of(parts.operator)) {
         Cause::cured_by(b"% is no operator", b"did you mean !?", near)
     } else {
         Cause::said(b"% is no operator")

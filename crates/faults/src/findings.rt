@@ -1,13 +1,14 @@
 //! The faults and the warnings of a source as lines of text.
 
 ghost use Rattle.std.specs.Prelude.{◌≡◌, ◌<◌, ◌≤◌, ◌++◌, ◌+◌, ◌-◌, ◌==◌, map, take, length, replicate, codes, decimal, flat_map, max, unwrap_or, [], if◌then◌else◌, OnOk, IfOk};
+ghost use Rattle.std.specs.List.{position_or_len};
 ghost use Rattle.std.specs.Option.{option_map};
 ghost use Rattle.agc_text.specs.Lines.{lines};
 ghost use Rattle.agc_text.specs.Bytes.{space};
 ghost use Rattle.faults.specs.Kinds.{kind_of_source};
 ghost use Rattle.faults.specs.Warnings.{parts_in};
 ghost use Rattle.faults.specs.Shown.{shown_byte};
-ghost use Rattle.faults.specs.Causes.{below_cause, filled, filled_byte, of_line};
+ghost use Rattle.faults.specs.Causes.{below_cause, filled, filled_byte, is_mark, of_line};
 ghost use Rattle.faults.specs.Views.{cause_in};
 ghost use Rattle.faults.specs.Report.{margin_byte, numbered, shown_part, row_text, marks_text, place_text, kind_text, cause_of, caused_text, message_text, cure_text, finding_text, text_at, shown_finding, shown_line, beside_text, line_beside, needs_value, line_below, as_label, told_by_line, labels_of, sought_labels, has_label, first_line, count_before, as_error, as_warning, merged, counted, count_text, interpretive_text, warned_before, listed_from, listed_around, told_around, told_text, refused_file, report};
 
@@ -631,10 +632,36 @@ fn push_filled(
 ) -> Result<(), AllocError>
     ensures { OnOk result (out.new.items ≡ out.old.items ++ filled (parts_in parts.now) other.now label.now text.now) }
 {
-    for byte in text {
-        push_filled_byte(out, parts, other, label, *byte)?;
+    let mut rest = text;
+    while !rest.is_empty() {
+        let (plain, marked) = rest.split_at(length_before_mark(rest));
+        out.extend_from_slice(plain)?;
+        let Some((mark, after)) = marked.split_first() else {
+            return Ok(());
+        };
+        push_filled_byte(out, parts, other, label, *mark)?;
+        rest = after;
     }
     Ok(())
+}
+
+// How many bytes of a text stand before the first mark: all, where none stands.
+fn length_before_mark(text: &[u8]) -> usize
+    ensures value { result ≡ position_or_len is_mark text.now }
+    ensures within { result ≤ length text.now }
+{
+    for (index, byte) in text.iter().enumerate() {
+        if is_mark(*byte) {
+            return index;
+        }
+    }
+    text.len()
+}
+
+fn is_mark(byte: u8) -> bool
+    ensures { result ≡ is_mark byte }
+{
+    matches!(byte, b'&' | b'%' | b'@' | b'!' | b'~' | b'^')
 }
 
 // Appends what a byte of a text stands for.
@@ -837,10 +864,10 @@ fn margin_byte(byte: u8) -> u8
 fn push_repeated(out: &mut Vec<u8>, count: usize, byte: u8) -> Result<(), AllocError>
     ensures { OnOk result (out.new.items ≡ out.old.items ++ replicate count byte) }
 {
-    for _ in 0..count {
-        out.push(byte)?;
+    match out.len().checked_add(count) {
+        Some(len) => out.resize(len, byte),
+        None => Err(AllocError),
     }
-    Ok(())
 }
 
 // Appends how many faults and how many warnings there are.

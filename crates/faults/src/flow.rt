@@ -7,9 +7,7 @@ ghost use Rattle.agc_text.specs.Digits.{digits_value};
 ghost use Rattle.agc_text.specs.Views.{piece};
 ghost use Rattle.std.specs.Option.{option_map, option_map_or};
 
-use crate::mistakes::{
-    has_alone, has_operator, indexed_after, is_register_number, parts_of, warn_if,
-};
+use crate::mistakes::{has_alone, has_operator, indexed_after, is_register_number, warn_if};
 use crate::names::{NameSet, is_among};
 use crate::operators::is_operator;
 use crate::switched::{Region, region_after};
@@ -135,12 +133,12 @@ fn is_vector(text: &[u8]) -> bool
 /// An instruction that goes on to a constant, or where no word stands.
 pub(crate) fn warn_of_end(
     read: &NameSet,
-    after: &[&[u8]],
+    after: &[Line<'_>],
     line: u32,
     parts: &Line<'_>,
     found: &mut Vec<Finding>,
 ) -> Result<(), AllocError>
-    ensures { OnOk result (found.new.items ≡ found.old.items ++ end_warnings read.now (map (λ text. text.now) after.now) line (parts_in parts.now)) }
+    ensures { OnOk result (found.new.items ≡ found.old.items ++ end_warnings read.now (map parts_in after.now) line (parts_in parts.now)) }
 {
     match parts.operator {
         Some(operator) => {
@@ -166,11 +164,10 @@ fn is_read(read: &NameSet, parts: &Line<'_>) -> bool
 }
 
 // Whether of some lines the first that gives words or moves the location gives an instruction.
-fn goes_on_to_instruction(lines: &[&[u8]]) -> bool
-    ensures { result ≡ goes_on_to_instruction (map (λ text. text.now) lines.now) }
+fn goes_on_to_instruction(lines: &[Line<'_>]) -> bool
+    ensures { result ≡ goes_on_to_instruction (map parts_in lines.now) }
 {
-    for text in lines {
-        let parts = &parts_of(text);
+    for parts in lines {
         if gives_word(parts) || has_operator(moving_operators(), parts) {
             return is_instruction(parts);
         }

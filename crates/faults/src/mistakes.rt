@@ -5,17 +5,16 @@ ghost use Rattle.std.specs.List.{fold};
 ghost use Rattle.std.specs.Option.{option_map};
 ghost use Rattle.agc_text.specs.Fields.{fields, label_of};
 ghost use Rattle.agc_text.specs.Views.{piece};
-ghost use Rattle.yayul.specs.Survey.{field_at, looked_at, span_of};
-ghost use Rattle.faults.specs.Warnings.{parts_of, parts_for, parts_in, is_among, has_operator, has_alone, warned_if, at_field, operator_names, label_warnings, readers, is_register_number, index_operators, indexed_after, number_warnings, pair_operators, erase_operators, reserves_one, with_field, with_single, pair_warnings, unused_warnings, name_warnings, flow_warnings, operand_warnings, erasable_warnings, fixed_warnings, word_readers, with_read, banks_after, names_of, at_start, line_warnings, warned_lines, warnings};
+ghost use Rattle.yayul.specs.Survey.{field_at, span_of};
+ghost use Rattle.faults.specs.Warnings.{parts_of, parts_for, parts_in, is_among, has_operator, has_alone, warned_if, at_field, operator_names, label_warnings, readers, is_register_number, index_operators, indexed_after, number_warnings, pair_operators, erase_operators, reserves_one, with_field, with_single, pair_warnings, unused_warnings, name_warnings, flow_warnings, operand_warnings, erasable_warnings, fixed_warnings, word_readers, with_read, banks_after, names_of, at_start, line_warnings, lines_apart, warned_lines, warnings};
 
-use crate::findings::line_texts;
 use crate::flow::{Before, is_instruction, warn_of_end, warn_of_vector};
 use crate::names::{NameSet, is_among, is_short};
 use crate::operators::is_operator;
 use crate::parts::parts_for;
 use crate::registers::warn_of_register;
 use crate::switched::{Banks, Region, is_common};
-use agc_text::{Field, Line, Number, octal_value};
+use agc_text::{Field, Line, Number, next_line, octal_value};
 use std::alloc::{AllocError, Global};
 use yayul::{Finding, Language, Span, most_lines};
 
@@ -32,21 +31,32 @@ pub fn warnings(
 ) -> Result<Vec<Finding>, AllocError>
     ensures { IfOk result (λ found. found.items ≡ warnings language unused source.now) }
 {
-    let lines = looked_at(alloc, language, source)?;
-    let names = Names::of(alloc, language, &lines)?;
+    let lines = lines_apart(alloc, language, source)?;
+    let names = Names::of(alloc, &lines)?;
     let mut found = Vec::new(alloc);
     names.warn(language, unused, &lines, &mut found)?;
     Ok(found)
 }
 
-// The lines of a source that are looked at: as many as one may have, and one.
-fn looked_at(alloc: Global, language: Language, source: &[u8]) -> Result<Vec<&[u8]>, AllocError>
-    ensures lines { IfOk result (λ texts. map (λ text. text.now) texts.items ≡ looked_at language source.now) }
-    ensures few { IfOk result (λ texts. length texts.items ≤ LINES) }
+// The lines of a source that are looked at, as many as one may have, and one; taken apart, once for all that is asked of them.
+fn lines_apart(
+    alloc: Global,
+    language: Language,
+    source: &[u8],
+) -> Result<Vec<Line<'_>>, AllocError>
+    ensures lines { IfOk result (λ lines. map parts_in lines.items ≡ lines_apart language source.now) }
+    ensures few { IfOk result (λ lines. length lines.items ≤ LINES) }
 {
-    let mut texts = line_texts(alloc, source)?;
-    texts.truncate(most_lines(language) as usize + 1);
-    Ok(texts)
+    let mut lines = Vec::new(alloc);
+    let mut rest = source;
+    for _ in 0..most_lines(language) + 1 {
+        let Some((text, after)) = next_line(rest) else {
+            return Ok(lines);
+        };
+        lines.push(parts_for(language, text))?;
+        rest = after;
+    }
+    Ok(lines)
 }
 
 // The names of a source.
@@ -67,9 +77,9 @@ struct Names {
 }
 
 impl Names {
-    // The names of some lines of a language.
-    fn of(alloc: Global, language: Language, lines: &[&[u8]]) -> Result<Names, AllocError>
-        ensures { IfOk result (λ names. names ≡ names_of language (map (λ text. text.now) lines.now)) }
+    // The names of some lines.
+    fn of(alloc: Global, lines: &[Line<'_>]) -> Result<Names, AllocError>
+        ensures { IfOk result (λ names. names ≡ names_of (map parts_in lines.now)) }
     {
         let mut names = Names {
             singles: NameSet::new(alloc),
@@ -79,8 +89,8 @@ impl Names {
             sets_erasable: false,
             sets_fixed: false,
         };
-        for text in lines {
-            names.note(&parts_for(language, text))?;
+        for parts in lines {
+            names.note(parts)?;
         }
         names.sets_erasable = names.banks.may_set_erasable();
         names.sets_fixed = names.banks.may_set_fixed();
@@ -109,26 +119,18 @@ impl Names {
         &self,
         language: Language,
         unused: bool,
-        lines: &[&[u8]],
+        lines: &[Line<'_>],
         found: &mut Vec<Finding>,
     ) -> Result<(), AllocError>
         requires { length lines.now ≤ LINES }
-        ensures { OnOk result (found.new.items ≡ found.old.items ++ warned_lines language unused self.now at_start 1 (map (λ text. text.now) lines.now)) }
+        ensures { OnOk result (found.new.items ≡ found.old.items ++ warned_lines language unused self.now at_start 1 (map parts_in lines.now)) }
     {
         let mut before = Before::at_start();
-        for (index, text) in lines.iter().enumerate() {
-            let parts = parts_for(language, text);
+        for (index, parts) in lines.iter().enumerate() {
             let after = lines_after(lines, index);
-            self.warn_of(
-                language,
-                unused,
-                before,
-                after,
-                index as u32 + 1,
-                &parts,
-                found,
-            )?;
-            before = before.next(&parts);
+            let line = index as u32 + 1;
+            self.warn_of(language, unused, before, after, line, parts, found)?;
+            before = before.next(parts);
         }
         Ok(())
     }
@@ -139,12 +141,12 @@ impl Names {
         language: Language,
         unused: bool,
         before: Before,
-        after: &[&[u8]],
+        after: &[Line<'_>],
         line: u32,
         parts: &Line<'_>,
         found: &mut Vec<Finding>,
     ) -> Result<(), AllocError>
-        ensures { OnOk result (found.new.items ≡ found.old.items ++ line_warnings language unused self.now before (map (λ text. text.now) after.now) line (parts_in parts.now)) }
+        ensures { OnOk result (found.new.items ≡ found.old.items ++ line_warnings language unused self.now before (map parts_in after.now) line (parts_in parts.now)) }
     {
         self.warn_of_names(unused, line, parts, found)?;
         self.warn_of_flow(language, before, after, line, parts, found)?;
@@ -174,12 +176,12 @@ impl Names {
         &self,
         language: Language,
         before: Before,
-        after: &[&[u8]],
+        after: &[Line<'_>],
         line: u32,
         parts: &Line<'_>,
         found: &mut Vec<Finding>,
     ) -> Result<(), AllocError>
-        ensures { OnOk result (found.new.items ≡ found.old.items ++ flow_warnings language self.now before (map (λ text. text.now) after.now) line (parts_in parts.now)) }
+        ensures { OnOk result (found.new.items ≡ found.old.items ++ flow_warnings language self.now before (map parts_in after.now) line (parts_in parts.now)) }
     {
         if matches!(language, Language::Standard) {
             warn_of_end(&self.read, after, line, parts, found)?;
@@ -247,7 +249,7 @@ impl Names {
 }
 
 // The lines after the one at an index.
-fn lines_after<'a, 'b>(lines: &'a [&'b [u8]], index: usize) -> &'a [&'b [u8]]
+fn lines_after<'a, 'b>(lines: &'a [Line<'b>], index: usize) -> &'a [Line<'b>]
     requires { index < length lines.now }
     ensures { result.now ≡ drop (index + 1) lines.now }
 {

@@ -1,8 +1,12 @@
 //! Which texts are operators' names.
 
 ghost use Rattle.std.specs.Prelude.{◌≡◌, ◌==◌, length, map, filter};
+ghost use Rattle.std.specs.Option.{option_map};
+ghost use Rattle.faults.specs.Causes.{near_name};
 ghost use Rattle.faults.specs.Warnings.{is_among, operator_names};
 
+use crate::causes::near_in;
+use crate::mistakes::operator_names;
 use crate::names::is_among;
 
 /// An operator's name.
@@ -10,6 +14,16 @@ pub(crate) fn is_operator(text: &[u8]) -> bool
     ensures { result ≡ is_among operator_names text.now }
 {
     is_among(names_of_length(text.len()), text)
+}
+
+/// The operator's name that is near to a text: most that are have its length, and stand first.
+pub(crate) fn near_operator(text: &[u8]) -> Option<&'static [u8]>
+    ensures { option_map (λ name. name.now) result ≡ near_name operator_names text.now }
+{
+    match near_in(names_of_length(text.len()), text) {
+        Some(name) => Some(name),
+        None => near_in(operator_names(), text),
+    }
 }
 
 // The operators' names that have so many characters.

@@ -1,13 +1,14 @@
 //! All faults of a source at once.
 
-ghost use Rattle.std.specs.Prelude.{◌≡◌, ◌+◌, ◌++◌, ◌==◌, ◌&&◌, ◌||◌, not, ℕ, false, map, filter, IfErr, IfOk, OnOk};
+ghost use Rattle.std.specs.Prelude.{◌≡◌, ◌<◌, ◌≤◌, ◌+◌, ◌++◌, ◌&&◌, ◌||◌, not, ℕ, false, length, map, filter, flat_map, IfErr, IfOk, OnOk};
+ghost use Rattle.arrayvec.specs.ArrayVec.{array_vec_len};
 ghost use Rattle.std.specs.List.{list_any};
 ghost use Rattle.std.specs.Option.{option_map_or};
 ghost use Rattle.yayul.specs.Layout.{standing, fault_number, statement_on};
 ghost use Rattle.yayul.specs.Inside.Answers.{layout_of};
 ghost use Rattle.yayul.specs.Program.{no_memory};
-ghost use Rattle.yayul.specs.Survey.{Survey as Surveyed, unmarked, noted, displaces, some_stands, passed_line, passed_lines, settled_survey, is_one_of, follows, named_line, finding, taken_by, told_of, told_line, told_lines, looked_at, told};
-ghost use Rattle.yayul.specs.Inside.Surveys.{Surveys, kinds_of};
+ghost use Rattle.yayul.specs.Survey.{Survey as Surveyed, unmarked, noted, displaces, some_stands, passed_line, passed_lines, settled_survey, follows, named_line, finding, taken_by, told_of, told_line, told_lines, looked_at, told};
+ghost use Rattle.yayul.specs.Inside.Surveys.{Surveys, has_number, number_in, kinds_of};
 
 use crate::assembly::NO_MEMORY;
 use crate::conditions::Conditions;
@@ -21,6 +22,7 @@ use crate::layout::{Layout, Placing};
 use crate::line::text_conditions;
 use crate::word_lines::WordLines;
 use agc_text::next_line;
+use arrayvec::ArrayVec;
 use std::alloc::{AllocError, Global};
 use symbols::{Symbols, Value};
 use words::Word;
@@ -229,6 +231,9 @@ const KINDS_IN_ORDER: [FaultKind; 18] = [
     FaultKind::NoMemory,
 ];
 
+/// How many kinds of faults may stand on a line at once.
+const MOST_KINDS: usize = 11;
+
 // The faults of a line, each where its condition holds.
 #[derive(Drop)]
 struct LineFaults {
@@ -298,20 +303,21 @@ impl Telling<'_> {
     fn tell(self, faults: &LineFaults, told: &mut Vec<Finding>) -> Result<(), AllocError>
         ensures { OnOk result (told.new.items ≡ told.old.items ++ told_of self.entry.language self.entry.doubt self.entry.line self.entry.text.now self.entry.taken_by (kinds_of faults.now)) }
     {
-        self.tell_each(faults, &KINDS_IN_ORDER, told)
+        let numbers = faults.numbers();
+        self.tell_each(numbers.as_slice(), &KINDS_IN_ORDER, told)
     }
 
-    // Appends those of some kinds of faults that stand on the line and do not follow from others.
+    // Appends those of some kinds of faults that have one of some numbers and do not follow from others.
     fn tell_each(
         self,
-        faults: &LineFaults,
+        numbers: &[u8],
         kinds: &[FaultKind],
         told: &mut Vec<Finding>,
     ) -> Result<(), AllocError>
-        ensures { OnOk result (told.new.items ≡ told.old.items ++ map (finding self.entry.language self.entry.line self.entry.text.now self.entry.taken_by) (filter (λ kind. is_one_of (kinds_of faults.now) kind && not (follows self.entry.doubt kind)) kinds.now)) }
+        ensures { OnOk result (told.new.items ≡ told.old.items ++ map (finding self.entry.language self.entry.line self.entry.text.now self.entry.taken_by) (filter (λ kind. has_number numbers.now kind && not (follows self.entry.doubt kind)) kinds.now)) }
     {
         for kind in kinds {
-            if faults.has(*kind) && !self.doubt.follows(*kind) {
+            if has_number(numbers, *kind) && !self.doubt.follows(*kind) {
                 told.push(self.finding(*kind))?;
             }
         }
@@ -341,29 +347,43 @@ impl Telling<'_> {
 }
 
 impl LineFaults {
-    // Whether a kind of fault stands on the line.
-    #[tactic(auto, using(crate::proofs::FaultOrder::one_of_conditions))]
-    fn has(&self, kind: FaultKind) -> bool
-        ensures { result ≡ is_one_of (kinds_of self.now) kind }
+    // The numbers of the faults that stand on the line.
+    fn numbers(&self) -> ArrayVec<u8, MOST_KINDS>
+        ensures { result.items ≡ map fault_number (kinds_of self.now) }
     {
-        is_one_of(&self.of_text, kind)
-            || is_one_of(&self.of_layout, kind)
-            || is_kind(self.of_promise, kind)
-            || is_one_of(&self.of_words, kind)
+        let mut numbers = ArrayVec::new();
+        push_numbers(&mut numbers, &self.of_text);
+        push_numbers(&mut numbers, &self.of_layout);
+        push_numbers(&mut numbers, &[self.of_promise]);
+        push_numbers(&mut numbers, &self.of_words);
+        numbers
     }
 }
 
-fn is_one_of(conditions: &[Option<FaultKind>], kind: FaultKind) -> bool
-    ensures { result ≡ list_any (λ c. option_map_or (λ other. fault_number other == fault_number kind) c false) conditions.now }
+// Appends the numbers of the faults that stand.
+fn push_numbers(numbers: &mut ArrayVec<u8, MOST_KINDS>, conditions: &[Option<FaultKind>])
+    requires { array_vec_len numbers.old + length conditions.now ≤ MOST_KINDS }
+    ensures items { numbers.new.items ≡ numbers.old.items ++ flat_map number_in conditions.now }
+    ensures len { array_vec_len numbers.new ≤ array_vec_len numbers.old + length conditions.now }
 {
-    conditions.iter().any(|condition| is_kind(*condition, kind))
+    for condition in conditions {
+        push_number(numbers, *condition);
+    }
 }
 
-fn is_kind(condition: Option<FaultKind>, kind: FaultKind) -> bool
-    ensures { result ≡ option_map_or (λ other. fault_number other == fault_number kind) condition false }
+fn push_number(numbers: &mut ArrayVec<u8, MOST_KINDS>, condition: Option<FaultKind>)
+    requires { array_vec_len numbers.old < MOST_KINDS }
+    ensures items { numbers.new.items ≡ numbers.old.items ++ number_in condition }
+    ensures len { array_vec_len numbers.new ≤ array_vec_len numbers.old + 1 }
 {
-    match condition {
-        Some(other) => other.number() == kind.number(),
-        None => false,
+    if let Some(kind) = condition {
+        numbers.push(kind.number());
     }
+}
+
+fn has_number(numbers: &[u8], kind: FaultKind) -> bool
+    ensures { result ≡ has_number numbers.now kind }
+{
+    let number = kind.number();
+    numbers.iter().any(|other| *other == number)
 }

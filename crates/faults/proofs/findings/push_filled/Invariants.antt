@@ -1,8 +1,10 @@
-use Rattle.std.proofs.Common.{◌≡◌, ◌++◌, take}
-use Rattle.std.specs.Prelude.{flat_map}
-use Rattle.faults.specs.Causes.{filled_byte}
+use Rattle.std.proofs.Common.{◌≡◌, ◌++◌, length}
+use Rattle.faults.specs.Causes.{filled}
 use Rattle.faults.specs.Warnings.{parts_in}
 use Rattle.faults.proofs.findings.push_filled.Given as goal
 
-abbrev pub invariant-loop-byte : goal.invariant-loop-byte
-invariant-loop-byte l = l.out.items ≡ l.initial.out.items ++ flat_map (filled_byte (parts_in l.parts) l.other l.label) (take l.byte-index l.text)
+abbrev pub invariant-loop-rest : goal.invariant-loop-rest
+invariant-loop-rest l = l.out.items ++ filled (parts_in l.parts) l.other l.label l.rest ≡ l.initial.out.items ++ filled (parts_in l.parts) l.other l.label l.text
+
+abbrev pub decreases-loop-rest : goal.decreases-loop-rest
+decreases-loop-rest l = length l.rest

@@ -1,29 +1,25 @@
-use Rattle.std.proofs.Common.{◌∙◌, ◌+◌, List, ℕ, Bor, [], ap, arith, drop, map, sym}
+use Rattle.std.proofs.Common.{◌∙◌, ◌+◌, None, false, ap, arith, drop, map, sym}
 use Rattle.std.specs.List.{fold}
 use Rattle.std.proofs.lemmas.List.{drop_more}
-use Rattle.faults.specs.Warnings.{banks_after, parts_for, with_field, with_read, with_single}
+use Rattle.agc_text.specs.declared.fields.Line.{Line}
+use Rattle.faults.specs.Warnings.{banks_after, parts_in, with_field, with_read, with_single}
 use Rattle.faults.proofs.mistakes.Names.of.Goals as goal
 
-abbrev nothing : Bor (List ℕ)
-nothing = record { ref_ptr = (0, 0); now = [] }
+abbrev nothing : Line
+nothing = record { label = None; operator = None; operand = None; offset = None; more = false }
 
-pub loop-text-preserved : goal.loop-text-preserved
-loop-text-preserved c =
-    let now : Bor (List ℕ) → List ℕ = λ text. text.now in
-    let names = c.loop-text.names in
-    let rest = map now (drop (c.loop-text.text-index + 1) c.args.lines.now) in
-    let next = sym (ap (map now) (drop_more c.args.lines.now c.loop-text.text-index nothing (omega arith))) in
+pub loop-parts-preserved : goal.loop-parts-preserved
+loop-parts-preserved c =
+    let names = c.loop-parts.names in
+    let rest = map parts_in (drop (c.loop-parts.parts-index + 1) c.args.lines.now) in
+    let next = sym (ap (map parts_in) (drop_more c.args.lines.now c.loop-parts.parts-index nothing (omega arith))) in
     record {
-      singles = ap (λ held. fold (λ names text. with_single names (parts_for c.args.language text)) held rest)
-          (c.in_ok-note.ensures.singles ∙ ap (with_single names.singles) c.parts_for.ensures)
-          ∙ ap (fold (λ names text. with_single names (parts_for c.args.language text)) names.singles) next ∙ c.loop-text.invariant.singles;
-      operands = ap (λ held. fold (λ names text. with_field names (parts_for c.args.language text).operand) held rest)
-          (c.in_ok-note.ensures.operands ∙ ap (λ parts. with_field names.operands parts.operand) c.parts_for.ensures)
-          ∙ ap (fold (λ names text. with_field names (parts_for c.args.language text).operand) names.operands) next ∙ c.loop-text.invariant.operands;
-      read = ap (λ held. fold (λ names text. with_read names (parts_for c.args.language text)) held rest)
-          (c.in_ok-note.ensures.read ∙ ap (with_read names.read) c.parts_for.ensures)
-          ∙ ap (fold (λ names text. with_read names (parts_for c.args.language text)) names.read) next ∙ c.loop-text.invariant.read;
-      banks = ap (λ held. fold (λ banks text. banks_after banks (parts_for c.args.language text)) held rest)
-          (c.in_ok-note.ensures.banks ∙ ap (banks_after names.banks) c.parts_for.ensures)
-          ∙ ap (fold (λ banks text. banks_after banks (parts_for c.args.language text)) names.banks) next ∙ c.loop-text.invariant.banks;
+      singles = ap (λ held. fold (λ names parts. with_single names parts) held rest) c.in_ok-note.ensures.singles
+          ∙ ap (fold (λ names parts. with_single names parts) names.singles) next ∙ c.loop-parts.invariant.singles;
+      operands = ap (λ held. fold (λ names parts. with_field names parts.operand) held rest) c.in_ok-note.ensures.operands
+          ∙ ap (fold (λ names parts. with_field names parts.operand) names.operands) next ∙ c.loop-parts.invariant.operands;
+      read = ap (λ held. fold (λ names parts. with_read names parts) held rest) c.in_ok-note.ensures.read
+          ∙ ap (fold (λ names parts. with_read names parts) names.read) next ∙ c.loop-parts.invariant.read;
+      banks = ap (λ held. fold (λ banks parts. banks_after banks parts) held rest) c.in_ok-note.ensures.banks
+          ∙ ap (fold (λ banks parts. banks_after banks parts) names.banks) next ∙ c.loop-parts.invariant.banks;
     }
