@@ -599,13 +599,14 @@ def check_ropes(room):
     agcws("asm", f"{EXAMPLES}/five_plus_five.agc", other)
     status, out, err = agcws("compare", two, other)
     told("images that differ", (status, err) == (1, b"") and out.endswith(b"COUNT %d\n" % (len(out.splitlines()) - 1)))
-    for label, text, number in [
-        ("an image without its last byte", image[:-1], 3), ("an image and a byte", image + b"\1", 4), ("an image of version 1", read(one), 5),
+    for label, text, number, meaning in [
+        ("an image without its last byte", image[:-1], 3, "the image ends before its 73,728 bytes"), ("an image and a byte", image + b"\1", 4, "bytes stand after the 73,728 of the image"),
+        ("an image of version 1", read(one), 5, "the lowest bit of two bytes of the image is wrong: in version 1 it is 1, in version 2 they have an even number of one bits"),
     ]:
         write(two, text)
-        error = f"agcws: E{number}\n".encode()
         for words in [["words", two], ["sums", two], ["compare", two, other], ["compare", other, two], ["run", "--image", two, f"{EXAMPLES}/empty.feed", "4"], ["debug", "--image", two, f"{EXAMPLES}/empty.feed"]]:
-            compare(f"{label} by {words[0]}", agcws(*words), 1, b"", error)
+            error = f"{two}: error E{number}: {meaning}\n" if words[0] == "compare" else f"agcws: E{number}\n"
+            compare(f"{label} by {words[0]}", agcws(*words), 1, b"", error.encode())
     compare("a feed that is refused after an image", agcws("run", "--image", other, other, "4"), 1, b"", b"agcws: E30 LINE 1\n")
     compare("words of an image that is not there", agcws("words", f"{room}/none"), 3, b"", b"agcws: E6\n")
     with open("/dev/full", "wb") as full:
