@@ -1,15 +1,13 @@
 -- The commands of a session that was opened, as an engine answers them.
-use Rattle.std.proofs.Common.{◌≡◌, ◌+◌, ◌*◌, ◌≤◌, true, length, Result, Ok, Err, refl, subst}
-use Rattle.std.specs.Prelude.{OnOk, if◌then◌else◌}
+use Rattle.std.proofs.Common.{◌≡◌, true, Result, Ok, Err, refl, subst}
+use Rattle.std.specs.Prelude.{if◌then◌else◌}
 use Rattle.words.specs.Devices.{one_more}
 use Rattle.words.specs.Readings.{TakesAtMost}
-use Rattle.commands.specs.Extended.{extended_line}
-use Rattle.debugger.specs.Conversation.{Talks, efforts, lines_heard, lines_within, most_extended_bytes}
+use Rattle.debugger.specs.Conversation.{Talks, most_extended_bytes}
 use Rattle.debugger.specs.Sessions.{Debugs, has_read_failed as reader_failed, has_write_failed as writer_failed}
-use Rattle.debugger.specs.Transcript.{command_lines, lines_read, most_command_bytes}
+use Rattle.debugger.specs.Transcript.{most_command_bytes}
 use Rattle.debugger.specs.declared.fault.DebugFault.{DebugFault}
 use Rattle.debugger.specs.declared.fault.DebugFault.TheVariants.{NoMemory, ReadFailed, WriteFailed}
-use Rattle.replay.specs.View.{SessionView}
 use Rattle.workshop.specs.Debugging.{Debugging, AnswersCommands, AnswersExtended, DebugsExtended, OpensListed, setting_of, talk_of, of_debugging}
 use Rattle.workshop.specs.Loading.{Loads}
 use Rattle.workshop.specs.declared.fault.WorkshopFault.{WorkshopFault}
@@ -31,45 +29,33 @@ same_writer (Err NoMemory) = refl
 same_writer (Err ReadFailed) = refl
 same_writer (Err WriteFailed) = refl
 
-on_ok : (ended : Result (Unit {0}) DebugFault) (P : Type 0) → OnOk ended P → OnOk (of_debugging ended) P
-on_ok (Ok x) P h = h
-on_ok (Err fault) P h = tt
-
-pub answers : (o : Opened) (before after : Debugging) (session : SessionView) (ended : Result (Unit {0}) DebugFault)
+pub answers : (o : Opened) (before after : Debugging) (ended : Result (Unit {0}) DebugFault)
     → (before.commands.told ≡ true → before.out.told ≡ true →
     Debugs (setting_of o) (record { before = before.commands.left; left = after.commands.left }) before.out.written after.out.written ended)
-    → (before.commands.told ≡ true → OnOk ended
-    (session.meter ≤ o.session.meter + (3 * length (lines_read o.symbols (command_lines before.commands.left)) + 1) * session.n))
     → after.commands.failures ≡ (if reader_failed ended then one_more before.commands.failures else before.commands.failures)
     → after.out.failures ≡ (if writer_failed ended then one_more before.out.failures else before.out.failures)
     → (before.commands.told ≡ true → TakesAtMost most_command_bytes before.commands.left after.commands.left)
     → AnswersCommands o before after (of_debugging ended)
-answers o before after session ended replies cost reader writer read = record {
+answers o before after ended replies reader writer read = record {
   ended = ended;
-  session = session;
   gives = refl;
   replies = replies;
-  cost = λ told. on_ok ended _ (cost told);
   reader = rw (same_reader ended) reader;
   writer = rw (same_writer ended) writer;
   read = read;
 }
 
-pub answers_extended : (source : Source) (o : Opened) (before after : Debugging) (session : SessionView) (ended : Result (Unit {0}) DebugFault)
+pub answers_extended : (source : Source) (o : Opened) (before after : Debugging) (ended : Result (Unit {0}) DebugFault)
     → (before.commands.told ≡ true → before.out.told ≡ true →
     Talks (talk_of source o) (record { before = before.commands.left; left = after.commands.left }) before.out.written after.out.written ended)
-    → (before.commands.told ≡ true → OnOk ended
-    (session.meter ≤ o.session.meter + (efforts (extended_line o.symbols) (lines_heard (extended_line o.symbols) (lines_within most_extended_bytes before.commands.left)) + 1) * session.n))
     → after.commands.failures ≡ (if reader_failed ended then one_more before.commands.failures else before.commands.failures)
     → after.out.failures ≡ (if writer_failed ended then one_more before.out.failures else before.out.failures)
     → (before.commands.told ≡ true → TakesAtMost most_extended_bytes before.commands.left after.commands.left)
     → AnswersExtended source o before after (of_debugging ended)
-answers_extended source o before after session ended replies cost reader writer read = record {
+answers_extended source o before after ended replies reader writer read = record {
   ended = ended;
-  session = session;
   gives = refl;
   replies = replies;
-  cost = λ told. on_ok ended _ (cost told);
   reader = rw (same_reader ended) reader;
   writer = rw (same_writer ended) writer;
   read = read;

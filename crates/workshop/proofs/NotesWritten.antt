@@ -25,7 +25,7 @@ noted_by origin steps before after code inputs r i result e f reads more run = r
 -- nothing of an image was read, and memory ran out
 pub no_memory_before : (version : Version) (before : Reader) → Reads (λ old new. ReadsNamedImage version old new) before before (Err NoMemory)
 no_memory_before version before = record {
-  bytes = λ told. record { read = Err rope.NoMemory; reads = refl; gives = refl };
+  bytes = λ told. record { read = Err rope.NoMemory; reads = refl; full = tt; gives = refl };
   failures = refl;
   writer = refl;
 }

@@ -25,7 +25,7 @@ covers_by origin steps before after subject inputs r i result e f reads more run
 -- nothing of an image was read, and memory ran out
 pub no_memory_before : (version : Version) (names : Option SymbolTable) (before : Reader) → Reads {T = Subject} (λ old new. ReadsImaged version names old new) before before (Err NoMemory)
 no_memory_before version names before = record {
-  bytes = λ told. record { read = Err rope.NoMemory; reads = refl; gives = refl };
+  bytes = λ told. record { read = Err rope.NoMemory; reads = refl; full = tt; gives = refl };
   failures = refl;
   writer = refl;
 }

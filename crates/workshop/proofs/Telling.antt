@@ -5,7 +5,9 @@ use Rattle.words.specs.Devices.{failures_after}
 use Rattle.words.specs.declared.device.WriteFailed.{WriteFailed}
 use Rattle.words.proofs.Texts.{Writes-after, beginning-longer}
 use Rattle.workshop.specs.Failures.{Writer}
-use Rattle.workshop.specs.Progress.{progress_line, progress_lines, progress_text, progress_at, TellsNext, Tells, TellsSome}
+use Rattle.workshop.specs.Progress.{progress_line, progress_lines, progress_text, progress_at, TellsNext, Tells, TellsSome, TellsUntil}
+use Rattle.workshop.specs.declared.fault.WorkshopFault.{WorkshopFault}
+use Rattle.workshop.specs.declared.fault.WorkshopFault.TheVariants as fault
 
 -- before the first step nothing is told
 pub tells_at_start : (w : Writer) → Tells 0 w w (Ok tt)
@@ -56,6 +58,13 @@ tells_more done n a b c (Err e) next whole low high same before more =
 pub tells_some : (steps n : ℕ) (a b : Writer) (told : Result (Unit {0}) WriteFailed) → n ≤ steps → Tells n a b told → TellsSome steps a b
 tells_some steps n a b told within tells = record { made = n; within = within; told = told; tells = tells }
 
--- a run of no step has told nothing
-pub tells_none : (steps : ℕ) (w : Writer) → TellsSome steps w w
-tells_none steps w = tells_some steps 0 w w (Ok tt) (omega arith) (tells_at_start w)
+-- a run of no step has told nothing, whatever ended it
+pub tells_none : (steps : ℕ) (w : Writer) (why : WorkshopFault) → TellsUntil steps w w why
+tells_none steps w fault.NoMemory = refl
+tells_none steps w fault.ReadFailed = refl
+tells_none steps w fault.WriteFailed = tells_some steps 0 w w (Ok tt) (omega arith) (tells_at_start w)
+tells_none steps w (fault.Source _) = refl
+tells_none steps w (fault.Feed _) = refl
+tells_none steps w (fault.Rope _) = refl
+tells_none steps w (fault.Table _) = refl
+tells_none steps w fault.TooLong = refl

@@ -1,7 +1,7 @@
 -- What an engine that profiles a run answers, and what it has then written.
-use Rattle.std.specs.Prelude.{◌≡◌, ℕ, ◌⊎◌, List, Option, Some, None, Result, Ok, Err}
+use Rattle.std.specs.Prelude.{◌≡◌, ℕ, ◌⊎◌, List, Option, Some, None, Result, Ok, Err, IfOk}
 use Rattle.rope.specs.Places.{Words}
-use Rattle.rope.specs.Reading.{ReadsImage}
+use Rattle.rope.specs.Reading.{IsFull, ReadsImage}
 use Rattle.rope.specs.declared.fault.RopeFault.{RopeFault}
 use Rattle.rope.specs.declared.spelling.Version.{Version}
 use Rattle.feed.specs.declared.entry.Entry.{Entry}
@@ -36,10 +36,11 @@ abbrev pub imaged_subject : Option SymbolTable → Result Words RopeFault → Re
 imaged_subject names (Ok words) = Ok (words, shown.Image names)
 imaged_subject names (Err fault) = Err (of_rope_fault fault)
 
--- an image is read, for whose places some names may stand
+-- an image is read, with a word at every place, for whose places some names may stand
 pub record ReadsImaged (version : Version) (names : Option SymbolTable) (old new : List ℕ) (result : Result Subject WorkshopFault) : Type 0 where
   pub read : Result Words RopeFault
   pub reads : ReadsImage version old new read
+  pub full : IfOk read IsFull
   pub gives : result ≡ imaged_subject names read
 
 -- what is covered is read, from where its words come

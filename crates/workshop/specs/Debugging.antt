@@ -1,10 +1,10 @@
 -- What sessions over a program are opened, what the engine of the debugger answers, and what it has then written.
-use Rattle.std.specs.Prelude.{◌≡◌, ℕ, ◌+◌, ◌*◌, ◌≤◌, Bool, true, false, List, [], length, Result, Ok, Err, OnOk}
+use Rattle.std.specs.Prelude.{◌≡◌, ℕ, Bool, true, false, List, [], Result, Ok, Err}
 use Rattle.words.specs.Readings.{TakesAtMost}
 use Rattle.cpu.specs.State.{State, start}
-use Rattle.debugger.specs.Transcript.{command_lines, lines_read, most_command_bytes}
+use Rattle.debugger.specs.Transcript.{most_command_bytes}
 use Rattle.commands.specs.Extended.{extended_line}
-use Rattle.debugger.specs.Conversation.{Talk, Talks, efforts, lines_heard, lines_within, most_extended_bytes}
+use Rattle.debugger.specs.Conversation.{Talk, Talks, most_extended_bytes}
 use Rattle.debugger.specs.Sessions.{Setting, Debugs}
 use Rattle.debugger.specs.declared.fault.DebugFault.{DebugFault}
 use Rattle.replay.specs.Calls.{Event, Saw, TimeTravel}
@@ -60,17 +60,13 @@ pub record Debugging : Type 0 where
   pub commands : Reader
   pub out : Writer
 
--- the commands are answered over a session that was opened, which leaves another: the transcript is written where the commands
--- and what is written are told, and at most three times as many steps are executed for each line as there are, besides those that
--- are made; and the reader of the commands or the writer has failed exactly where that is answered
+-- the commands are answered over a session that was opened: the transcript is written where the commands and what is written are
+-- told; and the reader of the commands or the writer has failed exactly where that is answered
 pub record AnswersCommands (o : Opened) (before after : Debugging) (result : Result (Unit {0}) WorkshopFault) : Type 0 where
   pub ended : Result (Unit {0}) DebugFault
-  pub session : SessionView
   pub gives : result ≡ of_debugging ended
   pub replies : before.commands.told ≡ true → before.out.told ≡ true →
       Debugs (setting_of o) (record { before = before.commands.left; left = after.commands.left }) before.out.written after.out.written ended
-  pub cost : before.commands.told ≡ true → OnOk result
-      (session.meter ≤ o.session.meter + (3 * length (lines_read o.symbols (command_lines before.commands.left)) + 1) * session.n)
   pub reader : after.commands.failures ≡ failures_if (has_read_failed result) before.commands.failures
   pub writer : after.out.failures ≡ failures_if (has_write_failed result) before.out.failures
   pub read : before.commands.told ≡ true → TakesAtMost most_command_bytes before.commands.left after.commands.left
@@ -98,12 +94,9 @@ talk_of source o = record { may_refuse = false; symbols = o.symbols; source = so
 -- the lines of an extended session are answered over a session that was opened, as commands are
 pub record AnswersExtended (source : Program.Source) (o : Opened) (before after : Debugging) (result : Result (Unit {0}) WorkshopFault) : Type 0 where
   pub ended : Result (Unit {0}) DebugFault
-  pub session : SessionView
   pub gives : result ≡ of_debugging ended
   pub replies : before.commands.told ≡ true → before.out.told ≡ true →
       Talks (talk_of source o) (record { before = before.commands.left; left = after.commands.left }) before.out.written after.out.written ended
-  pub cost : before.commands.told ≡ true → OnOk result
-      (session.meter ≤ o.session.meter + (efforts (extended_line o.symbols) (lines_heard (extended_line o.symbols) (lines_within most_extended_bytes before.commands.left)) + 1) * session.n)
   pub reader : after.commands.failures ≡ failures_if (has_read_failed result) before.commands.failures
   pub writer : after.out.failures ≡ failures_if (has_write_failed result) before.out.failures
   pub read : before.commands.told ≡ true → TakesAtMost most_extended_bytes before.commands.left after.commands.left

@@ -1,10 +1,10 @@
 -- What an engine reads, and what it leaves unread: a program, and then a feed.
-use Rattle.std.specs.Prelude.{◌≡◌, ℕ, true, false, List, [], Result, Ok, Err, OnOk, ⊤}
+use Rattle.std.specs.Prelude.{◌≡◌, ℕ, true, false, List, [], Result, Ok, Err, OnOk, IfOk, ⊤}
 use Rattle.words.specs.Readings.{TakesAtMost}
 use Rattle.feed.specs.Feed.{inputs}
 use Rattle.feed.specs.declared.entry.Entry.{Entry}
 use Rattle.rope.specs.Places.{Words}
-use Rattle.rope.specs.Reading.{ReadsImage}
+use Rattle.rope.specs.Reading.{IsFull, ReadsImage}
 use Rattle.rope.specs.declared.spelling.Version.{Version}
 use Rattle.rope.specs.declared.fault.RopeFault.{RopeFault}
 use Rattle.symbols.specs.Values.{SymbolTable}
@@ -29,10 +29,11 @@ pub record ReadsText {T : Type 0} (gives : Result T WorkshopFault) (old new : Li
   pub whole : OnOk result (new ≡ [])
   pub most : TakesAtMost (most_read result) old new
 
--- an image is read, for whose places some names stand
+-- an image is read, with a word at every place, for whose places some names stand
 pub record ReadsCode (version : Version) (names : SymbolTable) (old new : List ℕ) (result : Result Code WorkshopFault) : Type 0 where
   pub read : Result Words RopeFault
   pub reads : ReadsImage version old new read
+  pub full : IfOk read IsFull
   pub gives : result ≡ imaged names read
 
 -- a program is read, from where its words come

@@ -1,8 +1,8 @@
 -- What an engine answers that runs a program and notes what is seldom meant, and what it has then written.
-use Rattle.std.specs.Prelude.{◌≡◌, ℕ, ◌⊎◌, List, [], Result, Ok, Err}
+use Rattle.std.specs.Prelude.{◌≡◌, ℕ, ◌⊎◌, List, [], Result, Ok, Err, IfOk}
 use Rattle.feed.specs.declared.entry.Entry.{Entry}
 use Rattle.rope.specs.Places.{Words}
-use Rattle.rope.specs.Reading.{ReadsImage}
+use Rattle.rope.specs.Reading.{IsFull, ReadsImage}
 use Rattle.rope.specs.declared.fault.RopeFault.{RopeFault}
 use Rattle.rope.specs.declared.spelling.Version.{Version}
 use Rattle.yayul.specs.Named.{named_places, nothing_named}
@@ -31,10 +31,11 @@ abbrev pub imaged_named : Result Words RopeFault → Result NamedCode WorkshopFa
 imaged_named (Ok words) = Ok (record { rope = words; symbols = []; named = nothing_named })
 imaged_named (Err fault) = Err (of_rope_fault fault)
 
--- an image is read
+-- an image is read, with a word at every place
 pub record ReadsNamedImage (version : Version) (old new : List ℕ) (result : Result NamedCode WorkshopFault) : Type 0 where
   pub read : Result Words RopeFault
   pub reads : ReadsImage version old new read
+  pub full : IfOk read IsFull
   pub gives : result ≡ imaged_named read
 
 -- a program is read, from where its words come

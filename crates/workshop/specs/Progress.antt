@@ -1,8 +1,10 @@
 -- What a run tells while it goes: how many steps it has made.
 use Rattle.std.specs.Prelude.{◌≡◌, ℕ, zero, suc, ◌+◌, ◌*◌, ◌/◌, ◌%◌, ◌^◌, ◌≤◌, ◌==◌, true, List, [], ◌++◌, codes, decimal, Result, Ok, Err, if◌then◌else◌}
 use Rattle.words.specs.Devices.{Writes, failures_after}
-use Rattle.words.specs.declared.device.WriteFailed.{WriteFailed}
+use Rattle.words.specs.declared.device.WriteFailed as device
 use Rattle.workshop.specs.Failures.{Writer}
+use Rattle.workshop.specs.declared.fault.WorkshopFault.{WorkshopFault}
+use Rattle.workshop.specs.declared.fault.WorkshopFault.TheVariants.{WriteFailed}
 
 -- after how many steps it is told
 abbrev pub steps_between : ℕ
@@ -26,13 +28,13 @@ abbrev pub progress_at : ℕ → List ℕ
 progress_at n = if n % steps_between == 0 then progress_line n else []
 
 -- they are told, where all before was; and nothing once a write has failed
-abbrev pub TellsNext : ℕ → Writer → Writer → Result (Unit {0}) WriteFailed → Result (Unit {0}) WriteFailed → Type 0
+abbrev pub TellsNext : ℕ → Writer → Writer → Result (Unit {0}) device.WriteFailed → Result (Unit {0}) device.WriteFailed → Type 0
 TellsNext n before after (Ok x) result =
     (before.told ≡ true → Writes before.written after.written (progress_at n) result) × (after.failures ≡ failures_after before.failures result)
 TellsNext n before after (Err e) result = (after ≡ before) × (result ≡ Err e)
 
 -- what was told of a run that has made so many steps: all lines, or where a write has failed, a beginning of them
-pub record Tells (n : ℕ) (before after : Writer) (told : Result (Unit {0}) WriteFailed) : Type 0 where
+pub record Tells (n : ℕ) (before after : Writer) (told : Result (Unit {0}) device.WriteFailed) : Type 0 where
   pub bytes : before.told ≡ true → Writes before.written after.written (progress_text n) told
   pub failures : after.failures ≡ failures_after before.failures told
 
@@ -40,14 +42,20 @@ pub record Tells (n : ℕ) (before after : Writer) (told : Result (Unit {0}) Wri
 pub record TellsSome (steps : ℕ) (before after : Writer) : Type 0 where
   pub made : ℕ
   pub within : made ≤ steps
-  pub told : Result (Unit {0}) WriteFailed
+  pub told : Result (Unit {0}) device.WriteFailed
   pub tells : Tells made before after told
 
 -- what was told by a run: where it has made all steps, of these
 pub record TellsAll (steps : ℕ) (before after : Writer) : Type 0 where
-  pub told : Result (Unit {0}) WriteFailed
+  pub told : Result (Unit {0}) device.WriteFailed
   pub tells : Tells steps before after told
 
-abbrev pub TellsRun : {T E : Type 0} → ℕ → Writer → Writer → Result T E → Type 0
+-- what was told by a run that a fault has ended: of some steps, where a write of the run's own has failed; else nothing, as where
+-- the program or the feed is refused
+abbrev pub TellsUntil : ℕ → Writer → Writer → WorkshopFault → Type 0
+TellsUntil steps before after WriteFailed = TellsSome steps before after
+TellsUntil steps before after _ = after ≡ before
+
+abbrev pub TellsRun : {T : Type 0} → ℕ → Writer → Writer → Result T WorkshopFault → Type 0
 TellsRun steps before after (Ok x) = TellsAll steps before after
-TellsRun steps before after (Err fault) = TellsSome steps before after
+TellsRun steps before after (Err fault) = TellsUntil steps before after fault

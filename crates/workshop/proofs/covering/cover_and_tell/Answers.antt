@@ -4,10 +4,10 @@ use Rattle.workshop.proofs.Telling.{tells_none}
 use Rattle.workshop.proofs.covering.cover_and_tell.Goals as goal
 
 pub returns-in_err-rope-clause-progress : goal.returns-in_err-rope-clause-progress
-returns-in_err-rope-clause-progress g c = rw (err_from_is_err_and c.from_residual.result c.from_residual.ensures.1).1 (tells_none c.args.steps _)
+returns-in_err-rope-clause-progress g c = rw (err_from_is_err_and c.from_residual.result c.from_residual.ensures.1).1 (tells_none c.args.steps _ _)
 
 pub returns-in_err-read_feed-clause-progress : goal.returns-in_err-read_feed-clause-progress
-returns-in_err-read_feed-clause-progress g c = rw (err_from_is_err_and c.from_residual-in_err-read_feed.result c.from_residual-in_err-read_feed.ensures.1).1 (tells_none c.args.steps _)
+returns-in_err-read_feed-clause-progress g c = rw (err_from_is_err_and c.from_residual-in_err-read_feed.result c.from_residual-in_err-read_feed.ensures.1).1 (tells_none c.args.steps _ _)
 
 pub returns-clause-covers : goal.returns-clause-covers
 returns-clause-covers g c =

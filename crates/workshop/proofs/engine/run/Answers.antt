@@ -74,12 +74,12 @@ returns-in_err-hand_on-clause-makes g c =
 pub returns-in_err-outputs-clause-progress : goal.returns-in_err-outputs-clause-progress
 returns-in_err-outputs-clause-progress g c =
     let p = err_from_is_err_and c.from_residual.result c.from_residual.ensures.1 in
-    rw p.1 (tells_some c.args.steps c.loop-done.done _ _ c.loop-done.told c.loop-done.invariant.within c.loop-done.invariant.tells)
+    rw (p.1, p.2) (tells_some c.args.steps c.loop-done.done _ _ c.loop-done.told c.loop-done.invariant.within c.loop-done.invariant.tells)
 
 pub returns-in_err-hand_on-clause-progress : goal.returns-in_err-hand_on-clause-progress
 returns-in_err-hand_on-clause-progress g c =
     let p = err_from_is_err_and c.from_residual-in_err-hand_on.result c.from_residual-in_err-hand_on.ensures.1 in
-    rw p.1 (tells_some c.args.steps c.loop-done.done _ _ c.loop-done.told c.loop-done.invariant.within c.loop-done.invariant.tells)
+    rw (p.1, p.2) (tells_some c.args.steps c.loop-done.done _ _ c.loop-done.told c.loop-done.invariant.within c.loop-done.invariant.tells)
 
 pub loop-done-preserved : goal.loop-done-preserved
 loop-done-preserved g c =

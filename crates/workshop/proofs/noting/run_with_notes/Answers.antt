@@ -6,24 +6,24 @@ use Rattle.workshop.proofs.Telling.{tells_none}
 use Rattle.workshop.proofs.noting.run_with_notes.Goals as goal
 
 pub returns-in_err-code-clause-progress : goal.returns-in_err-code-clause-progress
-returns-in_err-code-clause-progress g c = rw (err_from_is_err_and c.from_residual.result c.from_residual.ensures.1).1 (tells_none c.args.steps _)
+returns-in_err-code-clause-progress g c = rw (err_from_is_err_and c.from_residual.result c.from_residual.ensures.1).1 (tells_none c.args.steps _ _)
 
 pub returns-in_err-feed-clause-progress : goal.returns-in_err-feed-clause-progress
-returns-in_err-feed-clause-progress g c = rw (err_from_is_err_and c.from_residual-in_err-feed.result c.from_residual-in_err-feed.ensures.1).1 (tells_none c.args.steps _)
+returns-in_err-feed-clause-progress g c = rw (err_from_is_err_and c.from_residual-in_err-feed.result c.from_residual-in_err-feed.ensures.1).1 (tells_none c.args.steps _ _)
 
 pub returns-in_default-clause-runs : goal.returns-in_default-clause-runs
 returns-in_default-clause-runs g c =
     noted_by c.args.origin c.args.steps _ _ c.in_ok-code.code c.in_ok-feed.feed _ _ _ c.in_ok-code.was c.in_ok-feed.was c.read_named.ensures c.read_feed.ensures (inl (refl, refl))
 
 pub returns-in_default-clause-progress : goal.returns-in_default-clause-progress
-returns-in_default-clause-progress g c = tells_none c.args.steps _
+returns-in_default-clause-progress g c = refl
 
 pub returns-in_default-new-clause-runs : goal.returns-in_default-new-clause-runs
 returns-in_default-new-clause-runs g c =
     noted_by c.args.origin c.args.steps _ _ c.in_ok-code.code c.in_ok-feed.feed _ _ _ c.in_ok-code.was c.in_ok-feed.was c.read_named.ensures c.read_feed.ensures (inl (refl, refl))
 
 pub returns-in_default-new-clause-progress : goal.returns-in_default-new-clause-progress
-returns-in_default-new-clause-progress g c = tells_none c.args.steps _
+returns-in_default-new-clause-progress g c = refl
 
 pub returns-clause-runs : goal.returns-clause-runs
 returns-clause-runs g c =

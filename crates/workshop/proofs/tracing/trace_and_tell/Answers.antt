@@ -18,7 +18,7 @@ returns-in_default-clause-traces g c =
     }
 
 pub returns-in_err-loaded-clause-progress : goal.returns-in_err-loaded-clause-progress
-returns-in_err-loaded-clause-progress g c = rw (err_from_is_err_and c.from_residual.result c.from_residual.ensures.1).1 (tells_none c.args.steps _)
+returns-in_err-loaded-clause-progress g c = rw (err_from_is_err_and c.from_residual.result c.from_residual.ensures.1).1 (tells_none c.args.steps _ _)
 
 pub returns-in_default-clause-progress : goal.returns-in_default-clause-progress
-returns-in_default-clause-progress g c = tells_none c.args.steps _
+returns-in_default-clause-progress g c = refl
