@@ -661,7 +661,12 @@ fn length_before_mark(text: &[u8]) -> usize
 fn is_mark(byte: u8) -> bool
     ensures { result ≡ is_mark byte }
 {
-    matches!(byte, b'&' | b'%' | b'@' | b'!' | b'~' | b'^')
+    match byte {
+        // Most bytes are small letters and blanks.
+        b'a'..=b'z' | b' ' => false,
+        b'&' | b'%' | b'@' | b'!' | b'~' | b'^' => true,
+        _ => false,
+    }
 }
 
 // Appends what a byte of a text stands for.
