@@ -76,7 +76,7 @@ pub fn extended_session<K: Keeper, R: Read, W: Write>(
         Talks (record { may_refuse = K.may_refuse; symbols = symbols.now; source = rows.now; read = extended_line symbols.now; most = most_extended_bytes; scenario = session.old.scenario }) (record { before = R.left commands.old; left = R.left commands.new }) (W.written out.old) (W.written out.new) result }
 
     // For each line that is read at most so many times the steps that there are are executed, besides those that are made: three
-    // times, for `where` four times, and for `why` four times a link.
+    // times, for `where` and `out` four times, and for `why` six times a link, with `index` nine, and once for its last search.
     ensures cost { R.told ≡ true → OnOk result
         (session.new.meter ≤ session.old.meter + (efforts (extended_line symbols.now) (lines_heard (extended_line symbols.now) (lines_within most_extended_bytes (R.left commands.old))) + 1) * session.new.n) }
 

@@ -49,7 +49,7 @@ ReadsSubject (origin.Source language) old new result = ReadsText (subject_of (as
 ReadsSubject (origin.Image version) old new result = ReadsImaged version None old new result
 ReadsSubject (origin.NamedImage version names) old new result = ReadsImaged version (Some names) old new result
 
--- memory for the figures is refused before the first step, and nothing is written; or all steps are made and counted, each once,
+-- memory for the figures is refused, and nothing is written; or all steps are made and counted, each once,
 -- and their profile is written, whose rows add up
 abbrev pub CoversRun : Shown → Scenario → ℕ → Writer → Writer → Result (Unit {0}) WorkshopFault → Type 0
 CoversRun lines scenario steps before after result =

@@ -57,7 +57,7 @@ EndsNoted text scenario steps before after (Err fault) =
     (Makes scenario steps before.out after.out (Err fault) × (after.notes ≡ before.notes))
     ⊎ (Makes scenario steps before.out after.out (Ok (summary_of scenario steps)) × WritesText {T = Summary} text before.notes after.notes (Err fault))
 
--- memory for the notes is refused before the first step, and nothing is written; or the run is made and noted
+-- memory for the notes is refused, and nothing is written; or the run is made and noted
 abbrev pub NotesRun : NamedCode → Scenario → ℕ → Texts → Texts → Result Summary WorkshopFault → Type 0
 NotesRun code scenario steps before after result =
     ((result ≡ Err NoMemory) × (after ≡ before)) ⊎ EndsNoted (notes_text code.symbols code.named scenario steps) scenario steps before after result

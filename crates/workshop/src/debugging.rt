@@ -167,10 +167,8 @@ pub fn debug_extended<P: Read, F: Read, R: Read, W: Write>(
 /// Assembles the source, reads the feed, opens a session over them, makes the calls in order, refused ones among them, tells
 /// the observer each with its answer, and answers how many steps the session has gone then.
 ///
-/// For every source that assembles, timed input list and list of session calls, the present machine and channel output are
-/// the reference run's after n steps; at most 2·floor(log2(n+1))+2 machine images of fixed size are held; every earlier step
-/// t is shown as the reference run has it, executing fewer than n-t steps again; and a call refused for memory changes
-/// nothing.
+/// What the observer is told is what `follow` tells it: each call with its answer, by the reference run. How many machines are
+/// held and how many steps executed is said by `follow` alone, of the session that its caller keeps.
 ///
 /// Where no session is opened, why is answered as `open_session` answers it, and the observer is as it was.
 pub fn follow_source<S: Read, F: Read, H: Fn(&Machine) -> bool, O: Observer>(
