@@ -2,7 +2,7 @@ pub mod Merging
 mod Around
 mod Filling
 mod GrowingTexts
-mod Nearness
+mod NearNames
 mod OfLength
 mod WarningRows
 mod CauseRows

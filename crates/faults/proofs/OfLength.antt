@@ -8,7 +8,7 @@ use Rattle.agc_text.specs.Tables.{same_name}
 use Rattle.yayul.specs.Operators.{operators}
 use Rattle.std.proofs.lemmas.Bool.Decides.{nat_tests}
 use Rattle.faults.specs.Causes.{is_close, near_name}
-use Rattle.faults.specs.declared.causes.Closeness.TheVariants.{AsLong, InCapitals, Near}
+use Rattle.faults.specs.declared.nearness.Closeness.TheVariants.{AsLong, InCapitals, Near}
 use Rattle.faults.specs.Warnings.{is_among, operator_names}
 
 same_length : (a b : List ℕ) → same_name a b ≡ true → length a ≡ length b

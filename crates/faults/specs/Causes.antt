@@ -8,8 +8,8 @@ use Rattle.agc_text.specs.Tables.{same_name, value_in}
 use Rattle.yayul.specs.declared.finding.Finding.{Finding}
 use Rattle.faults.specs.Refusals.{meaning}
 use Rattle.faults.specs.Registers.{registers}
-use Rattle.faults.specs.declared.causes.Closeness.{Closeness}
-use Rattle.faults.specs.declared.causes.Closeness.TheVariants.{AsLong, InCapitals, Near}
+use Rattle.faults.specs.declared.nearness.Closeness.{Closeness}
+use Rattle.faults.specs.declared.nearness.Closeness.TheVariants.{AsLong, InCapitals, Near}
 use Rattle.faults.specs.Shown.{shown_byte}
 use Rattle.faults.specs.Warnings.{Parts, bank_operators, erase_operators, has_operator, is_among, is_short, operator_names}
 

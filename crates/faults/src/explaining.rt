@@ -4,8 +4,8 @@ ghost use Rattle.std.specs.Prelude.{◌≡◌, ◌++◌, flat_map, IfOk, OnOk};
 ghost use Rattle.faults.specs.Refusals.{numbers, heading, warning_numbers, warning_heading};
 
 use crate::cautions::{WARNING_NUMBERS, warning_meaning};
-use crate::findings::push_number;
 use crate::refusals::{NUMBERS, Refusal, meaning};
+use crate::texts::push_number;
 use std::alloc::{AllocError, Global};
 
 /// What a refusal means, and what draws it.

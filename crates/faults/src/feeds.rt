@@ -16,11 +16,12 @@ ghost use Rattle.faults.specs.Report.{text_at};
 ghost use Rattle.agc_text.specs.Bytes.{is_text_byte};
 
 use crate::causes::{Cause, byte_cause};
-use crate::findings::{DIGITS, Severity, line_texts, push_caused, text_at};
+use crate::findings::{Severity, line_texts, text_at};
 use crate::kinds::{is_input, push_kind_of_feed};
 use crate::mistakes::parts_of;
 use crate::refusals::meaning;
 use crate::slips::line_slip;
+use crate::texts::{DIGITS, push_caused};
 use agc_text::{Field, LINE_LENGTH, Line, before_comment, is_text, next_field, next_line};
 use arrayvec::ArrayVec;
 use feed::FeedFault;

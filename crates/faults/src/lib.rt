@@ -12,12 +12,14 @@ mod interpretive;
 mod kinds;
 mod mistakes;
 mod names;
+mod nearness;
 mod operators;
 mod parts;
 mod refusals;
 mod registers;
 mod slips;
 mod switched;
+mod texts;
 
 pub use cautions::warning_of;
 pub use explaining::{all_headings, explanation, warning_explanation};

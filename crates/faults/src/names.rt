@@ -7,7 +7,7 @@ ghost use Rattle.std.specs.List.{list_any};
 ghost use Rattle.agc_text.specs.Tables.{same_name};
 ghost use Rattle.faults.specs.Warnings.{is_among, is_short, with_name};
 
-use crate::causes::{Closeness, SHORTEST, is_close};
+use crate::nearness::{Closeness, SHORTEST, is_close};
 use std::alloc::{AllocError, Global};
 use std::marker::Model;
 use symbols::{NAME_LENGTH, Name, Symbols};

@@ -5,9 +5,9 @@ ghost use Rattle.std.specs.Option.{option_map};
 ghost use Rattle.faults.specs.Causes.{near_name};
 ghost use Rattle.faults.specs.Warnings.{is_among, operator_names};
 
-use crate::causes::near_in;
 use crate::mistakes::operator_names;
 use crate::names::is_among;
+use crate::nearness::near_in;
 
 /// An operator's name.
 pub(crate) fn is_operator(text: &[u8]) -> bool

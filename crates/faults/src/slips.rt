@@ -7,8 +7,9 @@ ghost use Rattle.feed.specs.Statements.{channel_in, cycle_in, factor_in, request
 ghost use Rattle.faults.specs.Slips.{is_decimal, counter_names, sequence_names, input_names, taken_by, cycle_cause, factor_cause, name_cause, channel_cause, word_cause, request_cause, missing_cause, surplus_cause, sequence_cause, surplus_slip, word_slip, channel_slip, request_slip, sequence_slip, input_slip, factors_slip, series_slip, line_slip};
 ghost use Rattle.faults.specs.Views.{cause_in, entries, slip_in};
 
-use crate::causes::{Cause, is_beyond_octal, is_in_capitals, near_in, value_in};
+use crate::causes::{Cause, is_beyond_octal, value_in};
 use crate::names::is_among;
+use crate::nearness::{is_in_capitals, near_in};
 use crate::refusals::meaning;
 use agc_text::{decimal, decimal_value, octal, split_field};
 use feed::word_in;

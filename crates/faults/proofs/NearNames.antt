@@ -5,7 +5,7 @@ use Rattle.std.specs.Option.{option_or}
 use Rattle.std.proofs.lemmas.Bool.{cases_Bool, and_parts, eqb-true}
 use Rattle.std.proofs.lemmas.Bool.Decides.{nat_tests}
 use Rattle.faults.specs.Causes.{is_close, is_near}
-use Rattle.faults.specs.declared.causes.Closeness.TheVariants.{AsLong, InCapitals, Near}
+use Rattle.faults.specs.declared.nearness.Closeness.TheVariants.{AsLong, InCapitals, Near}
 
 -- what is found of some names, where one as long and one that is near stand before them or none does
 abbrev pub sought : List ℕ → Option (List ℕ) → Option (List ℕ) → List (List ℕ) → Option (List ℕ)

@@ -1,7 +1,7 @@
 use Rattle.std.proofs.Common.{◌∙◌, ◌∷◌, [], ◌++◌, ap, arith}
 use Rattle.faults.specs.Report.{margin_byte}
 use Rattle.faults.proofs.GrowingTexts.{grown}
-use Rattle.faults.proofs.findings.push_margin.Goals as goal
+use Rattle.faults.proofs.texts.push_margin.Goals as goal
 
 pub loop-byte-preserved : goal.loop-byte-preserved
 loop-byte-preserved c =

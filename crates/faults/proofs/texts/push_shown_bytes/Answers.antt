@@ -1,7 +1,7 @@
 use Rattle.std.proofs.Common.{◌∙◌, ◌∷◌, [], ◌++◌, ap, arith}
 use Rattle.faults.specs.Shown.{shown_byte}
 use Rattle.faults.proofs.GrowingTexts.{grown}
-use Rattle.faults.proofs.findings.push_shown_bytes.Goals as goal
+use Rattle.faults.proofs.texts.push_shown_bytes.Goals as goal
 
 pub loop-byte-preserved : goal.loop-byte-preserved
 loop-byte-preserved c =

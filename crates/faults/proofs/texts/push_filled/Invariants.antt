@@ -1,7 +1,7 @@
 use Rattle.std.proofs.Common.{◌≡◌, ◌++◌, length}
 use Rattle.faults.specs.Causes.{filled}
 use Rattle.faults.specs.Warnings.{parts_in}
-use Rattle.faults.proofs.findings.push_filled.Given as goal
+use Rattle.faults.proofs.texts.push_filled.Given as goal
 
 abbrev pub invariant-loop-rest : goal.invariant-loop-rest
 invariant-loop-rest l = l.out.items ++ filled (parts_in l.parts) l.other l.label l.rest ≡ l.initial.out.items ++ filled (parts_in l.parts) l.other l.label l.text

@@ -2,7 +2,7 @@ use Rattle.std.proofs.Common.{◌∙◌, ap, drop, take}
 use Rattle.std.proofs.lemmas.List.{nil_from_length}
 use Rattle.faults.specs.Warnings.{parts_in}
 use Rattle.faults.proofs.Filling.{filled_on, filled_out}
-use Rattle.faults.proofs.findings.push_filled.Goals as goal
+use Rattle.faults.proofs.texts.push_filled.Goals as goal
 
 pub returns-in_default : goal.returns-in_default
 returns-in_default c =

@@ -2,7 +2,7 @@ use Rattle.std.proofs.Common.{◌∙◌, ◌++◌, List, ℕ, ap}
 use Rattle.std.proofs.lemmas.Result.{on_ok_weaker}
 use Rattle.faults.specs.Report.{marks_text, row_text}
 use Rattle.faults.proofs.Merging.{five_appended}
-use Rattle.faults.proofs.findings.push_caused.Goals as goal
+use Rattle.faults.proofs.texts.push_caused.Goals as goal
 
 pub returns : goal.returns
 returns c =

@@ -1,7 +1,7 @@
 use Rattle.std.proofs.Common.{arith, sym, ◌∙◌}
 use Rattle.std.proofs.lemmas.List.Sums.{position_or_len_is}
 use Rattle.faults.specs.Causes.{is_mark}
-use Rattle.faults.proofs.findings.length_before_mark.Goals as goal
+use Rattle.faults.proofs.texts.length_before_mark.Goals as goal
 
 pub returns-then-is_mark-clause-value : goal.returns-then-is_mark-clause-value
 returns-then-is_mark-clause-value c = sym (position_or_len_is is_mark c.args.text.now c.loop-index.index 0 (omega arith) c.loop-index.invariant (λ _. sym c.is_mark.ensures ∙ c.if-is_mark.true))

@@ -1,8 +1,8 @@
 use Rattle.std.proofs.Common.{◌≡◌, drop, map}
 use Rattle.std.specs.Option.{option_map}
 use Rattle.faults.specs.Causes.{near_name}
-use Rattle.faults.proofs.Nearness.{sought}
-use Rattle.faults.proofs.causes.near_in.Given as goal
+use Rattle.faults.proofs.NearNames.{sought}
+use Rattle.faults.proofs.nearness.near_in.Given as goal
 
 abbrev pub invariant-loop-name : goal.invariant-loop-name
 invariant-loop-name l =
