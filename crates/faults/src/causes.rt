@@ -1,10 +1,10 @@
 //! What a fault is in words, by its cause.
 
-ghost use Rattle.std.specs.Prelude.{◌≡◌, ◌+◌, ◌&&◌, [], false, length, map, nat_le, unwrap_or, Some, None, if◌then◌else◌};
+ghost use Rattle.std.specs.Prelude.{◌≡◌, [], map, unwrap_or};
 ghost use Rattle.std.specs.Option.{option_map};
 ghost use Rattle.agc_text.specs.Tables.{value_in};
 ghost use Rattle.agc_text.specs.Views.{piece};
-ghost use Rattle.faults.specs.Warnings.{parts_in, operator_names, bank_operators};
+ghost use Rattle.faults.specs.Warnings.{parts_in, bank_operators};
 ghost use Rattle.faults.specs.Causes.{byte_cause, begins_with_mark, label_cause, operator_cause, digits_cause, place_cause, operand_cause, symbol_cause, undefined_cause, early_cause, below_cause, bank_cause, room_cause, kind_cause, range_cause, fault_cause, warning_cause, near_label, said, cured, cured_by, text_of, holds, begins, is_signed, is_foreign_comment, has_foreign_comment, is_beyond_octal, foreign_operators, label_refusers, octal_operators, decimal_operators, block_operators, plain_operators, channel_operators, erasable_operators, fixed_operators, jump_operators, writers, erasable_readers};
 ghost use Rattle.faults.specs.Registers.{registers};
 ghost use Rattle.faults.specs.Views.{cause_in, entries};

@@ -1,14 +1,12 @@
 //! The faults and the warnings of a source as lines of text.
 
-ghost use Rattle.std.specs.Prelude.{◌≡◌, ◌<◌, ◌≤◌, ◌++◌, ◌+◌, ◌-◌, ◌==◌, map, take, length, replicate, codes, decimal, flat_map, max, unwrap_or, [], if◌then◌else◌, OnOk, IfOk};
-ghost use Rattle.std.specs.List.{position_or_len};
+ghost use Rattle.std.specs.Prelude.{◌≡◌, ◌≤◌, ◌++◌, ◌==◌, map, length, decimal, flat_map, [], if◌then◌else◌, OnOk, IfOk};
 ghost use Rattle.std.specs.Option.{option_map};
 ghost use Rattle.agc_text.specs.Lines.{lines};
 ghost use Rattle.faults.specs.Kinds.{kind_of_source};
 ghost use Rattle.faults.specs.Warnings.{parts_in};
 ghost use Rattle.faults.specs.Causes.{below_cause};
-ghost use Rattle.faults.specs.Views.{cause_in};
-ghost use Rattle.faults.specs.Report.{caused_text, finding_text, text_at, shown_finding, shown_line, beside_text, line_beside, needs_value, line_below, as_label, told_by_line, labels_of, sought_labels, has_label, first_line, count_before, as_error, as_warning, merged, counted, count_text, interpretive_text, warned_before, listed_from, listed_around, told_around, told_text, refused_file, report};
+ghost use Rattle.faults.specs.Report.{caused_text, text_at, shown_finding, shown_line, beside_text, line_beside, needs_value, line_below, as_label, told_by_line, labels_of, sought_labels, has_label, first_line, count_before, as_warning, merged, counted, count_text, interpretive_text, warned_before, listed_from, listed_around, told_around, told_text, refused_file, report};
 
 use crate::causes::{below_cause, near_label, text_of};
 use crate::flight_causes::equalities;
