@@ -115,27 +115,43 @@ fn perform(rt: &HostRuntime) -> Result<u8, WorkshopFault> {
             _ => Ok(WRONG_ARGUMENTS),
         },
         Err(error) => {
+            let missing = missing_in(rt, &error)?;
             let status = answer(rt, &error)?;
-            if error.kind() == ErrorKind::MissingRequiredArgument {
-                tell_missing(rt, &words, &error)?;
-            }
+            tell_missing(rt, &words, missing)?;
             Ok(status)
         }
     }
 }
 
+/// Which arguments are missing, of those of which more is said than `clap` does.
+#[derive(Clone, Copy, Drop)]
+struct Missing {
+    image: bool,
+    feed: bool,
+}
+
+/// Finds which arguments are missing, before anything is written, since it takes memory.
+fn missing_in(rt: &HostRuntime, error: &clap::Error) -> Result<Missing, WorkshopFault> {
+    if error.kind() != ErrorKind::MissingRequiredArgument {
+        return Ok(Missing {
+            image: false,
+            feed: false,
+        });
+    }
+    let text = format!(in rt.alloc(); "{error}").map_err(no_memory)?;
+    let text = text.as_str();
+    Ok(Missing {
+        image: text.split_once("\n  --image\n").is_some(),
+        feed: text.split_once("\n  <FEED>\n").is_some() || text.split_once("\n  <N>\n").is_some(),
+    })
+}
+
 /// Says more of arguments that are missing than `clap` does: with what an option goes, and where a feed stands.
-fn tell_missing(
-    rt: &HostRuntime,
-    words: &[String],
-    error: &clap::Error,
-) -> Result<(), WorkshopFault> {
-    let missing = format!(in rt.alloc(); "{error}").map_err(no_memory)?;
-    let missing = missing.as_str();
-    if missing.split_once("\n  --image\n").is_some() {
+fn tell_missing(rt: &HostRuntime, words: &[String], missing: Missing) -> Result<(), WorkshopFault> {
+    if missing.image {
         refuse_arguments(rt, NO_IMAGE)?;
     }
-    if missing.split_once("\n  <FEED>\n").is_some() || missing.split_once("\n  <N>\n").is_some() {
+    if missing.feed {
         if let Some(text) = said_of_feed(words) {
             refuse_arguments(rt, text)?;
         }
