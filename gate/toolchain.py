@@ -20,8 +20,8 @@ WRITTEN_FOR = "rattle-kit-13f and rattle-kit-13b, logic dac8208d650f15bf"
 NAMES = "KIT checked edited edits_of free in_lanes processors rtlib unread".split()
 # Of rt, where checkouts share what is proved.
 SHARING_NAMES = "linked share_work work_for".split()
-LIBRARY_NAMES = "PARTS STALE crates_below files_of fmt guarded lock".split()
-CRATE_NAMES = "below build_and_run build_rlib check count has_tests is_built makes_rlib run".split()
+LIBRARY_NAMES = "PARTS STALE crates_below files_of fmt guarded kit_sources lock".split()
+CRATE_NAMES = "below build_and_run build_rlib check count has_tests is_built makes_rlib run sources_below".split()
 
 
 def stop(why):
@@ -81,6 +81,8 @@ in_lanes = rt.in_lanes
 edited = rt.edited
 # The files of a crate's edits of must-fail, and what stands beside them that is none.
 must_fail_of = rt.edits_of
+# The words by which the front end reads some libraries of the kit, and those that they use, as source.
+kit_sources = rt.rtlib.kit_sources
 # Whether a line of a check says that a text cannot be read.
 is_unread = rt.unread
 processors, free = rt.processors, rt.free
