@@ -48,11 +48,11 @@ rt = load()
 SHARES = all(hasattr(rt, it) for it in SHARING_NAMES)
 
 
-def start():
+def start(shares=True):
     """Has what a script starts end with it, and what it proves shared with the other checkouts of this machine where they share. To be called first, by the
     main thread: it sets a signal's handler."""
     rt.rtlib.guarded()
-    if SHARES:
+    if SHARES and shares:
         rt.share_work(True)
 
 
@@ -63,8 +63,15 @@ def version():
         return f"{name.read().strip()} {hashlib.sha256(parts.read()).hexdigest()}"
 
 
+def logic():
+    """Returns the name of the kit's logic, by which a proof holds or does not, or the kit's where it names none."""
+    return version().partition(" logic ")[2].split()[0] if " logic " in version() else version()
+
+
 # The crates below a folder, lowest first. Each has a name, a folder and below(), the crates of the repository under it.
 crates_below = rt.rtlib.crates_below
+# The words before a command that has to end when this script ends.
+guarded = rt.rtlib.guarded
 # Keeps other runs of rt out of some crates until what it returns is closed.
 lock = rt.rtlib.lock
 # The files of a crate's src/, specs/ and proofs/.
