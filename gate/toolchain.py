@@ -12,6 +12,7 @@ import importlib.machinery
 import importlib.util
 import os
 import shutil
+import subprocess
 import sys
 import tempfile
 
@@ -113,6 +114,18 @@ def build(crate, jobs):
 def test(crate, jobs):
     """Proves a crate's tests over what is kept, and runs them. Returns whether all pass, and what was said."""
     return said_by(crate, lambda it: it.run(["--jobs", str(jobs)], [], tests=True))
+
+
+def archives():
+    """Returns the archives of C with which every program is linked."""
+    return [f"{rt.KIT}/c/{it}" for it in ("libos_c.a", "liblibc_c.a")]
+
+
+def link(built, to):
+    """Links the object of a program as a build does. Returns whether it is linked, and what was said."""
+    words = ["--target", "x86_64-unknown-linux-gnu", "--toolchain", f"{rt.KIT}/toolchain", "-o", to, built, *archives()]
+    ran = subprocess.run([f"{rt.KIT}/bin/rattle-link", *words], capture_output=True, text=True, errors="replace", check=False)
+    return ran.returncode == 0, ran.stdout + ran.stderr
 
 
 def is_formatted(crate):
