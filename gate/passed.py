@@ -25,7 +25,7 @@ import toolchain
 
 FOLDER = "out"
 # Folders that hold nothing of the repository.
-LEFT_OUT = (FOLDER, ".git", "__pycache__")
+LEFT_OUT = (FOLDER, "dist", ".git", "__pycache__")
 PRIVATE = ("Answers.antt", "Invariants.antt", "Proof.antt")
 
 
