@@ -808,7 +808,7 @@ def check_command_line():
     compare("an option that is none", agcws("--verbose"), 2, b"", read(f"{EXAMPLES}/help/unknown_option.txt"))
     compare("an option of run that is none", agcws("run", "--verbose", "five.agc", "empty.feed", "5"), 2, b"", read(f"{EXAMPLES}/help/unknown_option_of_run.txt"))
     compare("a bank that is none", agcws("words", "my.rope", "44"), 2, b"", read(f"{EXAMPLES}/help/unknown_bank.txt"))
-    version = re.search(rb'PROGRAM_VERSION: &str = "(.*)";', read(f"{ROOT}/crates/agcws/src/command_line.rt")).group(1)
+    version = re.search(rb'PROGRAM_VERSION: &str = "(.*)";', read(f"{ROOT}/crates/command_line/src/building.rt")).group(1)
     compare("agcws --version", agcws("--version"), 0, b"agcws " + version + b"\n")
     source, empty = f"{EXAMPLES}/five_plus_five.agc", f"{EXAMPLES}/empty.feed"
     for words in [[], ["fly"], ["asm", source], ["asm", "--sums", source], ["run", source, empty], ["run", source, empty, "-1"], ["run", source, empty, "1099511627775"], ["asm", "--rope", "3", source, "x"], ["debug", source], ["upgrade", source], ["words"], ["words", source, "44"], ["words", source, "8"], ["words", source, "002"], ["compare", source], ["sums"], ["parity"], ["words", "--parity", "odd", source], ["words", "--symbols", source], ["words", "--source", "--symbols", source, source], ["trace", "--symbols", source, source, empty, "4"], ["sums", "--forms", "--parity", "ignore", source], ["sums", "--forms", "--form", "hardware", source], ["run", "--parity", "ignore", source, empty, "4"], ["run", "--rope", "1", source, empty, "4"]]:

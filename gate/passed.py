@@ -11,7 +11,7 @@ Why nothing stale passes:
 - The body of a const fn counts, since a constant above may be computed by it, and so does all of a file in which a body has no end by the layout of `rt fmt`.
 - Tests that are run rest on the bodies of the crates that they are for too.
 - The program as it is run on examples rests on its own bytes, and on every file outside of the crates.
-- The sums stand in out/ at the top, outside of the commits: a fresh clone has none, and tries all. CI=true and `./check --all` look none up.
+- The sums stand in out/ at the top, outside of the commits: a fresh clone has none. `./check --all` looks none up.
 """
 import contextlib
 import fcntl
@@ -25,7 +25,7 @@ import toolchain
 
 FOLDER = "out"
 # Folders that hold nothing of the repository.
-LEFT_OUT = (FOLDER, ".git", "__pycache__")
+LEFT_OUT = (FOLDER, "dist", ".git", "__pycache__")
 PRIVATE = ("Answers.antt", "Invariants.antt", "Proof.antt")
 
 
@@ -65,7 +65,7 @@ class Sums:
     """The sums of crates as their files stand now. Each file is read once."""
 
     def __init__(self):
-        for name in ("texts_of", "own", "stated", "proof", "whole", "others"):
+        for name in ("texts_of", "own", "stated", "proof", "refusal", "whole", "others"):
             setattr(self, name, functools.lru_cache(maxsize=None)(getattr(self, name)))
         self.times = []
 
@@ -94,6 +94,10 @@ class Sums:
     def proof(self, crate):
         """A sum of all on which the proof of a crate rests."""
         return sum_of(self.own(crate), [self.stated(it) for it in crate.below()])
+
+    def refusal(self, crate):
+        """A sum of all of the repository on which it rests that a crate's function is refused."""
+        return sum_of(crate.said, self.texts_of(crate), [self.stated(it) for it in crate.below()])
 
     def whole(self, crate):
         """A sum of all that a crate is built from."""

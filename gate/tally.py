@@ -44,6 +44,6 @@ def is_built(program):
     """Returns whether a program is built. Where it is not, that is told as one check that failed."""
     if os.access(program, os.X_OK):
         return True
-    print("the program is not built: run ./agcws --help first")
+    print("the program is not built: run ./agcws --prove first")
     print("0 passed, 1 failed")
     return False

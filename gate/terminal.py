@@ -13,13 +13,13 @@ MOST_SHOWN = 65536
 class Terminal:
     """A program that was started at a terminal of its own, in a folder."""
 
-    def __init__(self, program, *words, folder="."):
+    def __init__(self, program, *words, folder=".", env=None):
         self.process, self.terminal = pty.fork()
         if self.process == 0:
             os.chdir(folder)
             # (it is ignored where a script runs in the background)
             signal.signal(signal.SIGINT, signal.SIG_DFL)
-            os.execv(program, [program, *words])
+            os.execve(program, [program, *words], os.environ if env is None else env)
 
     def type(self, typed, awaited=b"", most_seconds=20):
         """Types some bytes, and answers what is shown from then on, up to what is awaited and what comes with it. Where much is shown without it, no more is awaited."""

@@ -14,6 +14,7 @@ LIBRARY = """//! A pair.
 #![tactic(auto)]
 
 /// Two numbers.
+#[derive(Drop)]
 pub struct Pair {
     pub one: u8,
     pub two: u8,
@@ -22,6 +23,12 @@ pub struct Pair {
 /// A pair.
 pub fn pair() -> Pair {
     Pair { one: 1, two: 2 }
+}
+
+/// Takes a pair apart.
+fn all_fields(pair: &Pair) -> (&u8, &u8) {
+    let Pair { one, two } = pair;
+    (one, two)
 }
 
 #[cfg(test)]
@@ -33,6 +40,21 @@ mod tests {
         let Pair { one, two } = pair();
         assert_eq!(rt; one, 1);
         assert!(rt; two > 0);
+    }
+}
+"""
+
+ABOVE = """//! What tries pairs.
+#![tactic(auto)]
+
+#[cfg(test)]
+mod tests {
+    use small::pair;
+
+    #[test]
+    fn one_is_one(rt: HostRuntime) {
+        let found = pair();
+        assert_eq!(rt; found.one, 1);
     }
 }
 """
@@ -49,6 +71,9 @@ fn main(rt: HostRuntime) {
 EDITS = {
     "two_is_three": ("small/src/lib.rt", "one: 1, two: 2", "one: 1, two: 3", "small tests::two_fields", "NOT CAUGHT"),
     "a_field_more": ("small/src/lib.rt", "pub one: u8,", "pub one: u8, pub three: u8,", "small tests::two_fields", "BAD EDIT: its test does not come to run"),
+    "a_field_beside": ("small/src/lib.rt", "one: 1, two: 2", "four: 4, one: 1, two: 2", "above refuses crates/small/src/lib.rt all_fields", "BAD EDIT: its test does not come to run"),
+    "one_field_more": ("small/src/lib.rt", "pub two: u8,", "pub two: u8, pub four: u8,", "above refuses crates/small/src/lib.rt all_fields", "caught, as it must be"),
+    "two_is_four": ("small/src/lib.rt", "one: 1, two: 2", "one: 1, two: 4", "above refuses crates/small/src/lib.rt all_fields", "NOT CAUGHT"),
     "says_ill": ("app/src/main.rt", "well", "ill", "app", "caught, as it must be"),
     "not_there": ("app/src/main.rt", "better", "ill", "app", "BAD EDIT: an 'old:' text"),
 }
@@ -56,7 +81,8 @@ EDITS = {
 
 def repository(room):
     os.mkdir(f"{room}/.git")
-    write_text(f"{room}/crates.txt", "small:\napp:\n")
+    write_text(f"{room}/crates.txt", "small:\nabove: small\napp:\n")
+    write_text(f"{room}/crates/above/src/lib.rt", ABOVE)
     write_text(f"{room}/crates/small/src/lib.rt", LIBRARY)
     write_text(f"{room}/crates/app/src/main.rt", PROGRAM)
     write_text(f"{room}/crates/app/stdin", "")
@@ -77,7 +103,7 @@ class Edits(unittest.TestCase):
             ran = run(room)
         for name, (file, *_, wanted) in EDITS.items():
             self.assertIn(f"edits-at-tests {file.partition('/')[0]}/{name}: {wanted}", ran.stdout, ran.stdout + ran.stderr)
-        self.assertEqual((ran.stdout.split("\n")[-2], ran.returncode), ("1 passed, 3 failed", 1), ran.stdout + ran.stderr)
+        self.assertEqual((ran.stdout.split("\n")[-2], ran.returncode), ("2 passed, 5 failed", 1), ran.stdout + ran.stderr)
 
     def test_reads_alone(self):
         with tempfile.TemporaryDirectory() as room:
@@ -86,7 +112,7 @@ class Edits(unittest.TestCase):
             ran = run(room, "--read")
         self.assertIn("app/not_there: BAD EDIT: an 'old:' text", ran.stdout)
         self.assertIn("app/says_ill: BAD EDIT: crates/small/wrong-bodies/says_ill.edit has its name", ran.stdout)
-        self.assertEqual((ran.stdout.split("\n")[-2], ran.returncode), ("2 passed, 2 failed", 1), ran.stdout + ran.stderr)
+        self.assertEqual((ran.stdout.split("\n")[-2], ran.returncode), ("5 passed, 2 failed", 1), ran.stdout + ran.stderr)
 
 
 if __name__ == "__main__":

@@ -2,6 +2,7 @@
 """Tests of prove_side_by_side: the order and the number of its proofs, and the whole on a repository of three small crates. The last line is 'N passed, M failed'."""
 import importlib.machinery
 import importlib.util
+import io
 import os
 import subprocess
 import sys
@@ -46,36 +47,50 @@ def diamond():
 
 
 class Orders(unittest.TestCase):
-    def proved(self, crates, refused=(), processors=4, memory=10**12):
-        """Proves crates by proofs that only wait: what became of them, what was said, the order of begins and ends, and the most at once."""
-        events, said, running, most = [], [], set(), [0]
+    def proved(self, crates, refused=(), seconds=None, processors=4, memory=10**12):
+        """Proves crates by proofs that only wait: the plan, what was said, the order of begins and ends, and the most at once."""
+        events, running, most = [], set(), [0]
         changing = threading.Lock()
 
-        def prove(crate, jobs):
+        def prove_alone(crate, jobs, nice):
             with changing:
                 running.add(crate.name)
                 most[0] = max(most[0], len(running))
-                events.append(("begins", crate.name, jobs))
+                events.append(("begins", crate.name, jobs, nice))
             time.sleep(0.05)
             with changing:
                 running.remove(crate.name)
-                events.append(("ends", crate.name, jobs))
-            return crate.name not in refused, f"text of {crate.name}"
+                events.append(("ends", crate.name))
+            return crate.name not in refused, f"text of {crate.name}", 1.0
 
-        fakes = {"processors": lambda: processors, "free": lambda: memory}
-        with mock.patch.multiple(runner.toolchain.rt, **fakes), mock.patch.object(runner, "prove", prove):
-            return runner.prove_all(crates, said.append), said, events, most[0]
+        plan = runner.Plan(crates, seconds or {it.name: 100 for it in crates}, processors, memory)
+        said = io.StringIO()
+        with mock.patch.object(runner, "prove_alone", prove_alone):
+            used = runner.prove_all(plan, runner.Telling(plan, said))
+        self.assertEqual(sorted(used), sorted(it for it, became in plan.became.items() if became != runner.LEFT))
+        return plan.became, said.getvalue(), events, most[0]
+
+    def begins(self, *given, **named):
+        return {it[1]: it[2:] for it in self.proved(*given, **named)[2] if it[0] == "begins"}
 
     def test_each_waits_for_those_below_and_no_longer(self):
         became, said, events, most = self.proved(diamond())
         self.assertEqual(became, dict.fromkeys(["low", "left", "right", "top"], runner.PROVED))
         order = [it[:2] for it in events]
         self.assertEqual([order[:2], order[-2:]], [[("begins", "low"), ("ends", "low")], [("begins", "top"), ("ends", "top")]])
-        self.assertEqual((most, len(said)), (2, 4))
+        self.assertEqual((most, said.count("\n")), (2, 4))
 
-    def test_free_processors_go_to_the_crates_that_are_ready(self):
-        jobs = {name: jobs for _, name, jobs in self.proved(diamond())[2]}
-        self.assertEqual(jobs, {"low": 4, "left": 2, "right": 2, "top": 4})
+    def test_large_crates_get_all_processors_and_the_more_urgent_goes_first(self):
+        crates = diamond()
+        self.assertEqual(self.begins(crates, seconds={"low": 100, "left": 100, "right": 300, "top": 100}), {"low": (4, 0), "right": (4, 0), "left": (4, runner.NICE), "top": (4, 0)})
+        self.assertEqual(self.begins(crates, processors=2)["top"], (2, 0))
+
+    def test_no_third_large_crate_and_small_ones_with_one_job(self):
+        many = [Small(f"crate{number}") for number in range(6)]
+        self.assertEqual(self.proved(many)[3], 2)
+        small = self.begins(many, seconds=dict.fromkeys([it.name for it in many], 10))
+        self.assertEqual({it[0] for it in small.values()}, {1})
+        self.assertEqual(self.proved(many, seconds=dict.fromkeys([it.name for it in many], 10))[3], 4)
 
     def test_what_stands_on_a_refused_crate_is_left(self):
         became, said, _, _ = self.proved(diamond(), refused=["right"])
@@ -83,11 +98,31 @@ class Orders(unittest.TestCase):
         self.assertIn("text of right", said)
         self.assertNotIn("text of left", said)
 
-    def test_no_more_at_once_than_processors_or_memory(self):
-        many = [Small(f"crate{number}") for number in range(6)]
-        self.assertEqual(self.proved(many, processors=3)[3], 3)
-        self.assertEqual(self.proved(many, memory=11_000_000_000)[3], 2)
+    def test_no_more_at_once_than_memory_holds(self):
+        many = [Small(f"crate{number}") for number in range(3)]
+        self.assertEqual(self.proved(many, memory=7_000_000_000)[3], 1)
         self.assertEqual(self.proved(many, memory=1_000_000_000)[3], 1)
+        self.assertEqual({it[0] for it in self.begins(many, memory=5_000_000_000).values()}, {2})
+
+    def test_how_long_it_still_takes(self):
+        plan = runner.Plan(diamond(), {"low": 100, "left": 100, "right": 100, "top": 300}, 4, 10**12)
+        before = plan.seconds_left(1)
+        plan.begin(plan.crates[0], 4)
+        plan.end(plan.crates[0], runner.PROVED)
+        self.assertEqual((round(before), round(plan.seconds_left(50)), round(plan.seconds_left(25))), (188, 250, 125))
+
+    def test_the_bar_fits_the_terminal(self):
+        class Terminal(io.StringIO):
+            def isatty(self):
+                return True
+
+        plan, out = runner.Plan(diamond(), dict.fromkeys(["low", "left", "right", "top"], 100), 4, 10**12), Terminal()
+        with mock.patch.dict(os.environ, TERM="xterm", COLUMNS="40"):
+            telling = runner.Telling(plan, out)
+            telling.bar()
+        self.assertEqual(out.getvalue(), "\r\x1b[K[....................] 0 of 4 crates, a"[: 5 + 39 - 1])
+        with mock.patch.dict(os.environ, TERM="dumb"):
+            self.assertFalse(runner.Telling(plan, out).draws)
 
 
 def write(path, text):
@@ -109,13 +144,14 @@ class WholeRuns(unittest.TestCase):
             write(f"{room}/crates/middle/src/lib.rt", HEAD + TWO_MORE.replace("(x) + 1", "(x) + 2"))
             write(f"{room}/crates/top/src/main.rt", TOP)
             first = ran(room, "top")
-            for wanted in ("s  low is proved\n", "s  middle is NOT proved\n", "fn middle::two_more: no proof", "not proved: top\n"):
+            for wanted in ("s  low is proved (1 of 3, ", "s  middle is NOT proved (2 of 3, ", "fn middle::two_more: no proof", "not proved: top\n"):
                 self.assertIn(wanted, first.stdout, first.stdout + first.stderr)
             self.assertEqual((first.returncode, "top is" in first.stdout), (1, False))
             write(f"{room}/crates/middle/src/lib.rt", HEAD + TWO_MORE)
             second = ran(room, "top")
             self.assertEqual(second.returncode, 0, second.stdout + second.stderr)
             self.assertEqual(sorted(it.split()[2] for it in second.stdout.splitlines()), ["low", "middle", "top"])
+            self.assertTrue(os.access(f"{room}/crates/top/out/top", os.X_OK))
             later = subprocess.run(["rt", "check", "--jobs", "1"], cwd=f"{room}/crates/top", capture_output=True, text=True, check=False)
             self.assertRegex(later.stdout, r"(?m)^crate top: modules loaded=\d+ checked=0$")
 

@@ -12,6 +12,7 @@ import importlib.machinery
 import importlib.util
 import os
 import shutil
+import subprocess
 import sys
 import tempfile
 
@@ -20,8 +21,8 @@ WRITTEN_FOR = "rattle-kit-13f and rattle-kit-13b, logic dac8208d650f15bf"
 NAMES = "KIT checked edited edits_of free in_lanes processors rtlib unread".split()
 # Of rt, where checkouts share what is proved.
 SHARING_NAMES = "linked share_work work_for".split()
-LIBRARY_NAMES = "PARTS STALE crates_below files_of fmt guarded lock".split()
-CRATE_NAMES = "below build_and_run build_rlib check count has_tests is_built makes_rlib run".split()
+LIBRARY_NAMES = "PARTS STALE crates_below files_of fmt guarded kit_sources lock".split()
+CRATE_NAMES = "below build_and_run build_rlib check count has_tests is_built makes_rlib run sources_below".split()
 
 
 def stop(why):
@@ -47,11 +48,11 @@ rt = load()
 SHARES = all(hasattr(rt, it) for it in SHARING_NAMES)
 
 
-def start():
+def start(shares=True):
     """Has what a script starts end with it, and what it proves shared with the other checkouts of this machine where they share. To be called first, by the
     main thread: it sets a signal's handler."""
     rt.rtlib.guarded()
-    if SHARES:
+    if SHARES and shares:
         rt.share_work(True)
 
 
@@ -62,8 +63,15 @@ def version():
         return f"{name.read().strip()} {hashlib.sha256(parts.read()).hexdigest()}"
 
 
+def logic():
+    """Returns the name of the kit's logic, by which a proof holds or does not, or the kit's where it names none."""
+    return version().partition(" logic ")[2].split()[0] if " logic " in version() else version()
+
+
 # The crates below a folder, lowest first. Each has a name, a folder and below(), the crates of the repository under it.
 crates_below = rt.rtlib.crates_below
+# The words before a command that has to end when this script ends.
+guarded = rt.rtlib.guarded
 # Keeps other runs of rt out of some crates until what it returns is closed.
 lock = rt.rtlib.lock
 # The files of a crate's src/, specs/ and proofs/.
@@ -74,6 +82,8 @@ in_lanes = rt.in_lanes
 edited = rt.edited
 # The files of a crate's edits of must-fail, and what stands beside them that is none.
 must_fail_of = rt.edits_of
+# The words by which the front end reads some libraries of the kit, and those that they use, as source.
+kit_sources = rt.rtlib.kit_sources
 # Whether a line of a check says that a text cannot be read.
 is_unread = rt.unread
 processors, free = rt.processors, rt.free
@@ -104,6 +114,18 @@ def build(crate, jobs):
 def test(crate, jobs):
     """Proves a crate's tests over what is kept, and runs them. Returns whether all pass, and what was said."""
     return said_by(crate, lambda it: it.run(["--jobs", str(jobs)], [], tests=True))
+
+
+def archives():
+    """Returns the archives of C with which every program is linked."""
+    return [f"{rt.KIT}/c/{it}" for it in ("libos_c.a", "liblibc_c.a")]
+
+
+def link(built, to):
+    """Links the object of a program as a build does. Returns whether it is linked, and what was said."""
+    words = ["--target", "x86_64-unknown-linux-gnu", "--toolchain", f"{rt.KIT}/toolchain", "-o", to, built, *archives()]
+    ran = subprocess.run([f"{rt.KIT}/bin/rattle-link", *words], capture_output=True, text=True, errors="replace", check=False)
+    return ran.returncode == 0, ran.stdout + ran.stderr
 
 
 def is_formatted(crate):

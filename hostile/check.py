@@ -9,7 +9,7 @@ memory   each single request for memory is refused, by itself and with all after
          are counted by hand, and programs that execute everything, are answered by it as by the program
 devices  full devices, closed pipes, folders, files that aren't there or may not be read, devices without an end, closed standard streams, no file or memory to be had
 sizes    one byte, line or input too many, or a byte too few
-bytes    N sources, feeds, command files and images (cases.py; if not said 600 of each, and 20,000 where CI is true), each in a process of its own: it ends in time and in little memory, with a refusal
+bytes    N sources, feeds, command files and images (cases.py; if not said 600 of each, by a seed of the time, which is told), each in a process of its own: it ends in time and in little memory, with a refusal
          that exists; and `check` tells a fault of each source exactly where `asm` does, and that one among its own, with `--flight` and without; what is taken without is taken with it, to the same listing; and of a feed the fault that `run` tells. What hostile/long_run tries in one process gives the same answers; and in one process N more of each are tried with a failure besides
 
 The last line is 'N passed, M failed'. The built programs are crates/agcws/out/agcws, or what AGCWS names, and crates/vector_session/out/vector_session, or what VECTOR_SESSION names; `./check` leaves both, and `rt run`
@@ -830,12 +830,13 @@ def alike(made, seed):
 
 def main():
     parser = argparse.ArgumentParser(description=__doc__, formatter_class=argparse.RawDescriptionHelpFormatter)
-    parser.add_argument("--cases", type=int, default=20_000 if os.environ.get("CI") == "true" else 600)
-    parser.add_argument("--seed", default="agcws")
+    parser.add_argument("--cases", type=int, default=600)
+    parser.add_argument("--seed", default=time.strftime("%Y-%m-%dT%H:%M:%S"))
     parser.add_argument("parts", nargs="*", choices=[[], "memory", "devices", "sizes", "bytes"], metavar="PART")
     given = parser.parse_args()
     if cases.is_any_missing("hostile/check.py", *([VECTOR_SESSION] if not given.parts or "memory" in given.parts else [])):
         return 1
+    print(f"hostile inputs by --seed {given.seed}", flush=True)
     parts = {"memory": memory, "devices": devices, "sizes": sizes, "bytes": lambda room: hostile_bytes(room, given.cases, given.seed)}
     for name, part in parts.items():
         if not given.parts or name in given.parts:

@@ -114,7 +114,7 @@ def check_calls(room):
     same("a source that is not there", call("wave", f"{room}/none", EMPTY, "4"), (3, "", "agcws: E6\n"))
     same("lines that are not there", call("dsky", f"{room}/none"), (3, "", f"dsky: {room}/none: No such file or directory\n"))
     status, out, err = call("wave", *LOST, "4", env={**os.environ, "AGCWS": f"{room}/none"})
-    same("a program that is not there", (status, out, err), (3, "", f"{room}/none is not there: ./agcws --help builds it, or AGCWS names another, as crates/agcws/out/unproved/agcws after ./agcws --unproved --help\n"))
+    same("a program that is not there", (status, out, err), (3, "", f"{room}/none is not there: ./agcws --prove builds it, or AGCWS names another, as crates/agcws/out/unproved/agcws after ./agcws --unproved --help\n"))
     with subprocess.Popen([f"{VIEWS}/wave", f"{EXAMPLES}/seconds.agc", EMPTY, "50000"], stdout=subprocess.PIPE, stderr=subprocess.PIPE) as ran:
         ran.stdout.close()
         same("an output that nobody reads", ran.stderr.read(), b"")

@@ -27,7 +27,7 @@ def program():
     for path in [named] if named else [f"{ROOT}/crates/agcws/out/agcws", "agcws"]:
         if shutil.which(path):
             return path
-    raise Refused(3, f"{named or 'the program'} is not there: ./agcws --help builds it, or AGCWS names another, as crates/agcws/out/unproved/agcws after ./agcws --unproved --help")
+    raise Refused(3, f"{named or 'the program'} is not there: ./agcws --prove builds it, or AGCWS names another, as crates/agcws/out/unproved/agcws after ./agcws --unproved --help")
 
 
 def answer(*words, given=""):

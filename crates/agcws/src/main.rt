@@ -3,20 +3,15 @@
 
 ghost use Rattle.std.specs.Prelude.{◌≤◌, ◌-◌, ◌^◌, IfSome};
 
-mod command_line;
 mod gathered;
-mod help;
-mod image_file;
 mod ropes;
 mod target;
 
-use clap::ArgMatches;
-use clap::error::ErrorKind;
-use command_line::{
-    ASM, CHECK, COMPARE, COVER, DEBUG, END, EXPLAIN, EXTENDED, FEED, FLIGHT, FORM, FROM,
-    IGNORED_PARITY, IMAGE, NOTES, NUMBER, PARITY, PROGRESS, ROPE, RUN, SOURCE, STEPS, SUMS, TO,
-    TRACE, UNUSED, UPGRADE, VERSION, VERSION_ONE, VERSION_TWO, WITH_SUMS, WORDS, command,
+use arguments::{
+    Arguments, AsmArguments, CheckArguments, CoverArguments, DebugArguments, ImageArguments,
+    ImageVersion, ProgramArguments, RunArguments, TraceArguments,
 };
+use command_line::{Parsed, parse};
 use gathered::Gathered;
 use image_file::ImageFile;
 use ropes::{compare, show_parity, show_sums, show_words, upgrade};
@@ -34,6 +29,8 @@ use workshop::{
     unread_text, write_end, write_tally,
 };
 
+const _: () = prove!(command_line::MOST_STEPS == workshop::MOST_STEPS);
+
 /// The exit status where all is done.
 const DONE: u8 = 0;
 
@@ -48,18 +45,6 @@ const WRONG_ARGUMENTS: u8 = 2;
 
 /// The null device.
 const NULL: &str = "/dev/null";
-
-/// What is said of options that go with `--image`, where this is missing.
-const NO_IMAGE: &[u8] =
-    b"\n--rope, --parity, --form and --symbols go with --image, by which SRC is a rope image.\n";
-
-/// What is said of a run, a trace or a profile without a feed, after what `clap` says.
-const NO_FEED: &[u8] =
-    b"\nFEED is missing, which stands before N: where a program takes no inputs, it is /dev/null.\n";
-
-/// What is said of a session without a feed.
-const NO_FEED_OF_SESSION: &[u8] =
-    b"\nFEED is missing: where a program takes no inputs, it is /dev/null.\n";
 
 /// What is said of a number that no refusal has.
 const NO_REFUSAL: &[u8] =
@@ -97,114 +82,38 @@ fn perform(rt: &HostRuntime) -> Result<u8, WorkshopFault> {
         }
         Err(_) => return refuse_arguments(rt, b"error: an argument is not valid UTF-8\n"),
     };
-    let command = command(rt.alloc()).map_err(no_memory)?;
-    match command.try_get_matches_from(words.as_slice()) {
-        Ok(matches) => match matches.subcommand() {
-            Some((ASM, matches)) => asm(rt, matches),
-            Some((RUN, matches)) => run(rt, matches),
-            Some((TRACE, matches)) => trace(rt, matches),
-            Some((COVER, matches)) => cover(rt, matches),
-            Some((DEBUG, matches)) => debug(rt, matches),
-            Some((CHECK, matches)) => check(rt, matches),
-            Some((EXPLAIN, matches)) => explain(rt, matches),
-            Some((UPGRADE, matches)) => upgrade(rt, matches),
-            Some((WORDS, matches)) => show_words(rt, matches),
-            Some((COMPARE, matches)) => compare(rt, matches),
-            Some((SUMS, matches)) => show_sums(rt, matches),
-            Some((PARITY, matches)) => show_parity(rt, matches),
-            _ => Ok(WRONG_ARGUMENTS),
-        },
-        Err(error) => {
-            let missing = missing_in(rt, &error)?;
-            let status = answer(rt, &error)?;
-            tell_missing(rt, &words, missing)?;
-            Ok(status)
-        }
+    match parse(rt.alloc(), words.as_slice()).map_err(no_memory)? {
+        Parsed::Arguments(arguments) => obey(rt, &arguments),
+        Parsed::Help(text) => tell_help(rt, text.as_str().as_bytes()),
+        Parsed::Wrong(text) => refuse_arguments(rt, text.as_str().as_bytes()),
     }
 }
 
-/// Which arguments are missing, of those of which more is said than `clap` does.
-#[derive(Clone, Copy, Drop)]
-struct Missing {
-    image: bool,
-    feed: bool,
-}
-
-/// Finds which arguments are missing, before anything is written, since it takes memory.
-fn missing_in(rt: &HostRuntime, error: &clap::Error) -> Result<Missing, WorkshopFault> {
-    if error.kind() != ErrorKind::MissingRequiredArgument {
-        return Ok(Missing {
-            image: false,
-            feed: false,
-        });
-    }
-    let text = format!(in rt.alloc(); "{error}").map_err(no_memory)?;
-    let text = text.as_str();
-    Ok(Missing {
-        image: text.split_once("\n  --image\n").is_some(),
-        feed: text.split_once("\n  <FEED>\n").is_some() || text.split_once("\n  <N>\n").is_some(),
-    })
-}
-
-/// Says more of arguments that are missing than `clap` does: with what an option goes, and where a feed stands.
-fn tell_missing(rt: &HostRuntime, words: &[String], missing: Missing) -> Result<(), WorkshopFault> {
-    if missing.image {
-        refuse_arguments(rt, NO_IMAGE)?;
-    }
-    if missing.feed {
-        if let Some(text) = said_of_feed(words) {
-            refuse_arguments(rt, text)?;
-        }
-    }
-    Ok(())
-}
-
-/// What is said where arguments that lack some lack the feed: those of a session always do, and those of `agcws run`, of
-/// `agcws trace` and of `agcws cover` where they end with a number.
-fn said_of_feed(words: &[String]) -> Option<&'static [u8]> {
-    let name = words.get(1)?.as_str();
-    let is_number = words
-        .last()
-        .is_some_and(|word| word.as_str().parse::<u64>().is_ok());
-    if name == DEBUG {
-        Some(NO_FEED_OF_SESSION)
-    } else if is_number && (name == RUN || name == TRACE || name == COVER) {
-        Some(NO_FEED)
-    } else {
-        None
+/// Does what the arguments ask for, once they are parsed.
+fn obey(rt: &HostRuntime, arguments: &Arguments<'_>) -> Result<u8, WorkshopFault> {
+    match arguments {
+        Arguments::Asm(asked) => asm(rt, asked),
+        Arguments::Run(asked) => run(rt, asked),
+        Arguments::Trace(asked) => trace(rt, asked),
+        Arguments::Cover(asked) => cover(rt, asked),
+        Arguments::Debug(asked) => debug(rt, asked),
+        Arguments::Check(asked) => check(rt, asked),
+        Arguments::Explain(number) => explain(rt, *number),
+        Arguments::Upgrade(asked) => upgrade(rt, asked),
+        Arguments::Words(asked) => show_words(rt, asked),
+        Arguments::Compare(asked) => compare(rt, asked),
+        Arguments::Sums(asked) => show_sums(rt, asked),
+        Arguments::Parity(image) => show_parity(rt, image),
     }
 }
 
-/// Writes help to standard output, or a mistake in the arguments to standard error.
-fn answer(rt: &HostRuntime, error: &clap::Error) -> Result<u8, WorkshopFault> {
-    match error.kind() {
-        ErrorKind::OutOfMemory => return Err(WorkshopFault::NoMemory),
-        ErrorKind::UnknownArgument | ErrorKind::InvalidValue => {
-            let text = format!(in rt.alloc(); "{error}").map_err(no_memory)?;
-            let text = without_tip(rt.alloc(), text).map_err(no_memory)?;
-            return refuse_arguments(rt, text.as_str().as_bytes());
-        }
-        _ => {}
-    }
-    match error.print(rt) {
-        Ok(()) => Ok(error.exit_code() as u8),
-        Err(_) => Err(WorkshopFault::WriteFailed),
-    }
+/// Writes help to standard output.
+fn tell_help(rt: &HostRuntime, text: &[u8]) -> Result<u8, WorkshopFault> {
+    write_all(&mut Std::new(rt.stdout()), text)?;
+    Ok(DONE)
 }
 
-/// What `clap` says of a mistake, but for a tip and what it makes of it: it takes words for alike that are not, as `--version`
-/// and `--verbose`, and paths do not begin with `--`.
-fn without_tip(alloc: Global, text: String) -> Result<String, AllocError> {
-    let Some((mistake, others)) = text.as_str().split_once("\n\n  tip: ") else {
-        return Ok(text);
-    };
-    match others.rsplit_once("\n\n") {
-        Some((_, last)) => format!(in alloc; "{mistake}\n\n{last}"),
-        None => format!(in alloc; "{mistake}\n"),
-    }
-}
-
-/// Says what is wrong with the arguments, where `clap` does not tell it.
+/// Says what is wrong with the arguments.
 fn refuse_arguments(rt: &HostRuntime, text: &[u8]) -> Result<u8, WorkshopFault> {
     match write_all(&mut Std::new(rt.stderr()), text) {
         Ok(()) => Ok(WRONG_ARGUMENTS),
@@ -214,21 +123,15 @@ fn refuse_arguments(rt: &HostRuntime, text: &[u8]) -> Result<u8, WorkshopFault> 
 
 /// `agcws asm [--flight] [--sums] [--rope VERSION] SRC ROPE`. The file ROPE is made at the first write, so that a refused source leaves none. A
 /// path of the source, or of one, is refused for ROPE before anything is opened.
-fn asm<'a>(rt: &'a HostRuntime, matches: &'a ArgMatches<'_>) -> Result<u8, WorkshopFault> {
-    let (Some(source), Some(rope)) = (matches.get_str(SOURCE), matches.get_str(ROPE)) else {
-        return Ok(WRONG_ARGUMENTS);
-    };
-    let Some(version) = version(matches, VERSION) else {
-        return Ok(WRONG_ARGUMENTS);
-    };
-    if let Some(wrong) = wrong_target(rt, source, rope) {
+fn asm(rt: &HostRuntime, asked: &AsmArguments<'_>) -> Result<u8, WorkshopFault> {
+    if let Some(wrong) = wrong_target(rt, asked.source, asked.rope) {
         return refuse_arguments(rt, wrong.of_an_assembly());
     }
-    let language = language(matches);
-    let mut source = Std::new(fs::open(rt, source).map_err(not_opened)?);
+    let (language, version) = (language(asked.is_flight), version_named(asked.version));
+    let mut source = Std::new(fs::open(rt, asked.source).map_err(not_opened)?);
     let refused = Cell::new(false);
-    let mut image = Std::new(ImageFile::new(rt, rope, &refused));
-    if matches.get_flag(WITH_SUMS) {
+    let mut image = Std::new(ImageFile::new(rt, asked.rope, &refused));
+    if asked.has_sums {
         return asm_with_sums(rt, language, &mut source, &mut image, version, &refused);
     }
     with_stdout(rt, |listing| {
@@ -284,24 +187,26 @@ fn with_stdout<'a, T: Drop, F: FnOnce(&mut StandardOutput<'a>) -> Result<T, Work
     }
 }
 
-/// The version in which an image is read: that which an option names, and version 1, whose low bits are 0, where they are
-/// passed over.
-fn version(matches: &ArgMatches<'_>, option: &str) -> Option<Version> {
-    if matches.get_str(IGNORED_PARITY).is_some() {
-        return Some(Version::One);
+/// A version of images, by its name.
+fn version_named(version: ImageVersion) -> Version {
+    match version {
+        ImageVersion::One => Version::One,
+        ImageVersion::Two => Version::Two,
     }
-    match matches.get_str(option) {
-        Some(VERSION_ONE) => Some(Version::One),
-        Some(VERSION_TWO) => Some(Version::Two),
-        _ => None,
+}
+
+/// The version in which an image is read: that which is named, and version 1, whose low bits are 0, where they are passed over.
+fn version(image: &ImageArguments<'_>) -> Version {
+    if image.is_parity_ignored {
+        Version::One
+    } else {
+        version_named(image.version)
     }
 }
 
 /// The form in which the bytes of an image are taken.
-fn form(matches: &ArgMatches<'_>, option: &str) -> Form {
-    let is_hardware = matches.get_str(option).is_some();
-    let is_parity_ignored = matches.get_str(IGNORED_PARITY).is_some();
-    match (is_hardware, is_parity_ignored) {
+fn form(image: &ImageArguments<'_>) -> Form {
+    match (image.is_hardware, image.is_parity_ignored) {
         (false, false) => Form::AsWritten,
         (false, true) => Form::ParityIgnored,
         (true, false) => Form::Hardware,
@@ -310,20 +215,20 @@ fn form(matches: &ArgMatches<'_>, option: &str) -> Form {
 }
 
 /// Where the words come from that are to be run: a source, or an image of a version.
-fn origin(matches: &ArgMatches<'_>) -> Option<Origin> {
-    if matches.get_flag(IMAGE) {
-        version(matches, VERSION).map(Origin::Image)
+fn origin(program: &ProgramArguments<'_>) -> Origin {
+    if program.is_image {
+        Origin::Image(version(&program.file))
     } else {
-        Some(Origin::Source(language(matches)))
+        Origin::Source(language(program.is_flight))
     }
 }
 
 /// The table of names, where an option names one: it is opened, and read later.
 fn table(
     rt: &HostRuntime,
-    matches: &ArgMatches<'_>,
+    symbols: Option<&str>,
 ) -> Result<Option<ReadAhead<Std<fs::File>>>, WorkshopFault> {
-    match matches.get_str(command_line::SYMBOLS) {
+    match symbols {
         Some(path) => Ok(Some(opened(rt, path)?)),
         None => Ok(None),
     }
@@ -349,8 +254,8 @@ fn with_names(origin: Origin, names: Option<workshop::Symbols>) -> Origin {
 }
 
 /// The language of a source.
-fn language(matches: &ArgMatches<'_>) -> Language {
-    if matches.get_flag(FLIGHT) {
+fn language(is_flight: bool) -> Language {
+    if is_flight {
         Language::Flight
     } else {
         Language::Standard
@@ -358,29 +263,21 @@ fn language(matches: &ArgMatches<'_>) -> Language {
 }
 
 /// How many steps are asked for, where a run may have so many.
-fn steps(matches: &ArgMatches<'_>) -> Option<u64>
+fn steps(asked: u64) -> Option<u64>
     ensures { IfSome result (λ steps. steps ≤ 2 ^ 40 - 2) }
 {
-    match matches.get_one::<u64>(STEPS) {
-        Some(steps) if may_run(steps) => Some(steps),
-        _ => None,
-    }
+    if may_run(asked) { Some(asked) } else { None }
 }
 
 /// `agcws run [--end] [--progress] [--notes] [--flight] [--image] [--rope VERSION] [--parity ignore] [--form FORM] SRC FEED N`. Both files are opened before anything is read.
-fn run(rt: &HostRuntime, matches: &ArgMatches<'_>) -> Result<u8, WorkshopFault> {
-    let (Some(origin), Some(source), Some(feed), Some(steps)) = (
-        origin(matches),
-        matches.get_str(SOURCE),
-        matches.get_str(FEED),
-        steps(matches),
-    ) else {
+fn run(rt: &HostRuntime, asked: &RunArguments<'_>) -> Result<u8, WorkshopFault> {
+    let Some(steps) = steps(asked.steps) else {
         return Ok(WRONG_ARGUMENTS);
     };
-    let mut program = InForm::new(opened(rt, source)?, form(matches, FORM));
-    let mut feed = Std::new(fs::open(rt, feed).map_err(not_opened)?);
-    let tells = matches.get_flag(PROGRESS);
-    let notes = matches.get_flag(NOTES);
+    let origin = origin(&asked.program);
+    let (mut program, mut feed) = opened_program(rt, &asked.program)?;
+    let tells = asked.tells_progress;
+    let notes = asked.tells_notes;
     let summary = with_stdout(rt, |out| {
         if notes {
             run_noted(rt, origin, &mut program, &mut feed, steps, out, tells)
@@ -399,7 +296,7 @@ fn run(rt: &HostRuntime, matches: &ArgMatches<'_>) -> Result<u8, WorkshopFault> 
             run_program(rt.alloc(), origin, &mut program, &mut feed, steps, out)
         }
     })?;
-    end(rt, matches, &summary)
+    end(rt, asked.tells_end, &summary)
 }
 
 /// Runs a program, and tells then on standard error what has happened that is seldom meant.
@@ -442,37 +339,27 @@ fn run_noted<P: Read, F: Read, W: Write>(
 }
 
 /// Ends a run that is done: where `--end` stands, its summary is told on standard error.
-fn end(rt: &HostRuntime, matches: &ArgMatches<'_>, summary: &Summary) -> Result<u8, WorkshopFault> {
-    if matches.get_flag(END) {
+fn end(rt: &HostRuntime, tells: bool, summary: &Summary) -> Result<u8, WorkshopFault> {
+    if tells {
         write_end(summary, &mut Std::new(rt.stderr()))?;
     }
     Ok(DONE)
 }
 
 /// `agcws trace [--progress] [--flight] [--image] [--rope VERSION] [--parity ignore] [--form FORM] [--symbols FILE] SRC FEED N [--from T] [--to T]`. All files are opened before anything is read, and the table is read first.
-fn trace(rt: &HostRuntime, matches: &ArgMatches<'_>) -> Result<u8, WorkshopFault> {
-    let (Some(origin), Some(source), Some(feed), Some(steps)) = (
-        origin(matches),
-        matches.get_str(SOURCE),
-        matches.get_str(FEED),
-        matches.get_one::<u64>(STEPS),
-    ) else {
-        return Ok(WRONG_ARGUMENTS);
-    };
-    let first = matches.get_one::<u64>(FROM).unwrap_or(1);
-    let end = matches.get_one::<u64>(TO);
-    if end.is_some_and(|end| first > end) {
+fn trace(rt: &HostRuntime, asked: &TraceArguments<'_>) -> Result<u8, WorkshopFault> {
+    let first = asked.first.unwrap_or(1);
+    if asked.last.is_some_and(|last| first > last) {
         return refuse_arguments(rt, NO_STEPS);
     }
-    let last = end.unwrap_or(steps).min(steps);
+    let last = asked.last.unwrap_or(asked.steps).min(asked.steps);
     if !may_run(last) {
         return Ok(WRONG_ARGUMENTS);
     }
-    let mut table = table(rt, matches)?;
-    let mut program = InForm::new(opened(rt, source)?, form(matches, FORM));
-    let mut feed = Std::new(fs::open(rt, feed).map_err(not_opened)?);
-    let origin = with_names(origin, names(rt, &mut table)?);
-    let tells = matches.get_flag(PROGRESS);
+    let mut table = table(rt, asked.program.symbols)?;
+    let (mut program, mut feed) = opened_program(rt, &asked.program)?;
+    let origin = with_names(origin(&asked.program), names(rt, &mut table)?);
+    let tells = asked.tells_progress;
     with_stdout(rt, |out| {
         if tells {
             trace_telling(rt, origin, &mut program, &mut feed, first, last, out)
@@ -517,20 +404,14 @@ fn trace_telling<P: Read, F: Read, W: Write>(
 }
 
 /// `agcws cover [--progress] [--flight] [--image] [--rope VERSION] [--parity ignore] [--form FORM] [--symbols FILE] SRC FEED N`. All files are opened before anything is read, and the table is read first.
-fn cover(rt: &HostRuntime, matches: &ArgMatches<'_>) -> Result<u8, WorkshopFault> {
-    let (Some(origin), Some(source), Some(feed), Some(steps)) = (
-        origin(matches),
-        matches.get_str(SOURCE),
-        matches.get_str(FEED),
-        steps(matches),
-    ) else {
+fn cover(rt: &HostRuntime, asked: &CoverArguments<'_>) -> Result<u8, WorkshopFault> {
+    let Some(steps) = steps(asked.steps) else {
         return Ok(WRONG_ARGUMENTS);
     };
-    let mut table = table(rt, matches)?;
-    let mut program = InForm::new(opened(rt, source)?, form(matches, FORM));
-    let mut feed = Std::new(fs::open(rt, feed).map_err(not_opened)?);
-    let origin = with_names(origin, names(rt, &mut table)?);
-    let tells = matches.get_flag(PROGRESS);
+    let mut table = table(rt, asked.program.symbols)?;
+    let (mut program, mut feed) = opened_program(rt, &asked.program)?;
+    let origin = with_names(origin(&asked.program), names(rt, &mut table)?);
+    let tells = asked.tells_progress;
     with_stdout(rt, |out| {
         if tells {
             let mut progress = Std::new(rt.stderr());
@@ -551,20 +432,12 @@ fn cover(rt: &HostRuntime, matches: &ArgMatches<'_>) -> Result<u8, WorkshopFault
 }
 
 /// `agcws debug [--extended] [--flight] [--image] [--rope VERSION] [--parity ignore] [--form FORM] [--symbols FILE] SRC FEED`. All files are opened before anything is read, and the table is read first; commands come from standard input.
-fn debug(rt: &HostRuntime, matches: &ArgMatches<'_>) -> Result<u8, WorkshopFault> {
-    let (Some(origin), Some(source), Some(feed)) = (
-        origin(matches),
-        matches.get_str(SOURCE),
-        matches.get_str(FEED),
-    ) else {
-        return Ok(WRONG_ARGUMENTS);
-    };
-    let mut table = table(rt, matches)?;
-    let mut program = InForm::new(opened(rt, source)?, form(matches, FORM));
-    let mut feed = Std::new(fs::open(rt, feed).map_err(not_opened)?);
-    let origin = with_names(origin, names(rt, &mut table)?);
+fn debug(rt: &HostRuntime, asked: &DebugArguments<'_>) -> Result<u8, WorkshopFault> {
+    let mut table = table(rt, asked.program.symbols)?;
+    let (mut program, mut feed) = opened_program(rt, &asked.program)?;
+    let origin = with_names(origin(&asked.program), names(rt, &mut table)?);
     let mut commands = workshop::Counted::new(Std::new(rt.stdin()));
-    let is_extended = matches.get_flag(EXTENDED);
+    let is_extended = asked.is_extended;
     with_stdout(rt, |out| {
         if is_extended {
             return debug_extended(
@@ -592,13 +465,9 @@ fn debug(rt: &HostRuntime, matches: &ArgMatches<'_>) -> Result<u8, WorkshopFault
 }
 
 /// `agcws check [--flight] [--unused] SRC [FEED ..]`. All files are opened before anything is read. A file that can't be read is told by its name.
-fn check(rt: &HostRuntime, matches: &ArgMatches<'_>) -> Result<u8, WorkshopFault> {
-    let Some(name) = matches.get_str(SOURCE) else {
-        return Ok(WRONG_ARGUMENTS);
-    };
-    let names = matches.get_strs(command_line::FEEDS).unwrap_or(&[]);
-    let mut last = name;
-    match check_files(rt, matches, name, names, &mut last) {
+fn check(rt: &HostRuntime, asked: &CheckArguments<'_>) -> Result<u8, WorkshopFault> {
+    let mut last = asked.source;
+    match check_files(rt, asked, &mut last) {
         Ok(tally) => Ok(if tally.errors == 0 { DONE } else { REFUSED }),
         Err(fault) => refused_file(rt, last, fault),
     }
@@ -619,11 +488,10 @@ fn refused_file(rt: &HostRuntime, name: &str, fault: WorkshopFault) -> Result<u8
 /// Tells what is wrong with a source and some feeds. The file that was opened or read last is named beside a fault.
 fn check_files<'a>(
     rt: &HostRuntime,
-    matches: &ArgMatches<'_>,
-    name: &'a str,
-    names: &[&'a str],
+    asked: &CheckArguments<'a>,
     last: &mut &'a str,
 ) -> Result<workshop::Tally, WorkshopFault> {
+    let (name, names) = (asked.source, asked.feeds.as_slice());
     let mut source = opened(rt, name)?;
     let mut feeds = Vec::new(rt.alloc());
     for name in names {
@@ -633,8 +501,8 @@ fn check_files<'a>(
         }
     }
     *last = name;
-    let language = language(matches);
-    let unused = matches.get_flag(UNUSED);
+    let language = language(asked.is_flight);
+    let unused = asked.tells_unused;
     with_stdout(rt, |out| {
         let told = check_source(
             rt.alloc(),
@@ -667,8 +535,8 @@ fn check_feeds<'a, F: Read, W: Write>(
 }
 
 /// `agcws explain [NUMBER]`.
-fn explain(rt: &HostRuntime, matches: &ArgMatches<'_>) -> Result<u8, WorkshopFault> {
-    let text = match matches.get_str(NUMBER) {
+fn explain(rt: &HostRuntime, number: Option<&str>) -> Result<u8, WorkshopFault> {
+    let text = match number {
         None => all_headings(rt.alloc()),
         Some(name) => match (warning_named(name), refusal_named(name)) {
             (Some(warning), _) => workshop::warning_explanation(rt.alloc(), &warning),
@@ -703,6 +571,16 @@ fn ended<T: Drop>(
         Err(_) if refused.get() => Err(WorkshopFault::NoMemory),
         Err(fault) => Err(fault),
     }
+}
+
+/// The files of a program and of its feed: the program's in the form in which its bytes are taken.
+fn opened_program(
+    rt: &HostRuntime,
+    program: &ProgramArguments<'_>,
+) -> Result<(InForm<ReadAhead<Std<fs::File>>>, Std<fs::File>), WorkshopFault> {
+    let file = InForm::new(opened(rt, program.file.path)?, form(&program.file));
+    let feed = Std::new(fs::open(rt, program.feed).map_err(not_opened)?);
+    Ok((file, feed))
 }
 
 /// A file that is read, from its beginning on.

@@ -14,7 +14,7 @@ use Rattle.cpu.proofs.TakenLaws.{run-fits}
 use Rattle.cpu.proofs.Profiling.{profile_adds_up}
 use Rattle.cpu.proofs.RunLaws.{cycles-run, rise-next, run-add-one}
 use Rattle.cover.specs.declared.tally.Figures.{Figures}
-use Rattle.cover.specs.Tallies.{AllAddUp, all_accounts, RowsAddUp, shown_accounts, AreSmall, Counts, IsAccount, is_account, account_count, account_number, figures_at, no_figures, one_step_more, profile_of, put_down}
+use Rattle.cover.specs.Tallies.{AllAddUp, all_accounts, ShownAddUp, shown_accounts, AreSmall, Counts, IsAccount, is_account, account_count, account_number, figures_at, no_figures, one_step_more, profile_of, put_down}
 use Rattle.cover.proofs.Accounts.{is_one, once, one_is, other_account, same_is_one}
 use Rattle.cover.proofs.ShownAccounts.{shown_once}
 
@@ -121,8 +121,8 @@ counts_more scenario now n s old new same at before here e =
 pub adds_up : (scenario : Scenario) (n : ℕ) (figures : List Figures) → Counts scenario n figures → AllAddUp scenario n
 adds_up scenario n figures counts = profile_adds_up scenario n all_accounts (λ t lt. once (account_of scenario (run scenario t)) (counts.known t lt))
 
-pub rows_add_up : (scenario : Scenario) (n : ℕ) (figures : List Figures) → Counts scenario n figures → RowsAddUp scenario n
-rows_add_up scenario n figures counts =
+pub shown_add_up : (scenario : Scenario) (n : ℕ) (figures : List Figures) → Counts scenario n figures → ShownAddUp scenario n
+shown_add_up scenario n figures counts =
     profile_adds_up scenario n (shown_accounts scenario.rope) (λ t lt. shown_once scenario.rope (account_of scenario (run scenario t)) (counts.known t lt))
 
 -- the figures of each account are small

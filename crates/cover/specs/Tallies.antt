@@ -51,16 +51,16 @@ word_accounts words bank = flat_map (word_account words bank) (range_with_len 0 
 abbrev pub empty_accounts : Words → ℕ → List Account
 empty_accounts words bank = flat_map (empty_account words bank) (range_with_len 0 bank_words)
 
--- the accounts of the rows: the places of words, then the erasable ones, then the fixed ones without a word, then inputs, entries and
--- words that waited
+-- the accounts that rows show, each once: the places where a word stands, then the erasable ones, then the fixed ones without a word, then
+-- inputs, entries and words that waited
 unfoldable pub shown_accounts : Words → List Account
 shown_accounts words =
     flat_map (word_accounts words) (range_with_len 0 selected_banks)
     ++ (erasable_accounts ++ (flat_map (empty_accounts words) (range_with_len 0 selected_banks) ++ (Input ∷ Entry ∷ Waiting ∷ [])))
 
--- the rows add up to the last of them: all steps, and the run's cycles
-abbrev pub RowsAddUp : Scenario → ℕ → Type 0
-RowsAddUp scenario n = AddsUp scenario n (shown_accounts scenario.rope)
+-- each step of a run is counted at exactly one of them: their counts are its steps, and their cycles the run's
+abbrev pub ShownAddUp : Scenario → ℕ → Type 0
+ShownAddUp scenario n = AddsUp scenario n (shown_accounts scenario.rope)
 
 -- whether there is an account
 abbrev pub is_account : Account → Bool

@@ -6,7 +6,7 @@ ghost use Rattle.cpu.specs.Next.{next};
 ghost use Rattle.cpu.specs.Profiles.{account_of, step_cycles};
 ghost use Rattle.cpu.specs.Run.{run};
 ghost use Rattle.cpu.specs.State.{FitsRun, Scenario};
-ghost use Rattle.cover.specs.Tallies.{account_count, account_number, AllAddUp, AreSmall, Counts, RowsAddUp, figures_at, is_account, IsAccount, no_figures, one_step_more, put_down};
+ghost use Rattle.cover.specs.Tallies.{account_count, account_number, AllAddUp, AreSmall, Counts, ShownAddUp, figures_at, is_account, IsAccount, no_figures, one_step_more, put_down};
 
 use cpu::{Account, Machine, Processor};
 use space::{BANK_WORDS, Linear};
@@ -91,7 +91,7 @@ impl Tally {
         ensures state { machine.new ≡ run processor.old.scenario stop }
         ensures counts { Counts processor.old.scenario stop self.new }
         ensures adds_up { AllAddUp processor.old.scenario stop }
-        ensures rows_add_up { RowsAddUp processor.old.scenario stop }
+        ensures shown_add_up { ShownAddUp processor.old.scenario stop }
     {
         for _ in done..stop {
             self.step(processor, machine);

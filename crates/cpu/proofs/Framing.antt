@@ -1,10 +1,12 @@
--- An instruction leaves what is not of its row.
-use Rattle.std.proofs.Common.{◌≡◌, ◌≢◌, ℕ, Bool, true, false, cond, not, ◌==◌, ◌&&◌, List, [], ◌∷◌, ◌++◌, Option, refl, ap, ◌∙◌, sym, subst}
+-- An instruction leaves what is not of its row, and inputs and entries what is not theirs.
+use Rattle.std.proofs.Common.{◌≡◌, ◌≢◌, ℕ, ◌+◌, ◌*◌, Bool, true, false, cond, not, ◌==◌, ◌&&◌, List, [], ◌∷◌, ◌++◌, Option, None, refl, ap, ◌∙◌, sym, subst}
 use Rattle.std.specs.Prelude.{nat_le, is_some}
+use Rattle.std.specs.FinSet as set
 use Rattle.std.specs.List.{flat_map}
 use Rattle.words.specs.declared.wide.Overflow.{Overflow}
 use Rattle.rope.specs.Places.{Words}
-use Rattle.space.specs.Cells.{at, accumulator, lower_accumulator, return_address, program_counter, cycle_right, edit_opcode}
+use Rattle.words.specs.Numbers.{extend}
+use Rattle.space.specs.Cells.{at, put, accumulator, lower_accumulator, return_address, program_counter, cycle_right, edit_opcode}
 use Rattle.space.specs.declared.place.Linear.{Linear}
 use Rattle.space.specs.declared.place.Linear.TheVariants.{Erasable, Fixed}
 use Rattle.cpu.specs.declared.instruction.Instruction.{Instruction}
@@ -12,17 +14,24 @@ use Rattle.cpu.specs.declared.instruction.Instruction.TheVariants.{Relint, Inhin
 use Rattle.cpu.specs.declared.spot.Spot.{Spot}
 use Rattle.cpu.specs.declared.spot.Spot.TheVariants.{Cell}
 use Rattle.cpu.specs.declared.output.Output.{Output}
-use Rattle.cpu.specs.State.{State, Scenario}
+use Rattle.feed.specs.declared.input.Input.{Input}
+use Rattle.cpu.specs.State.{State, Scenario, first_address, interrupted_address, interrupted_word}
 use Rattle.cpu.specs.Codes.{Code}
 use Rattle.cpu.specs.Effects.{place_in, erasable_number, has_overflow, first_of, greatest_short, greatest_address}
-use Rattle.cpu.specs.Next.{fetched, executed}
+use Rattle.cpu.specs.Inputs.{take}
+use Rattle.cpu.specs.Next.{extra_after, fetched, executed, entered, following_address, word_at_z}
 use Rattle.cpu.specs.Links.{Flow, to_place, place_cells, place_spots, is_in, edit_flows, fetch_flows, flows_of, overflow_in}
-use Rattle.cpu.specs.Frames.{Part, changed_by, edited_cells, part_cells, row_cells, KeepsRest, ChangesItsRow}
+use Rattle.cpu.specs.Frames.{Part, changed_by, edited_cells, part_cells, row_cells, KeepsRest, ChangesItsRow, InputKeepsRest, EntryKeepsRest, InputsKeepRest, EntriesKeepRest}
 use Rattle.cpu.proofs.Trails.{not_first, not_second}
 use Rattle.cpu.proofs.Linking.{fetched_by, fetched_place}
 use Rattle.cpu.proofs.Leaving.{Spared, leaves, fetch_leaves}
+use Rattle.cpu.proofs.LeavingBeside as beside
+use Rattle.cpu.proofs.LeavingBeside.{left_sum, left_word, leaves_waiting}
+use Rattle.cpu.proofs.LeavingFlags as flags
 use Rattle.cpu.proofs.LeavingFlags.{left_inhibit, left_inside, leaves_flags}
-use Rattle.cpu.proofs.StepLaws.{by_code}
+use Rattle.cpu.proofs.RunLaws.{counted_in}
+use Rattle.cpu.proofs.Flowing.{put_miss}
+use Rattle.cpu.proofs.StepLaws.{by_code, by_entry, by_input}
 use Rattle.cpu.proofs.TakenLaws.{account-after}
 
 -- a cell is of none of some parts
@@ -143,15 +152,35 @@ inside_kept : (s : State) (i : Instruction) → i ≢ Resume → left_inside s i
 inside_kept s Resume n = absurd (n refl)
 inside_kept s instruction n = refl
 
+extracode_ended : (extra : Bool) (i : Instruction) → i ≢ Extend → i ≢ Index → extra_after i extra ≡ false
+extracode_ended extra Extend n m = absurd (n refl)
+extracode_ended extra Index n m = absurd (m refl)
+extracode_ended extra instruction n m = refl
+
+-- nothing waits after the fetch, and one instruction alone leaves a sum, and one a word
+no_sum : (r : Words) (s : State) (i : Instruction) (k : ℕ) → s.waiting_sum ≡ None → i ≢ Index → left_sum r s i k ≡ None
+no_sum r s Index k none n = absurd (n refl)
+no_sum r s instruction k none n = none
+
+no_word : (s : State) (i : Instruction) → s.waiting_word ≡ None → i ≢ Resume → left_word s i ≡ None
+no_word s Resume none n = absurd (n refl)
+no_word s instruction none n = none
+
 keeps_rest : (r : Words) (s : State) (code : Code) → KeepsRest s (executed r (fetched s) code) code
 unfolding executed fetched
 keeps_rest r s code =
     let flags = leaves_flags r (fetched s) code.instruction code.operand in
+    let waiting = leaves_waiting r (fetched s) code.instruction code.operand in
     let counted = account-after r (fetched s) code.instruction code.operand in
     record {
       cells = λ c h. cells_kept r s code c h;
       inhibit = λ n m. flags.1.0 ∙ inhibit_kept (fetched s) code.instruction n m;
       inside = λ n. flags.1.1.0 ∙ inside_kept (fetched s) code.instruction n;
+      extracode_begins = λ e. ap (λ (i : Instruction). extra_after i s.extra) e;
+      extracode_stays = λ e. ap (λ (i : Instruction). extra_after i s.extra) e;
+      extracode_ends = λ n m. extracode_ended s.extra code.instruction n m;
+      sum = λ n. waiting.0 ∙ no_sum r (fetched s) code.instruction code.operand refl n;
+      word = λ n. waiting.1 ∙ no_word (fetched s) code.instruction refl n;
       requests = flags.1.1.1;
       taken = ap (λ (a : ℕ × List ℕ). a.0) counted;
       counts = ap (λ (a : ℕ × List ℕ). a.1) counted;
@@ -160,3 +189,37 @@ keeps_rest r s code =
 pub changes_its_row : (scenario : Scenario) (s : State) → ChangesItsRow scenario s
 changes_its_row scenario s = λ code e.
     subst (λ (t : State × Option Output). KeepsRest s t.0 code) (sym (by_code scenario s code e)) (keeps_rest scenario.rope s code)
+
+taken_keeps : (s : State) (given : Input × Option ℕ) → InputKeepsRest s (take s given)
+unfolding take
+taken_keeps s given =
+    let flag = flags.input_keeps (counted_in s given) given.0 in
+    let waiting = beside.input_keeps (counted_in s given) given.0 in
+    record { extra = flag.0; inhibit = flag.1.0; inside = flag.1.1; sum = waiting.0; word = waiting.1; requests = λ k there. flags.input_withdraws_none (counted_in s given) given.0 k there }
+
+pub inputs_keep_rest : (scenario : Scenario) (s : State) → InputsKeepRest scenario s
+inputs_keep_rest scenario s = λ given e. subst (λ (t : State × Option Output). InputKeepsRest s t.0) (sym (by_input scenario s given e)) (taken_keeps s given)
+
+entered_keeps : (r : Words) (s : State) (k : ℕ) → EntryKeepsRest s (entered r s k) k
+unfolding entered
+entered_keeps r s k = record {
+  cells = λ c h.
+      let z = not_first c (program_counter ∷ []) (interrupted_address ∷ interrupted_word ∷ []) h in
+      let rest = not_second c (program_counter ∷ []) (interrupted_address ∷ interrupted_word ∷ []) h in
+      let address = not_first c (interrupted_address ∷ []) (interrupted_word ∷ []) rest in
+      let word = not_second c (interrupted_address ∷ []) (interrupted_word ∷ []) rest in
+      put_miss (put (put s.cells interrupted_word (extend (word_at_z r s))) interrupted_address (following_address s)) program_counter (first_address + 4 * k) c z
+      ∙ put_miss (put s.cells interrupted_word (extend (word_at_z r s))) interrupted_address (following_address s) c address
+      ∙ put_miss s.cells interrupted_word (extend (word_at_z r s)) c word;
+  extra = refl;
+  inhibit = refl;
+  inside = refl;
+  sum = refl;
+  word = refl;
+  requests = refl;
+  taken = refl;
+  counts = refl;
+}
+
+pub entries_keep_rest : (scenario : Scenario) (s : State) → EntriesKeepRest scenario s
+entries_keep_rest scenario s = λ k e. subst (λ (t : State × Option Output). EntryKeepsRest s t.0 k) (sym (by_entry scenario s k e)) (entered_keeps scenario.rope s k)

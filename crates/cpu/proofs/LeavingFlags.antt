@@ -1,7 +1,8 @@
 -- From what come the flags after a step, and the interrupts then asked for.
-use Rattle.std.proofs.Common.{◌≡◌, ℕ, Bool, true, false, cond, not, ◌==◌, ◌&&◌, List, [], ◌∷◌, ◌++◌, Option, Some, None, refl, ap, ◌∙◌, sym}
+use Rattle.std.proofs.Common.{◌≡◌, ℕ, Bool, true, false, cond, not, ◌==◌, ◌&&◌, ◌||◌, List, [], ◌∷◌, ◌++◌, Option, Some, None, refl, ap, ◌∙◌, sym}
 use Rattle.std.specs.Prelude.{nat_le}
-use Rattle.std.specs.Ordering.{nat_cmp}
+use Rattle.std.specs.Ordering.{nat_cmp, eq_by_cmp}
+use Rattle.std.specs.Cmp.{nat_cmp_total}
 use Rattle.std.specs.FinSet as set
 use Rattle.words.specs.declared.counters.Carry.{Carry}
 use Rattle.words.specs.Numbers.{extend, correct}
@@ -155,6 +156,18 @@ input_asks s (Count counter sequence) =
     ∙ ap (λ requests. asked_set requests (asked_after counter step)) (carry_stays t (carries_into counter) step.carry (is_overflow step.carry) refl).1.1.1
 input_asks s (Word n w) = asked_is (change s (OnChannel n (extend w))) (asked_on n)
 input_asks s (Interrupt k) = refl
+
+-- an input withdraws nothing that was asked for
+or_true : (b : Bool) → (b || true) ≡ true
+or_true true = refl
+or_true false = refl
+
+inserted : (requests : set.FinSet nat_cmp) (o : Option ℕ) (k : ℕ) → set.contains requests k ≡ true → set.contains (asked_set requests o) k ≡ true
+inserted requests None k there = there
+inserted requests (Some j) k there = set.contains-insert nat_cmp_total requests j k ∙ rw there (or_true (eq_by_cmp nat_cmp k j))
+
+pub input_withdraws_none : (s : State) (input : Input) (k : ℕ) → set.contains s.requests k ≡ true → set.contains (input_effect s input).requests k ≡ true
+input_withdraws_none s input k there = ap (λ requests. set.contains requests k) (input_asks s input) ∙ inserted s.requests (asks_of s input) k there
 
 asks_same : (r : Words) (s : State) (o : Words) (t : State) (asks : Asks) (counter : Counter) (sequence : Sequence)
     → is_overflow (step_of sequence (count_of s counter)).carry ≡ is_overflow (step_of sequence (count_of t counter)).carry

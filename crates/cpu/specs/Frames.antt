@@ -1,16 +1,18 @@
--- What each instruction may change, and that it leaves all else as it was.
-use Rattle.std.specs.Prelude.{◌≡◌, ◌≢◌, ℕ, false, List, [], ◌∷◌, if◌then◌else◌, nat_le, ◌&&◌}
+-- What each instruction, an input and an entry may change, and that they leave all else as it was.
+use Rattle.std.specs.Prelude.{◌≡◌, ◌≢◌, ℕ, true, false, List, [], ◌∷◌, Option, None, if◌then◌else◌, nat_le, ◌&&◌}
+use Rattle.std.specs.FinSet as set
 use Rattle.std.specs.List.{flat_map}
 use Rattle.space.specs.Cells.{at, accumulator, lower_accumulator, return_address, program_counter, cycle_right, edit_opcode}
 use Rattle.space.specs.declared.place.Linear.{Linear}
 use Rattle.space.specs.declared.place.Linear.TheVariants.{Erasable, Fixed}
 use Rattle.cpu.specs.declared.instruction.Instruction.{Instruction}
 use Rattle.cpu.specs.declared.instruction.Instruction.TheVariants.{Relint, Inhint, Extend, Resume, Tc, Ccs, Tcf, Das, Lxch, Incr, Ads, Ca, Cs, Index, Dxch, Ts, Xch, Ad, Mask, Read, Write, Rand, Wand, Ror, Wor, Rxor, Edrupt, Dv, Bzf, Msu, Qxch, Aug, Dim, Dca, Dcs, Su, Bzmf, Mp}
-use Rattle.cpu.specs.State.{State, Scenario}
+use Rattle.feed.specs.declared.input.Input.{Input}
+use Rattle.cpu.specs.State.{State, Scenario, interrupted_address, interrupted_word}
 use Rattle.cpu.specs.Codes.{Code}
 use Rattle.cpu.specs.Effects.{place_in, erasable_number, first_of, greatest_short, greatest_address}
 use Rattle.cpu.specs.Next.{next}
-use Rattle.cpu.specs.Laws.{ExecutesCode}
+use Rattle.cpu.specs.Laws.{TakesInput, EntersInterrupt, ExecutesCode}
 use Rattle.cpu.specs.Links.{place_cells, cell_of_channel, is_in}
 
 -- a part of the machine: a register; the place of the operand, or of two places the first; either, where it edits what is read
@@ -89,15 +91,47 @@ part_cells lead k OnChannel = cell_of_channel k ∷ []
 abbrev pub row_cells : State → Code → List ℕ
 row_cells s code = program_counter ∷ flat_map (part_cells (place_in s) code.operand) (changed_by code.instruction)
 
--- After an instruction each other cell holds what it held; RELINT and INHINT alone change whether interrupts are inhibited, and RESUME whether one is served; what is
--- asked for and the inputs taken stay.
+-- After an instruction each other cell holds what it held; RELINT and INHINT alone change whether interrupts are inhibited, and RESUME whether one is served; EXTEND
+-- alone puts extracode in force, and only INDEX leaves it so; INDEX alone leaves a sum waiting, and RESUME alone a word; what is asked for and the inputs taken stay.
 pub record KeepsRest (s t : State) (code : Code) : Type 0 where
   pub cells : (c : ℕ) → is_in c (row_cells s code) ≡ false → at t.cells c ≡ at s.cells c
   pub inhibit : code.instruction ≢ Relint → code.instruction ≢ Inhint → t.inhibit ≡ s.inhibit
   pub inside : code.instruction ≢ Resume → t.inside ≡ s.inside
+  pub extracode_begins : code.instruction ≡ Extend → t.extra ≡ true
+  pub extracode_stays : code.instruction ≡ Index → t.extra ≡ s.extra
+  pub extracode_ends : code.instruction ≢ Extend → code.instruction ≢ Index → t.extra ≡ false
+  pub sum : code.instruction ≢ Index → t.waiting_sum ≡ None
+  pub word : code.instruction ≢ Resume → t.waiting_word ≡ None
   pub requests : t.requests ≡ s.requests
   pub taken : t.taken ≡ s.taken
   pub counts : t.counts ≡ s.counts
 
 abbrev pub ChangesItsRow : Scenario → State → Type 0
 ChangesItsRow scenario s = (code : Code) → ExecutesCode scenario s code → KeepsRest s (next scenario s).0 code
+
+-- An input leaves the flags, and what waits goes on waiting. (Of the cells it writes those that are told of it, and of the interrupts it withdraws none.)
+pub record InputKeepsRest (s t : State) : Type 0 where
+  pub extra : t.extra ≡ s.extra
+  pub inhibit : t.inhibit ≡ s.inhibit
+  pub inside : t.inside ≡ s.inside
+  pub sum : t.waiting_sum ≡ s.waiting_sum
+  pub word : t.waiting_word ≡ s.waiting_word
+  pub requests : (k : ℕ) → set.contains s.requests k ≡ true → set.contains t.requests k ≡ true
+
+-- An entry changes Z, ZRUPT and BRUPT, that an interrupt is served, and that this one is asked for, and leaves all else.
+pub record EntryKeepsRest (s t : State) (k : ℕ) : Type 0 where
+  pub cells : (c : ℕ) → is_in c (program_counter ∷ interrupted_address ∷ interrupted_word ∷ []) ≡ false → at t.cells c ≡ at s.cells c
+  pub extra : t.extra ≡ s.extra
+  pub inhibit : t.inhibit ≡ s.inhibit
+  pub inside : t.inside ≡ true
+  pub sum : t.waiting_sum ≡ s.waiting_sum
+  pub word : t.waiting_word ≡ s.waiting_word
+  pub requests : t.requests ≡ set.remove s.requests k
+  pub taken : t.taken ≡ s.taken
+  pub counts : t.counts ≡ s.counts
+
+abbrev pub InputsKeepRest : Scenario → State → Type 0
+InputsKeepRest scenario s = (given : Input × Option ℕ) → TakesInput scenario s given → InputKeepsRest s (next scenario s).0
+
+abbrev pub EntriesKeepRest : Scenario → State → Type 0
+EntriesKeepRest scenario s = (k : ℕ) → EntersInterrupt scenario s k → EntryKeepsRest s (next scenario s).0 k

@@ -3,7 +3,7 @@
 ghost use Rattle.std.specs.Prelude.{◌≡◌, ℕ, Option};
 ghost use Rattle.cpu.specs.Codes.{rows_serving};
 ghost use Rattle.cpu.specs.Laws.{AddsFewCycles, TakesInTurn, PutsOutByWriting, AsksNothing};
-ghost use Rattle.cpu.specs.Frames.{ChangesItsRow};
+ghost use Rattle.cpu.specs.Frames.{ChangesItsRow, EntriesKeepRest, InputsKeepRest};
 ghost use Rattle.cpu.specs.ByValue.{AddsDoubles, DoublesByValue, TicksAsOne, MultipliesByValue, DividesByValue, CountsDown, IndexesByValue};
 ghost use Rattle.cpu.specs.Interrupts.{InterruptLeadsBack, InterruptIsNotFelt};
 
@@ -62,6 +62,16 @@ pub fn step_asks_nothing(processor: &Processor, machine: &Machine)
 /// and whether one is served, what is asked for and the inputs taken.
 pub fn instruction_changes_its_row(processor: &Processor, machine: &Machine)
     ensures { ChangesItsRow processor.now.scenario machine.now }
+{
+    let _processor = processor;
+    let _machine = machine;
+}
+
+/// An input leaves the flags, what waits, and what is asked for; an entry changes Z, ZRUPT and BRUPT, that an interrupt is served, and that this one is asked for, and
+/// leaves all else.
+pub fn input_and_entry_keep_rest(processor: &Processor, machine: &Machine)
+    ensures input { InputsKeepRest processor.now.scenario machine.now }
+    ensures entry { EntriesKeepRest processor.now.scenario machine.now }
 {
     let _processor = processor;
     let _machine = machine;

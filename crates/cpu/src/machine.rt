@@ -453,35 +453,42 @@ impl Machine {
     }
 }
 
-#[cfg(test)]
-mod tests {
-    use super::*;
-
-    #[test]
-    fn images_outside_content(rt: HostRuntime) {
-        let machine = Machine::start();
-        let Machine {
-            store,
-            extra,
-            inhibit,
-            inside,
-            waiting_sum,
-            waiting_word,
-            requests,
-            asks,
-            waits,
-            taken,
-            counts,
-            cycles,
-        } = &machine;
-        let _: &Store = store;
-        let flags: [&bool; 5] = [extra, inhibit, inside, asks, waits];
-        let waiting: (&Option<Wide>, &Option<Word>) = (waiting_sum, waiting_word);
-        let _: &[bool; 10] = requests;
-        let _: &[u32; 16] = counts;
-        let numbers: (&usize, &u64) = (taken, cycles);
-        assert_eq!(rt; flags.len(), 5);
-        assert!(rt; waiting.0.is_none());
-        assert_eq!(rt; *numbers.0, 0);
-    }
+/// Takes a machine apart. No field is left out, so one more, as of a past, is refused here: an image is what is counted.
+fn all_fields(
+    machine: &Machine,
+) -> (
+    &Store,
+    [&bool; 5],
+    &Option<Wide>,
+    &Option<Word>,
+    &[bool; 10],
+    &[u32; 16],
+    &usize,
+    &u64,
+) {
+    let Machine {
+        store,
+        extra,
+        inhibit,
+        inside,
+        waiting_sum,
+        waiting_word,
+        requests,
+        asks,
+        waits,
+        taken,
+        counts,
+        cycles,
+    } = machine;
+    let flags = [extra, inhibit, inside, asks, waits];
+    (
+        store,
+        flags,
+        waiting_sum,
+        waiting_word,
+        requests,
+        counts,
+        taken,
+        cycles,
+    )
 }

@@ -259,19 +259,8 @@ impl Processor {
     }
 }
 
-#[cfg(test)]
-mod tests {
-    use super::*;
-    use std::test::Fail;
-
-    #[test]
-    fn images_outside_content(rt: HostRuntime) -> Result<(), Fail> {
-        let processor = Processor::new(Rope::empty(rt.alloc())?, Feed::empty(rt.alloc()));
-        let Processor { rope, feed, meter } = &processor;
-        let _: &Rope = rope;
-        let _: &Feed = feed;
-        let meter: &u128 = meter;
-        assert_eq!(rt; *meter, 0);
-        Ok(())
-    }
+/// Takes a processor apart. No field is left out, so one more, as a machine, is refused here.
+fn all_fields(processor: &Processor) -> (&Rope, &Feed, &u128) {
+    let Processor { rope, feed, meter } = processor;
+    (rope, feed, meter)
 }

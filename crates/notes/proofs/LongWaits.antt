@@ -29,7 +29,7 @@ use Rattle.cpu.specs.State.{State, Scenario, start}
 use Rattle.cpu.proofs.LeavingFlags.{leaves_flags}
 use Rattle.cpu.proofs.RunLaws.{counted_in, cycles-effect, rise-run, run-add-one, run-zero}
 use Rattle.notes.specs.declared.waits.Moment.{Moment}
-use Rattle.notes.specs.Waits.{Keeps, LongWait, Waits, WaitsAreExact, asked_at, asked_by, is_long, kept_from, kept_text, long_wait, moment_of, since, wait_text, waits_after, waits_long, waits_since, waits_text}
+use Rattle.notes.specs.Waits.{IsAskedSince, Keeps, LongWait, MomentsAreExact, Waits, WaitsAreExact, asked_at, asked_by, is_long, kept_from, kept_text, long_wait, moment_of, since, wait_text, waits_after, waits_long, waits_since, waits_text}
 
 -- ## What a step does to what is asked for
 abbrev asked_set : FinSet nat_cmp → Option ℕ → FinSet nat_cmp
@@ -343,3 +343,43 @@ told_long scenario k n (Some t) e w =
 
 pub are_exact : WaitsAreExact
 are_exact = λ scenario k n. (λ e. long_told scenario k n (waits_since scenario k n) refl e, λ w. told_long scenario k n (waits_since scenario k n) refl w)
+
+-- and not before
+begins_by : (scenario : Scenario) (k n t : ℕ) (before : Option ℕ) → waits_since scenario k n ≡ before → unwrap_or before (suc n) ≡ t
+    → ((b : ℕ) → waits_since scenario k n ≡ Some b → contains (run scenario (b - 1)).requests k ≡ false) → contains (run scenario (t - 1)).requests k ≡ false
+begins_by scenario k n t None e is shorter =
+    let last : t - 1 ≡ n = omega (arith, is) in
+    ap (λ u. contains (run scenario u).requests k) last ∙ sym (stands scenario k n) ∙ ap is_some e
+begins_by scenario k n t (Some b) e is shorter = ap (λ u. contains (run scenario (u - 1)).requests k) (sym is) ∙ shorter b e
+
+begins : (scenario : Scenario) (k n t : ℕ) → waits_since scenario k n ≡ Some t → contains (run scenario (t - 1)).requests k ≡ false
+unfolding waits_since
+begins scenario k zero t e = absurd (let no : None ≡ Some t = e in cc)
+begins scenario k (suc n) t e =
+    elim (cases_Bool (contains (run scenario (suc n)).requests k)) [
+      | inl hit ↦
+          let is : Some (unwrap_or (waits_since scenario k n) (suc n)) ≡ Some t = rw hit at e in
+          begins_by scenario k n t (waits_since scenario k n) refl (cc) (begins scenario k n)
+      | inr miss ↦ absurd (let no : None ≡ Some t = rw miss at e in cc)
+    ]
+
+moment_told : (scenario : Scenario) (k n : ℕ) (m : Moment) (t : Option ℕ) → waits_since scenario k n ≡ t → option_map (moment_of scenario) t ≡ Some m → IsAskedSince scenario k n m
+moment_told scenario k n m None e is = absurd (let no : None ≡ Some m = is in cc)
+moment_told scenario k n m (Some t) e is =
+    let same : moment_of scenario t ≡ m = cc in
+    let rest = without_break scenario k n t e in
+    subst (λ (x : Moment). IsAskedSince scenario k n x) same (record { within = rest.0; asked = rest.1; not_before = begins scenario k n t e; cycles = refl })
+
+told_moment : (scenario : Scenario) (k n : ℕ) (m : Moment) (t : Option ℕ) → waits_since scenario k n ≡ t → IsAskedSince scenario k n m → option_map (moment_of scenario) t ≡ Some m
+told_moment scenario k n m None e w =
+    absurd (let hit = w.asked n w.within (omega arith) in let there = stands scenario k n in let none : is_some (waits_since scenario k n) ≡ false = ap is_some e in let wrong : true ≡ false = sym hit ∙ sym there ∙ none in cc)
+told_moment scenario k n m (Some t) e w =
+    let low = not_later scenario k n m.step w.within w.asked t e in
+    elim (eqb_tells t m.step) [
+      | inl one ↦ λ i. Some (record { step = one.1 i; cycles = (ap (λ u. (run scenario u).cycles) one.1 ∙ sym w.cycles) i })
+      | inr apart ↦
+          absurd (let hit = (without_break scenario k n t e).1 (m.step - 1) (omega (arith, low, apart.1)) (omega (arith, w.within)) in let wrong : true ≡ false = sym hit ∙ w.not_before in cc)
+    ]
+
+pub moments_are_exact : MomentsAreExact
+moments_are_exact = λ scenario k n m. (λ is. moment_told scenario k n m (waits_since scenario k n) refl is, λ w. told_moment scenario k n m (waits_since scenario k n) refl w)

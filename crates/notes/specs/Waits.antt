@@ -93,3 +93,14 @@ pub record LongWait (scenario : Scenario) (k n : ℕ) : Type 0 where
 -- it waits long if and only if there is such a step
 abbrev pub WaitsAreExact : Type 0
 WaitsAreExact = (scenario : Scenario) (k n : ℕ) → (waits_long scenario k n ≡ true) ↔ LongWait scenario k n
+
+-- an interrupt is asked for since a moment: after its step, with so many cycles, and after each later one of n, and not after the step before
+pub record IsAskedSince (scenario : Scenario) (k n : ℕ) (m : Moment) : Type 0 where
+  pub within : m.step ≤ n
+  pub asked : (u : ℕ) → m.step ≤ u → u ≤ n → contains (run scenario u).requests k ≡ true
+  pub not_before : contains (run scenario (m.step - 1)).requests k ≡ false
+  pub cycles : m.cycles ≡ (run scenario m.step).cycles
+
+-- since a moment it is told to be asked for if and only if it is
+abbrev pub MomentsAreExact : Type 0
+MomentsAreExact = (scenario : Scenario) (k n : ℕ) (m : Moment) → (since scenario k n ≡ Some m) ↔ IsAskedSince scenario k n m

@@ -1,7 +1,7 @@
 //! The laws of notes. Each is the contract of a call that does nothing.
 
 ghost use Rattle.notes.specs.RunNotes.{NotesAreExact};
-ghost use Rattle.notes.specs.Waits.{WaitsAreExact};
+ghost use Rattle.notes.specs.Waits.{MomentsAreExact, WaitsAreExact};
 
 /// A note is counted if and only if it holds of some step, and told at a step if and only if it holds there for the first time.
 #[tactic(auto, using(crate::proofs::Exact::are_exact))]
@@ -13,4 +13,9 @@ pub fn notes_are_exact()
 #[tactic(auto, using(crate::proofs::LongWaits::are_exact))]
 pub fn waits_are_exact()
     ensures { WaitsAreExact }
+{}
+
+/// The moment since which an interrupt is told to be asked for is the one from which on it is asked for without a break, and not after the step before.
+pub fn moments_are_exact()
+    ensures { MomentsAreExact }
 {}

@@ -125,25 +125,12 @@ impl Keeper for SlotKeeper {
     ghost rising = { λ k. k.slotted.rising };
 }
 
-#[cfg(test)]
-mod tests {
-    use super::*;
-    use std::test::Fail;
-
-    #[test]
-    fn images_outside_content(rt: HostRuntime) -> Result<(), Fail> {
-        let keeper = SlotKeeper::new(rt.alloc())?;
-        let SlotKeeper {
-            slots,
-            entries,
-            free,
-        } = &keeper;
-        let slots: &Vec<Machine> = slots;
-        let entries: &ArrayVec<(u64, usize), 79> = entries;
-        let free: &ArrayVec<usize, 79> = free;
-        assert_eq!(rt; slots.len(), 79);
-        assert_eq!(rt; entries.len(), 0);
-        assert_eq!(rt; free.len(), 79);
-        Ok(())
-    }
+/// Takes a keeper apart. No field is left out, so no machine stands beside its slots.
+fn all_fields(keeper: &SlotKeeper) -> (&Vec<Machine>, &ArrayVec<(u64, usize), 79>, &ArrayVec<usize, 79>) {
+    let SlotKeeper {
+        slots,
+        entries,
+        free,
+    } = keeper;
+    (slots, entries, free)
 }

@@ -8,7 +8,7 @@ use Rattle.feed.specs.declared.entry.Entry.{Entry}
 use Rattle.symbols.specs.Values.{SymbolTable}
 use Rattle.yayul.specs.Program.{Program}
 use Rattle.cover.specs.CoverText.{cover_text}
-use Rattle.cover.specs.Tallies.{AllAddUp, RowsAddUp}
+use Rattle.cover.specs.Tallies.{AllAddUp, ShownAddUp}
 use Rattle.cover.specs.declared.shown.Shown.{Shown}
 use Rattle.cover.specs.declared.shown.Shown.TheVariants as shown
 use Rattle.cpu.specs.State.{Scenario}
@@ -50,11 +50,11 @@ ReadsSubject (origin.Image version) old new result = ReadsImaged version None ol
 ReadsSubject (origin.NamedImage version names) old new result = ReadsImaged version (Some names) old new result
 
 -- memory for the figures is refused, and nothing is written; or all steps are made and counted, each once,
--- and their profile is written, whose rows add up
+-- and their profile is written; all accounts add up, and so do those that rows show
 abbrev pub CoversRun : Shown → Scenario → ℕ → Writer → Writer → Result (Unit {0}) WorkshopFault → Type 0
 CoversRun lines scenario steps before after result =
     ((result ≡ Err NoMemory) × (after ≡ before))
-    ⊎ (WritesText (cover_text lines scenario steps) before after result × AllAddUp scenario steps × RowsAddUp scenario steps)
+    ⊎ (WritesText (cover_text lines scenario steps) before after result × AllAddUp scenario steps × ShownAddUp scenario steps)
 
 -- where the feed was read the run is covered, and after a fault nothing is written
 abbrev pub CoversThen : Subject → ℕ → Result (List Entry) WorkshopFault → Writer → Writer → Result (Unit {0}) WorkshopFault → Type 0

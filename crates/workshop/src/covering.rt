@@ -3,7 +3,7 @@
 ghost use Rattle.std.specs.Prelude.{◌≡◌, Some, ◌-◌, ◌≤◌, ◌^◌, true};
 ghost use Rattle.words.specs.Devices.{Writes, failures_after};
 ghost use Rattle.cover.specs.CoverText.{cover_text, profile_text, total_of};
-ghost use Rattle.cover.specs.Tallies.{AllAddUp, Counts, RowsAddUp, figures_at};
+ghost use Rattle.cover.specs.Tallies.{AllAddUp, Counts, ShownAddUp, figures_at};
 ghost use Rattle.cpu.specs.Run.{run};
 ghost use Rattle.workshop.specs.Covers.{Covers, CoversRun, ReadsImaged, ReadsSubject};
 ghost use Rattle.workshop.specs.Failures.{reader, writer};
@@ -161,7 +161,7 @@ fn make_steps<T: Write>(
     ensures counts { Counts processor.old.scenario steps tally.new }
     ensures cycles { result ≡ (run processor.old.scenario steps).cycles }
     ensures adds_up { AllAddUp processor.old.scenario steps }
-    ensures rows_add_up { RowsAddUp processor.old.scenario steps }
+    ensures shown_add_up { ShownAddUp processor.old.scenario steps }
     ensures progress { TellsAll steps (writer T.told T.written T.failures progress.old) (writer T.told T.written T.failures progress.new) }
 {
     let mut machine = Machine::start();

@@ -185,6 +185,7 @@ pub(crate) fn hand_on<W: Write>(out: &mut W) -> Result<(), WriteFailed>
 }
 
 /// Makes a step, writes the line of what it puts out, and answers how many lines that is.
+#[inline(always)]
 #[tactic(auto, using(crate::proofs::RunSteps::lines_of_none, crate::proofs::RunSteps::lines_of_one))]
 pub(crate) fn step_and_write<W: Write>(
     processor: &mut Processor,

@@ -1,7 +1,7 @@
 use Rattle.std.proofs.Common.{◌≡◌, ◌∙◌, refl, sym, ap, arith}
 use Rattle.cpu.proofs.RunLaws.{run-zero}
 use Rattle.cover.specs.Tallies.{Counts}
-use Rattle.cover.proofs.Counting.{adds_up, rows_add_up}
+use Rattle.cover.proofs.Counting.{adds_up, shown_add_up}
 use Rattle.workshop.proofs.Telling.{tells_at_start, tells_more}
 use Rattle.workshop.proofs.covering.make_steps.Goals as goal
 
@@ -48,11 +48,11 @@ returns-clause-adds_up g c =
     let counts : Counts c.args.processor.now.scenario c.args.steps c.loop-done.tally = rw end at c.loop-done.invariant.counts in
     adds_up c.args.processor.now.scenario c.args.steps c.loop-done.tally counts
 
-pub returns-clause-rows_add_up : goal.returns-clause-rows_add_up
-returns-clause-rows_add_up g c =
+pub returns-clause-shown_add_up : goal.returns-clause-shown_add_up
+returns-clause-shown_add_up g c =
     let end : c.loop-done.done ≡ c.args.steps = omega (arith, c.loop-done-test.false, c.loop-done.invariant.within) in
     let counts : Counts c.args.processor.now.scenario c.args.steps c.loop-done.tally = rw end at c.loop-done.invariant.counts in
-    rows_add_up c.args.processor.now.scenario c.args.steps c.loop-done.tally counts
+    shown_add_up c.args.processor.now.scenario c.args.steps c.loop-done.tally counts
 
 pub returns-clause-progress : goal.returns-clause-progress
 returns-clause-progress g c =

@@ -1,5 +1,5 @@
 use Rattle.std.proofs.Common.{◌≡◌, ◌∙◌, arith}
-use Rattle.cover.proofs.Counting.{adds_up, counts_more, few_cycles, fits_after, rows_add_up, small, state_more}
+use Rattle.cover.proofs.Counting.{adds_up, counts_more, few_cycles, fits_after, shown_add_up, small, state_more}
 use Rattle.cover.proofs.tally.Tally.make_steps.Goals as goal
 
 pub step-requires-clause-cycles : goal.step-requires-clause-cycles
@@ -23,7 +23,7 @@ returns-clause-adds_up c =
     let end : c.loop.counter ≡ c.args.stop = omega (arith, c.loop-test.false, c.loop.auto.counter-end c.requires.within) in
     adds_up c.args.processor.now.scenario c.args.stop c.loop.self (rw end at c.loop.invariant.counts)
 
-pub returns-clause-rows_add_up : goal.returns-clause-rows_add_up
-returns-clause-rows_add_up c =
+pub returns-clause-shown_add_up : goal.returns-clause-shown_add_up
+returns-clause-shown_add_up c =
     let end : c.loop.counter ≡ c.args.stop = omega (arith, c.loop-test.false, c.loop.auto.counter-end c.requires.within) in
-    rows_add_up c.args.processor.now.scenario c.args.stop c.loop.self (rw end at c.loop.invariant.counts)
+    shown_add_up c.args.processor.now.scenario c.args.stop c.loop.self (rw end at c.loop.invariant.counts)

@@ -1,4 +1,5 @@
 //! A file for an image, which is made when something is written to it, and stands in its place only once it is whole.
+#![tactic(auto)]
 
 ghost use Rattle.std.specs.Io.{WritesAtMost};
 

@@ -1,0 +1,192 @@
+//! What a command line asks for: a subcommand, and the values of its arguments.
+#![tactic(auto)]
+
+/// A subcommand with its arguments.
+#[derive(Drop)]
+pub enum Arguments<'a> {
+    /// A source is assembled.
+    Asm(AsmArguments<'a>),
+    /// A program is run.
+    Run(RunArguments<'a>),
+    /// A run is traced.
+    Trace(TraceArguments<'a>),
+    /// A run is profiled.
+    Cover(CoverArguments<'a>),
+    /// A program is debugged.
+    Debug(DebugArguments<'a>),
+    /// All faults of a source and of feeds are told.
+    Check(CheckArguments<'a>),
+    /// A refusal or a warning is explained, or all are listed.
+    Explain(Option<&'a str>),
+    /// An image is upgraded.
+    Upgrade(UpgradeArguments<'a>),
+    /// The words of an image are shown.
+    Words(WordsArguments<'a>),
+    /// Two images are compared, or a source with an image.
+    Compare(CompareArguments<'a>),
+    /// The banks of an image are summed.
+    Sums(SumsArguments<'a>),
+    /// The words of an image whose parity is wrong are shown.
+    Parity(ImageArguments<'a>),
+}
+
+/// A version of rope images.
+#[derive(Clone, Copy)]
+pub enum ImageVersion {
+    /// `--rope 1`: the lowest bit of each two bytes is 0.
+    One,
+    /// `--rope 2`: it is the parity.
+    Two,
+}
+
+/// A file that is a rope image, and how its bytes are to be taken.
+#[derive(Clone, Copy)]
+pub struct ImageArguments<'a> {
+    /// The file.
+    pub path: &'a str,
+    /// `--rope`: its version.
+    pub version: ImageVersion,
+    /// `--parity ignore`: whether the lowest bit of each two bytes is passed over.
+    pub is_parity_ignored: bool,
+    /// `--form hardware`: whether the parity stands below the highest bit.
+    pub is_hardware: bool,
+}
+
+/// A program to be run, with its feed.
+#[derive(Clone, Copy)]
+pub struct ProgramArguments<'a> {
+    /// The file of the program, and how it is to be taken where it is an image.
+    pub file: ImageArguments<'a>,
+    /// `--image`: whether it is an image in place of a source.
+    pub is_image: bool,
+    /// `--flight`: whether it is a source in the language of flight programs.
+    pub is_flight: bool,
+    /// `--symbols`: the file of a table of names.
+    pub symbols: Option<&'a str>,
+    /// The file of the feed.
+    pub feed: &'a str,
+}
+
+/// `agcws asm [--flight] [--sums] [--rope VERSION] SRC ROPE`.
+#[derive(Clone, Copy)]
+pub struct AsmArguments<'a> {
+    /// The file of the source.
+    pub source: &'a str,
+    /// The file of the image.
+    pub rope: &'a str,
+    /// `--rope`: the image's version.
+    pub version: ImageVersion,
+    /// `--flight`.
+    pub is_flight: bool,
+    /// `--sums`: whether words are added that make the banks' sums.
+    pub has_sums: bool,
+}
+
+/// `agcws run [--end] [--progress] [--notes] .. SRC FEED N`.
+#[derive(Clone, Copy)]
+pub struct RunArguments<'a> {
+    /// What is run.
+    pub program: ProgramArguments<'a>,
+    /// How many steps.
+    pub steps: u64,
+    /// `--end`: whether it is told how the run has ended.
+    pub tells_end: bool,
+    /// `--progress`: whether it is told how many steps are made.
+    pub tells_progress: bool,
+    /// `--notes`: whether it is told what is seldom meant.
+    pub tells_notes: bool,
+}
+
+/// `agcws trace [--progress] .. SRC FEED N [--from T] [--to T]`.
+#[derive(Clone, Copy)]
+pub struct TraceArguments<'a> {
+    /// What is run.
+    pub program: ProgramArguments<'a>,
+    /// How many steps.
+    pub steps: u64,
+    /// `--from`: the first step that is shown.
+    pub first: Option<u64>,
+    /// `--to`: the last step that is shown.
+    pub last: Option<u64>,
+    /// `--progress`.
+    pub tells_progress: bool,
+}
+
+/// `agcws cover [--progress] .. SRC FEED N`.
+#[derive(Clone, Copy)]
+pub struct CoverArguments<'a> {
+    /// What is run.
+    pub program: ProgramArguments<'a>,
+    /// How many steps.
+    pub steps: u64,
+    /// `--progress`.
+    pub tells_progress: bool,
+}
+
+/// `agcws debug [--extended] .. SRC FEED`.
+#[derive(Clone, Copy)]
+pub struct DebugArguments<'a> {
+    /// What is run.
+    pub program: ProgramArguments<'a>,
+    /// `--extended`: whether the session has more commands, and refusals in words.
+    pub is_extended: bool,
+}
+
+/// `agcws check [--flight] [--unused] SRC [FEED ..]`.
+#[derive(Drop)]
+pub struct CheckArguments<'a> {
+    /// The file of the source.
+    pub source: &'a str,
+    /// The files of the feeds.
+    pub feeds: Vec<&'a str>,
+    /// `--flight`.
+    pub is_flight: bool,
+    /// `--unused`: whether labels that no operand names are told.
+    pub tells_unused: bool,
+}
+
+/// `agcws upgrade OLD NEW`.
+#[derive(Clone, Copy)]
+pub struct UpgradeArguments<'a> {
+    /// The file of the image of version 1.
+    pub old: &'a str,
+    /// The file of the image of version 2.
+    pub new: &'a str,
+}
+
+/// `agcws words [--source | --symbols FILE] [--where] .. ROPE [BANK]`.
+#[derive(Clone, Copy)]
+pub struct WordsArguments<'a> {
+    /// The image.
+    pub image: ImageArguments<'a>,
+    /// The number of the bank that is shown; all are where none is given.
+    pub bank: Option<u16>,
+    /// `--source`: whether a source is written that gives the words.
+    pub is_source: bool,
+    /// `--symbols`: the file of a table of names.
+    pub symbols: Option<&'a str>,
+    /// `--where`: whether it is told where the image is refused.
+    pub tells_where: bool,
+}
+
+/// `agcws compare [--only] [--flight] .. OLD NEW`.
+#[derive(Clone, Copy)]
+pub struct CompareArguments<'a> {
+    /// The first image, or a source.
+    pub old: ImageArguments<'a>,
+    /// The second image.
+    pub new: ImageArguments<'a>,
+    /// `--only`: whether the first is a source, whose places alone are compared.
+    pub is_source: bool,
+    /// `--flight`.
+    pub is_flight: bool,
+}
+
+/// `agcws sums [--forms] .. ROPE`.
+#[derive(Clone, Copy)]
+pub struct SumsArguments<'a> {
+    /// The image.
+    pub image: ImageArguments<'a>,
+    /// `--forms`: whether the sums are told in both orders of the bits.
+    pub has_both_forms: bool,
+}

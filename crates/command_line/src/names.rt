@@ -1,0 +1,146 @@
+//! The names of subcommands and of arguments.
+
+/// The subcommand that assembles a program.
+pub const ASM: &str = "asm";
+
+/// The subcommand that runs a program.
+pub const RUN: &str = "run";
+
+/// The subcommand that traces a run.
+pub const TRACE: &str = "trace";
+
+/// The subcommand that profiles a run.
+pub const COVER: &str = "cover";
+
+/// The subcommand that debugs a program.
+pub const DEBUG: &str = "debug";
+
+/// The subcommand that tells all faults of a source.
+pub const CHECK: &str = "check";
+
+/// The subcommand that tells what a number of a refusal means.
+pub const EXPLAIN: &str = "explain";
+
+/// The subcommand that upgrades an image.
+pub const UPGRADE: &str = "upgrade";
+
+/// The subcommand that shows the words of an image.
+pub const WORDS: &str = "words";
+
+/// The subcommand that compares two images.
+pub const COMPARE: &str = "compare";
+
+/// The subcommand that sums the banks of an image.
+pub const SUMS: &str = "sums";
+
+/// The subcommand that tells which words of an image have a wrong parity.
+pub const PARITY: &str = "parity";
+
+/// The source.
+pub const SOURCE: &str = "SRC";
+
+/// The feed.
+pub const FEED: &str = "FEED";
+
+/// The feeds of a check.
+pub const FEEDS: &str = "FEEDS";
+
+/// The number of steps.
+pub const STEPS: &str = "N";
+
+/// The file of the rope image.
+pub const ROPE: &str = "ROPE";
+
+/// The first of two images.
+pub const OLD: &str = "OLD";
+
+/// The second of two images.
+pub const NEW: &str = "NEW";
+
+/// The bank that is shown.
+pub const BANK: &str = "BANK";
+
+/// The number of a refusal.
+pub const NUMBER: &str = "NUMBER";
+
+/// The version of an image.
+pub const VERSION: &str = "VERSION";
+
+/// The version of the first of two images.
+pub const OLD_VERSION: &str = "OLD_VERSION";
+
+/// The version of the second of two images.
+pub const NEW_VERSION: &str = "NEW_VERSION";
+
+/// Version 1 of the rope image, as it is named.
+pub const VERSION_ONE: &str = "1";
+
+/// Version 2 of the rope image, as it is named.
+pub const VERSION_TWO: &str = "2";
+
+/// How the low bits of an image are taken.
+pub const IGNORED_PARITY: &str = "IGNORED_PARITY";
+
+/// The form of an image.
+pub const FORM: &str = "FORM";
+
+/// The form of the first of two images.
+pub const OLD_FORM: &str = "OLD_FORM";
+
+/// The form of the second of two images.
+pub const NEW_FORM: &str = "NEW_FORM";
+
+/// That the first file is an image in place of a source.
+pub const IMAGE: &str = "IMAGE";
+
+/// That a source is in the language of flight programs.
+pub const FLIGHT: &str = "FLIGHT";
+
+/// A table of names for an image.
+pub const SYMBOLS: &str = "SYMBOLS";
+
+/// That an image gets check words.
+pub const WITH_SUMS: &str = "WITH_SUMS";
+
+/// That it is told how a run has ended.
+pub const END: &str = "END";
+
+/// That it is told how many steps are made, while they are made.
+pub const PROGRESS: &str = "PROGRESS";
+
+/// That notes of a run are told.
+pub const NOTES: &str = "NOTES";
+
+/// The first step of which a line is written.
+pub const FROM: &str = "FROM";
+
+/// The last step of which a line is written.
+pub const TO: &str = "TO";
+
+/// That a session has more commands, and refusals in words.
+pub const EXTENDED: &str = "EXTENDED";
+
+/// That labels which no operand names are told.
+pub const UNUSED: &str = "UNUSED";
+
+/// That the words of an image are shown as a source that gives them.
+pub const AS_SOURCE: &str = "AS_SOURCE";
+
+/// That it is told where an image is refused.
+pub const WHERE: &str = "WHERE";
+
+/// That a source is compared with an image, at the places that it fills.
+pub const ONLY: &str = "ONLY";
+
+/// That the sums of an image are told in both orders of the bits.
+pub const BOTH_FORMS: &str = "BOTH_FORMS";
+
+/// How many banks there are.
+pub const BANK_COUNT: usize = 36;
+
+/// The names of the banks by their numbers, and after them the shorter names that the first eight have besides.
+pub const BANKS: &[&str] = &[
+    "00", "01", "02", "03", "04", "05", "06", "07", "10", "11", "12", "13", "14", "15", "16", "17",
+    "20", "21", "22", "23", "24", "25", "26", "27", "30", "31", "32", "33", "34", "35", "36", "37",
+    "40", "41", "42", "43", "0", "1", "2", "3", "4", "5", "6", "7",
+];
