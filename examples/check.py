@@ -45,6 +45,7 @@ from rows import check_rows
 from tally import end, is_built, told
 from terminal import CTRL_C, Terminal
 from checks import check_checks
+from slips import check_slips
 from traces import check_trace
 
 PROGRAM = f"{ROOT}/crates/agcws/out/agcws"
@@ -1096,6 +1097,7 @@ def main():
         check_traces(room)
         check_covers(room)
         check_checks(PROGRAM, room, told, text_of("docs/MANUAL.md"))
+        check_slips(PROGRAM, room, told, EXAMPLES)
         check_operators()
         check_links()
         check_documents(room)

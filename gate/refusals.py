@@ -32,7 +32,7 @@ TURNS = [
     ["words", "audit"],
     ["replay", "test_devices", "test_keepers"],
     ["feed", "rope", "space"],
-    ["trace", "names", "cover", "notes", "source_laws", "image_file", "agcws"],
+    ["trace", "names", "cover", "notes", "source_laws", "image_file", "plans", "agcws"],
 ]
 
 

@@ -1,167 +1,183 @@
 //! The subcommands that read rope images.
 
+use crate::files::{ended, not_opened, opened, opened_image, refused_file, with_stdout};
 use crate::target::wrong_target;
-use crate::{
-    DIFFERENT, DONE, ended, form, language, names, not_opened, opened, refuse_arguments,
-    refused_file, table, version, with_stdout,
-};
-use arguments::{
-    CompareArguments, ImageArguments, SumsArguments, UpgradeArguments, WordsArguments,
-};
+use crate::{DIFFERENT, DONE, refuse_arguments};
 use image_file::ImageFile;
+use plans::{Image, Original, Shown, Words};
 use std::cell::Cell;
 use std::fs;
-use words::{ReadAhead, Std};
+use words::Std;
 use workshop::{
-    Bank, Compared, InForm, WorkshopFault, compare_engine, compare_only_engine, parity_engine,
-    report, source_engine, sums_engine, upgrade_engine, words_engine,
+    Bank, Compared, WorkshopFault, compare_engine, compare_only_engine, form_sums_engine,
+    named_words_engine, parity_engine, read_names, report, report_where, source_engine,
+    sums_engine, upgrade_engine, words_engine,
 };
 
 /// `agcws upgrade OLD NEW`. The file NEW is made at the first write, so that a refused image leaves none. A path of the old
 /// image, or of a source, is refused for NEW before anything is opened.
-pub fn upgrade(rt: &HostRuntime, asked: &UpgradeArguments<'_>) -> Result<u8, WorkshopFault> {
-    if let Some(wrong) = wrong_target(rt, asked.old, asked.new) {
+pub fn upgrade(rt: &HostRuntime, old: &str, new: &str) -> Result<u8, WorkshopFault> {
+    if let Some(wrong) = wrong_target(rt, old, new) {
         return refuse_arguments(rt, wrong.of_an_upgrade());
     }
-    let mut image = opened(rt, asked.old)?;
+    let mut image = opened(rt, old)?;
     let refused = Cell::new(false);
-    let mut out = Std::new(ImageFile::new(rt, asked.new, &refused));
-    let outcome = upgrade_engine(rt.alloc(), &mut image, &mut out);
-    ended(outcome, &refused)
+    let mut out = Std::new(ImageFile::new(rt, new, &refused));
+    ended(upgrade_engine(rt.alloc(), &mut image, &mut out), &refused)?;
+    Ok(DONE)
 }
 
-/// `agcws words [--source | --symbols FILE] [--where] [--rope VERSION] [--parity ignore] [--form FORM] ROPE [BANK]`. All files are opened before anything is read, and the table is read first.
-pub fn show_words(rt: &HostRuntime, asked: &WordsArguments<'_>) -> Result<u8, WorkshopFault> {
-    let version = version(&asked.image);
-    let bank = asked.bank.and_then(Bank::try_new);
-    let mut table = table(rt, asked.symbols)?;
-    let mut image = opened_image(rt, &asked.image)?;
-    let names = names(rt, &mut table)?;
-    let is_source = asked.is_source;
-    let outcome = with_stdout(rt, |out| match names {
-        Some(names) => workshop::named_words_engine(
-            rt.alloc(),
-            names,
-            &mut image,
-            version,
-            bank,
-            out,
-        ),
-        None if is_source => source_engine(rt.alloc(), &mut image, version, bank, out),
-        None => words_engine(rt.alloc(), &mut image, version, bank, out),
-    });
-    match outcome {
+/// `agcws words [--source | --symbols FILE] [--where] .. ROPE [BANK]`.
+pub fn show_words(rt: &HostRuntime, words: &Words<'_>) -> Result<u8, WorkshopFault> {
+    match write_words(rt, words) {
         Ok(()) => Ok(DONE),
-        Err(fault) if asked.tells_where => refused_where(rt, &fault),
+        Err(fault) if words.tells_where => refused_where(rt, &fault),
         Err(fault) => Err(fault),
     }
+}
+
+/// Writes the words of an image as they are to be shown.
+fn write_words(rt: &HostRuntime, words: &Words<'_>) -> Result<(), WorkshopFault> {
+    let (image, bank) = (&words.image, words.bank);
+    if let Shown::Named(table) = words.shown {
+        return write_named_words(rt, table, image, bank);
+    }
+    let mut file = opened_image(rt, image)?;
+    with_stdout(rt, |out| match words.shown {
+        Shown::Source => source_engine(rt.alloc(), &mut file, image.version, bank, out),
+        _ => words_engine(rt.alloc(), &mut file, image.version, bank, out),
+    })
+}
+
+/// Writes the words of an image with the names of a table. Both files are opened before anything is read, and the table is read first.
+fn write_named_words(
+    rt: &HostRuntime,
+    table: &str,
+    image: &Image<'_>,
+    bank: Option<Bank>,
+) -> Result<(), WorkshopFault> {
+    let mut table = opened(rt, table)?;
+    let mut file = opened_image(rt, image)?;
+    let names = read_names(rt.alloc(), &mut table)?;
+    with_stdout(rt, |out| {
+        named_words_engine(rt.alloc(), names, &mut file, image.version, bank, out)
+    })
 }
 
 /// Tells a fault, and where an image is refused.
 fn refused_where(rt: &HostRuntime, fault: &WorkshopFault) -> Result<u8, WorkshopFault> {
     let mut errors = Std::new(rt.stderr());
     let status = report(fault, &mut errors)?;
-    workshop::report_where(fault, &mut errors)?;
+    report_where(fault, &mut errors)?;
     Ok(status)
 }
 
-/// `agcws compare [--only] [--flight] [--old VERSION] [--new VERSION] [--parity ignore] [--old-form FORM] [--new-form FORM] OLD NEW`. Both files are opened before anything is read. A fault of a file that stands on no line is told by the file's name.
-pub fn compare(rt: &HostRuntime, asked: &CompareArguments<'_>) -> Result<u8, WorkshopFault> {
-    let mut last = asked.old.path;
-    let outcome = if asked.is_source {
-        compare_only(rt, asked, &mut last)
-    } else {
-        compare_images(rt, asked, &mut last)
-    };
-    match outcome {
-        Ok(count) => Ok(if count == 0 { DONE } else { DIFFERENT }),
-        Err(fault) => refused_file(rt, last, fault),
+/// `agcws compare [--old VERSION] [--new VERSION] .. OLD NEW`. Both files are opened before anything is read. A fault of an image
+/// is told by the file's name.
+pub fn compare(rt: &HostRuntime, old: &Image<'_>, new: &Image<'_>) -> Result<u8, WorkshopFault> {
+    let mut last = Compared::Old;
+    match compare_images(rt, old, new, &mut last) {
+        Ok(count) => Ok(status_of(count)),
+        Err(fault) => refused_file(rt, of_compared(last, old.path, new.path), fault),
     }
 }
 
-/// Compares two images, and answers at how many places they differ. The file that was opened or read last is named beside a fault.
-fn compare_images<'a>(
+/// Compares two images, and answers at how many places they differ. It is told which was opened or read last.
+fn compare_images(
     rt: &HostRuntime,
-    asked: &CompareArguments<'a>,
-    last: &mut &'a str,
+    old: &Image<'_>,
+    new: &Image<'_>,
+    last: &mut Compared,
 ) -> Result<u32, WorkshopFault> {
-    let mut image = opened_image(rt, &asked.old)?;
-    *last = asked.new.path;
-    let mut other = opened_image(rt, &asked.new)?;
-    let mut read = Compared::Old;
-    let outcome = with_stdout(rt, |out| {
+    let mut image = opened_image(rt, old)?;
+    *last = Compared::New;
+    let mut other = opened_image(rt, new)?;
+    *last = Compared::Old;
+    with_stdout(rt, |out| {
         compare_engine(
             rt.alloc(),
             &mut image,
-            version(&asked.old),
+            old.version,
             &mut other,
-            version(&asked.new),
-            &mut read,
+            new.version,
+            last,
             out,
         )
-    });
-    *last = of_compared(read, asked);
-    outcome
+    })
 }
 
-/// `agcws compare --only [--flight] [--new VERSION] [--parity ignore] [--new-form FORM] SRC ROPE`: compares a source with an image, as two images are compared.
-fn compare_only<'a>(
+/// `agcws compare --only [--flight] [--new VERSION] .. SRC ROPE`: compares a source with an image, as two images are compared. A
+/// fault of a file that stands on no line is told by the file's name.
+pub fn compare_only(
     rt: &HostRuntime,
-    asked: &CompareArguments<'a>,
-    last: &mut &'a str,
-) -> Result<u32, WorkshopFault> {
-    let mut text = Std::new(fs::open(rt, asked.old.path).map_err(not_opened)?);
-    *last = asked.new.path;
-    let mut image = opened_image(rt, &asked.new)?;
-    let mut read = Compared::Old;
-    let outcome = with_stdout(rt, |out| {
-        compare_only_engine(
-            rt.alloc(),
-            language(asked.is_flight),
-            &mut text,
-            &mut image,
-            version(&asked.new),
-            &mut read,
-            out,
-        )
-    });
-    *last = of_compared(read, asked);
-    outcome
-}
-
-/// The name of one of two that are compared.
-fn of_compared<'a>(read: Compared, asked: &CompareArguments<'a>) -> &'a str {
-    match read {
-        Compared::Old => asked.old.path,
-        Compared::New => asked.new.path,
+    source: &Original<'_>,
+    image: &Image<'_>,
+) -> Result<u8, WorkshopFault> {
+    let mut last = Compared::Old;
+    match compare_with_source(rt, source, image, &mut last) {
+        Ok(count) => Ok(status_of(count)),
+        Err(fault) => refused_file(rt, of_compared(last, source.path, image.path), fault),
     }
 }
 
-/// The file of an image, in the form in which its bytes are taken.
-fn opened_image(
+/// Compares a source with an image, as `compare_images` does.
+fn compare_with_source(
     rt: &HostRuntime,
-    image: &ImageArguments<'_>,
-) -> Result<InForm<ReadAhead<Std<fs::File>>>, WorkshopFault> {
-    Ok(InForm::new(opened(rt, image.path)?, form(image)))
+    source: &Original<'_>,
+    image: &Image<'_>,
+    last: &mut Compared,
+) -> Result<u32, WorkshopFault> {
+    let mut text = Std::new(fs::open(rt, source.path).map_err(not_opened)?);
+    *last = Compared::New;
+    let mut file = opened_image(rt, image)?;
+    *last = Compared::Old;
+    with_stdout(rt, |out| {
+        compare_only_engine(
+            rt.alloc(),
+            source.language,
+            &mut text,
+            &mut file,
+            image.version,
+            last,
+            out,
+        )
+    })
 }
 
-/// `agcws sums [--forms] [--rope VERSION] [--parity ignore] [--form FORM] ROPE`.
-pub fn show_sums(rt: &HostRuntime, asked: &SumsArguments<'_>) -> Result<u8, WorkshopFault> {
-    let version = version(&asked.image);
-    let mut image = opened_image(rt, &asked.image)?;
+/// The exit status where so many places differ, or so many words have a wrong parity.
+fn status_of(count: u32) -> u8 {
+    if count == 0 { DONE } else { DIFFERENT }
+}
+
+/// The name of one of two that are compared.
+fn of_compared<'a>(read: Compared, old: &'a str, new: &'a str) -> &'a str {
+    match read {
+        Compared::Old => old,
+        Compared::New => new,
+    }
+}
+
+/// `agcws sums [--rope VERSION] .. ROPE`.
+pub fn show_sums(rt: &HostRuntime, image: &Image<'_>) -> Result<u8, WorkshopFault> {
+    let mut file = opened_image(rt, image)?;
     with_stdout(rt, |out| {
-        if asked.has_both_forms {
-            workshop::form_sums_engine(rt.alloc(), &mut image, version, out)
-        } else {
-            sums_engine(rt.alloc(), &mut image, version, out)
-        }
+        sums_engine(rt.alloc(), &mut file, image.version, out)
+    })?;
+    Ok(DONE)
+}
+
+/// `agcws sums --forms [--rope VERSION] ROPE`.
+pub fn show_sums_of_both_forms(rt: &HostRuntime, image: &Image<'_>) -> Result<u8, WorkshopFault> {
+    let mut file = opened_image(rt, image)?;
+    with_stdout(rt, |out| {
+        form_sums_engine(rt.alloc(), &mut file, image.version, out)
     })?;
     Ok(DONE)
 }
 
 /// `agcws parity [--form FORM] ROPE`.
-pub fn show_parity(rt: &HostRuntime, asked: &ImageArguments<'_>) -> Result<u8, WorkshopFault> {
-    let mut image = opened_image(rt, asked)?;
-    let count = with_stdout(rt, |out| parity_engine(rt.alloc(), &mut image, out))?;
-    Ok(if count == 0 { DONE } else { DIFFERENT })
+pub fn show_parity(rt: &HostRuntime, image: &Image<'_>) -> Result<u8, WorkshopFault> {
+    let mut file = opened_image(rt, image)?;
+    let count = with_stdout(rt, |out| parity_engine(rt.alloc(), &mut file, out))?;
+    Ok(status_of(count))
 }

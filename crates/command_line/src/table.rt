@@ -43,11 +43,11 @@ fn asm() -> Subcommand {
 
 static ASM_ROWS: [Row; 5] = [
     FLIGHT_OPTION,
-    SOURCE_FILE,
+    SOURCE_ARGUMENT,
     Row {
         name: ROPE,
         help: "The rope image, a file that is made or written over",
-        ..NEEDED_FILE
+        ..NEEDED
     },
     Row {
         name: WITH_SUMS,
@@ -74,8 +74,8 @@ static RUN_ROWS: [Row; 11] = [
     VERSION_OF_PROGRAM,
     PARITY_OF_PROGRAM,
     FORM_OF_PROGRAM,
-    SOURCE_FILE,
-    FEED_FILE,
+    SOURCE_ARGUMENT,
+    FEED_ARGUMENT,
     STEP_COUNT,
     Row {
         name: END,
@@ -108,8 +108,8 @@ static TRACE_ROWS: [Row; 12] = [
     VERSION_OF_PROGRAM,
     PARITY_OF_PROGRAM,
     FORM_OF_PROGRAM,
-    SOURCE_FILE,
-    FEED_FILE,
+    SOURCE_ARGUMENT,
+    FEED_ARGUMENT,
     STEP_COUNT,
     Row {
         name: FROM,
@@ -143,8 +143,8 @@ static COVER_ROWS: [Row; 10] = [
     VERSION_OF_PROGRAM,
     PARITY_OF_PROGRAM,
     FORM_OF_PROGRAM,
-    SOURCE_FILE,
-    FEED_FILE,
+    SOURCE_ARGUMENT,
+    FEED_ARGUMENT,
     STEP_COUNT,
     PROGRESS_OPTION,
     SYMBOLS_OF_PROGRAM,
@@ -173,8 +173,8 @@ static DEBUG_ROWS: [Row; 9] = [
     VERSION_OF_PROGRAM,
     PARITY_OF_PROGRAM,
     FORM_OF_PROGRAM,
-    SOURCE_FILE,
-    FEED_FILE,
+    SOURCE_ARGUMENT,
+    FEED_ARGUMENT,
 ];
 
 /// `agcws check`.
@@ -195,7 +195,7 @@ static CHECK_ROWS: [Row; 4] = [
         help: "Warn of labels that no operand names too",
         ..FLAG
     },
-    SOURCE_FILE,
+    SOURCE_ARGUMENT,
     Row {
         name: FEEDS,
         value: Value::Texts,
@@ -235,12 +235,12 @@ static UPGRADE_ROWS: [Row; 2] = [
     Row {
         name: OLD,
         help: "The image of version 1, a file",
-        ..NEEDED_FILE
+        ..NEEDED
     },
     Row {
         name: NEW,
         help: "The image of version 2, a file that is made or written over",
-        ..NEEDED_FILE
+        ..NEEDED
     },
 ];
 
@@ -255,7 +255,7 @@ fn words() -> Subcommand {
 }
 
 static WORDS_ROWS: [Row; 8] = [
-    IMAGE_FILE,
+    IMAGE_ARGUMENT,
     Row {
         name: BANK,
         value: Value::OneOfMany(BANKS),
@@ -297,12 +297,12 @@ static COMPARE_ROWS: [Row; 9] = [
     Row {
         name: OLD,
         help: "The first rope image, a file",
-        ..NEEDED_FILE
+        ..NEEDED
     },
     Row {
         name: NEW,
         help: "The second rope image, a file",
-        ..NEEDED_FILE
+        ..NEEDED
     },
     Row {
         name: ONLY,
@@ -349,7 +349,7 @@ fn sums() -> Subcommand {
 }
 
 static SUMS_ROWS: [Row; 5] = [
-    IMAGE_FILE,
+    IMAGE_ARGUMENT,
     Row {
         name: BOTH_FORMS,
         long: Some("forms"),
@@ -372,7 +372,7 @@ fn parity() -> Subcommand {
     }
 }
 
-static PARITY_ROWS: [Row; 2] = [IMAGE_FILE, FORM_OPTION];
+static PARITY_ROWS: [Row; 2] = [IMAGE_ARGUMENT, FORM_OPTION];
 
 /// An argument that is told by its place, and may be left out.
 const PLAIN: Row = Row {
@@ -387,8 +387,8 @@ const PLAIN: Row = Row {
     help: "",
 };
 
-/// A file that has to be named.
-const NEEDED_FILE: Row = Row {
+/// An argument that is told by its place, and has to be given.
+const NEEDED: Row = Row {
     is_required: true,
     ..PLAIN
 };
@@ -400,24 +400,24 @@ const FLAG: Row = Row {
 };
 
 /// A source.
-const SOURCE_FILE: Row = Row {
+const SOURCE_ARGUMENT: Row = Row {
     name: SOURCE,
     help: "The source, a file",
-    ..NEEDED_FILE
+    ..NEEDED
 };
 
 /// A feed.
-const FEED_FILE: Row = Row {
+const FEED_ARGUMENT: Row = Row {
     name: FEED,
     help: "The feed, a file; /dev/null where there are no inputs",
-    ..NEEDED_FILE
+    ..NEEDED
 };
 
 /// An image.
-const IMAGE_FILE: Row = Row {
+const IMAGE_ARGUMENT: Row = Row {
     name: ROPE,
     help: "The rope image, a file",
-    ..NEEDED_FILE
+    ..NEEDED
 };
 
 /// How many steps are made.
@@ -425,7 +425,7 @@ const STEP_COUNT: Row = Row {
     name: STEPS,
     value: Value::Steps,
     help: "How many steps, 0 to 1099511627774",
-    ..NEEDED_FILE
+    ..NEEDED
 };
 
 /// An option that is a step.

@@ -1,16 +1,16 @@
 //! What a line of an extended session asks for.
 
-ghost use Rattle.std.specs.Prelude.{◌≡◌, ◌≤◌, List, ℕ, Some, codes, length, option_and_then, All, IfSome};
+ghost use Rattle.std.specs.Prelude.{◌≡◌, ◌≤◌, ◌∷◌, List, ℕ, Some, codes, drop, length, option_and_then, All, IfSome};
 ghost use Rattle.std.specs.Option.{option_map};
 ghost use Rattle.agc_text.specs.Fields.{runs, texts, fields};
 ghost use Rattle.agc_text.specs.Tables.{value_in};
 ghost use Rattle.commands.specs.Lines.{kept_line};
 ghost use Rattle.commands.specs.Commands.{count_in};
 ghost use Rattle.commands.specs.declared.extended.ExtendedLine.TheVariants as asked;
-ghost use Rattle.commands.specs.Extended.{extended_forms, most_count, sole, with_none, with_word, with_field, with_field_or, help_in, few_in, index_in, counted_links, links_in, why_of, why_place, why_form, memory_of, channel_form, memory_form, count_after, counted_place, if_none, place_alone, last_form, broken_at, watches, bits_of, watches_bits, subject_alone, break_form, in_words, echoed, extended_in, extended_line, steps_in};
+ghost use Rattle.commands.specs.Extended.{extended_forms, most_count, sole, with_none, with_word, with_field, with_field_or, help_in, few_in, index_in, counted_links, links_in, why_of, why_place, why_form, memory_of, channel_form, memory_form, count_after, counted_place, with_counted_place, usual_links, if_none, place_alone, last_form, broken_at, watches, bits_of, watches_bits, subject_alone, break_form, in_words, echoed, extended_in, extended_line, steps_in};
 
 use crate::command::{Breakpoint, Command, ParsedLine};
-use crate::fields::{channel_in, count_in};
+use crate::fields::{channel_in, count_in, is_word};
 use crate::line::CommandLine;
 use crate::named_places::{after_place, place_first};
 use crate::parsing::parsed_in;
@@ -107,7 +107,7 @@ fn extended_in(symbols: &Symbols, line: &[u8]) -> ExtendedLine
     let Some((name, rest)) = split_field(before_comment(line)) else {
         return ExtendedLine::Plain(ParsedLine::Nothing);
     };
-    if name == "echo".as_bytes() {
+    if is_word(name, "echo") {
         return echoed(line);
     }
     match command_in(symbols, name, rest) {
@@ -139,44 +139,64 @@ fn command_in(symbols: &Symbols, name: &[u8], rest: &[u8]) -> Option<ExtendedLin
     requires { All (λ field. length field ≤ 80) (texts (runs rest.now)) }
     ensures { result ≡ option_and_then (λ form. form (texts (runs rest.now))) (value_in (extended_forms symbols.now) name.now) }
 {
-    if name == "on".as_bytes() {
+    if is_word(name, "on") {
         steps_in(rest).map(ExtendedLine::On)
-    } else if name == "until".as_bytes() {
-        sole(rest).and_then(count_in).map(ExtendedLine::Until)
-    } else if name == "over".as_bytes() {
+    } else if is_word(name, "until") {
+        count_alone(rest).map(ExtendedLine::Until)
+    } else if is_word(name, "over") {
         steps_in(rest).map(ExtendedLine::Over)
-    } else if name == "out".as_bytes() {
+    } else if is_word(name, "out") {
         steps_in(rest).map(ExtendedLine::Out)
-    } else if name == "why".as_bytes() {
+    } else {
+        still_command_in(symbols, name, rest)
+    }
+}
+
+// The same of all names but the first four, which move the position.
+#[tactic(auto, unfolding(crate::specs::Extended::extended_forms))]
+fn still_command_in(symbols: &Symbols, name: &[u8], rest: &[u8]) -> Option<ExtendedLine>
+    requires { All (λ field. length field ≤ 80) (texts (runs rest.now)) }
+    ensures { result ≡ option_and_then (λ form. form (texts (runs rest.now))) (value_in (drop 4 (extended_forms symbols.now)) name.now) }
+{
+    if is_word(name, "why") {
         why_form(symbols, rest)
-    } else if name == "regs".as_bytes() {
+    } else if is_word(name, "regs") {
         registers_form(rest)
-    } else if name == "breaks".as_bytes() {
+    } else if is_word(name, "breaks") {
         with_none(ExtendedLine::Breaks, rest)
-    } else if name == "clear".as_bytes() {
-        sole(rest).and_then(count_in).map(ExtendedLine::ClearOne)
-    } else if name == "help".as_bytes() {
+    } else if is_word(name, "clear") {
+        count_alone(rest).map(ExtendedLine::ClearOne)
+    } else if is_word(name, "help") {
         help_form(rest)
-    } else if name == "mem".as_bytes() {
+    } else if is_word(name, "mem") {
         memory_form(symbols, rest)
-    } else if name == "last".as_bytes() {
+    } else if is_word(name, "last") {
         last_form(symbols, rest)
-    } else if name == "break".as_bytes() {
+    } else if is_word(name, "break") {
         break_form(symbols, rest)
-    } else if name == "inputs".as_bytes() {
+    } else {
+        row_command_in(symbols, name, rest)
+    }
+}
+
+// The same of the names after the first twelve, which ask for inputs, symbols, steps and rows.
+#[tactic(auto, unfolding(crate::specs::Extended::extended_forms))]
+fn row_command_in(symbols: &Symbols, name: &[u8], rest: &[u8]) -> Option<ExtendedLine>
+    requires { All (λ field. length field ≤ 80) (texts (runs rest.now)) }
+    ensures { result ≡ option_and_then (λ form. form (texts (runs rest.now))) (value_in (drop 12 (extended_forms symbols.now)) name.now) }
+{
+    if is_word(name, "inputs") {
         with_none(ExtendedLine::Inputs, rest)
-    } else if name == "where".as_bytes() {
+    } else if is_word(name, "where") {
         with_none(ExtendedLine::Where, rest)
-    } else if name == "find".as_bytes() {
+    } else if is_word(name, "find") {
         find_form(rest)
-    } else if name == "trace".as_bytes() {
-        sole(rest).and_then(count_in).map(ExtendedLine::Trace)
-    } else if name == "list".as_bytes() {
-        let (place, count) = counted_place(symbols, rest, USUAL_LINKS)?;
-        Some(ExtendedLine::Listed(place, count))
-    } else if name == "value".as_bytes() {
-        let (place, count) = counted_place(symbols, rest, 1)?;
-        Some(ExtendedLine::Values(place, count))
+    } else if is_word(name, "trace") {
+        count_alone(rest).map(ExtendedLine::Trace)
+    } else if is_word(name, "list") {
+        list_form(symbols, rest)
+    } else if is_word(name, "value") {
+        value_form(symbols, rest)
     } else {
         None
     }
@@ -193,6 +213,14 @@ fn sole(rest: &[u8]) -> Option<&[u8]>
         None => Some(field),
         Some(_) => None,
     }
+}
+
+// A number that stands alone.
+fn count_alone(rest: &[u8]) -> Option<u64>
+    requires { All (λ field. length field ≤ 80) (texts (runs rest.now)) }
+    ensures { result ≡ option_and_then count_in (sole (texts (runs rest.now))) }
+{
+    sole(rest).and_then(count_in)
 }
 
 // A request, where no field stands.
@@ -212,7 +240,7 @@ fn steps_in(rest: &[u8]) -> Option<u64>
 {
     match split_field(rest) {
         None => Some(MOST_COUNT),
-        Some(_) => sole(rest).and_then(count_in),
+        Some(_) => count_alone(rest),
     }
 }
 
@@ -236,7 +264,7 @@ fn registers_form(rest: &[u8]) -> Option<ExtendedLine>
     ensures { result ≡ with_word (codes "all") asked.AllRegisters (texts (runs rest.now)) }
 {
     match sole(rest) {
-        Some(field) if field == "all".as_bytes() => Some(ExtendedLine::AllRegisters),
+        Some(field) if is_word(field, "all") => Some(ExtendedLine::AllRegisters),
         Some(_) => None,
         None => None,
     }
@@ -317,7 +345,7 @@ fn index_in(rest: &[u8]) -> Option<IndexLines>
         return Some(IndexLines::Omitted);
     }
     match sole(rest) {
-        Some(field) if field == "index".as_bytes() => Some(IndexLines::Told),
+        Some(field) if is_word(field, "index") => Some(IndexLines::Told),
         Some(_) => None,
         None => None,
     }
@@ -332,6 +360,14 @@ fn few_in(field: &[u8]) -> Option<u64>
         Some(_) => None,
         None => None,
     }
+}
+
+// The same, where it stands alone.
+fn few_alone(rest: &[u8]) -> Option<u64>
+    requires { All (λ field. length field ≤ 80) (texts (runs rest.now)) }
+    ensures { result ≡ option_and_then few_in (sole (texts (runs rest.now))) }
+{
+    sole(rest).and_then(few_in)
 }
 
 // What `mem` takes.
@@ -366,10 +402,28 @@ fn memory_of(place: Linear, rest: &[u8]) -> Option<ExtendedLine>
     match split_field(rest) {
         None => Some(ExtendedLine::Common(Command::Memory(place))),
         Some(_) => {
-            let count = sole(rest).and_then(few_in)?;
+            let count = few_alone(rest)?;
             Some(ExtendedLine::Words(place, count))
         }
     }
+}
+
+// What `list` takes.
+fn list_form(symbols: &Symbols, rest: &[u8]) -> Option<ExtendedLine>
+    requires { All (λ field. length field ≤ 80) (texts (runs rest.now)) }
+    ensures { result ≡ with_counted_place symbols.now usual_links (λ place k. asked.Listed place k) (texts (runs rest.now)) }
+{
+    let (place, count) = counted_place(symbols, rest, USUAL_LINKS)?;
+    Some(ExtendedLine::Listed(place, count))
+}
+
+// What `value` takes.
+fn value_form(symbols: &Symbols, rest: &[u8]) -> Option<ExtendedLine>
+    requires { All (λ field. length field ≤ 80) (texts (runs rest.now)) }
+    ensures { result ≡ with_counted_place symbols.now 1 (λ place k. asked.Values place k) (texts (runs rest.now)) }
+{
+    let (place, count) = counted_place(symbols, rest, 1)?;
+    Some(ExtendedLine::Values(place, count))
 }
 
 // A place and a number of words, or the usual one where none is named.
@@ -389,7 +443,7 @@ fn count_after(usual: u64, rest: &[u8]) -> Option<u64>
 {
     match split_field(rest) {
         None => Some(usual),
-        Some(_) => sole(rest).and_then(few_in),
+        Some(_) => few_alone(rest),
     }
 }
 
@@ -422,18 +476,26 @@ fn break_form(symbols: &Symbols, rest: &[u8]) -> Option<ExtendedLine>
     ensures { result ≡ break_form symbols.now (texts (runs rest.now)) }
 {
     let (kind, more) = split_field(rest)?;
-    if kind == "at".as_bytes() {
-        let place = place_alone(symbols, more)?;
+    broken_by(symbols, kind, more)
+}
+
+// The breakpoint of a kind and of the fields after it.
+fn broken_by(symbols: &Symbols, kind: &[u8], rest: &[u8]) -> Option<ExtendedLine>
+    requires { All (λ field. length field ≤ 80) (texts (runs rest.now)) }
+    ensures { result ≡ break_form symbols.now (kind.now ∷ texts (runs rest.now)) }
+{
+    if is_word(kind, "at") {
+        let place = place_alone(symbols, rest)?;
         Some(broken_at(Breakpoint::Place(place)))
-    } else if kind == "word".as_bytes() {
-        watches(symbols, more)
-    } else if kind == "chan".as_bytes() {
-        watches_bits(more)
-    } else if kind == "exec".as_bytes() {
-        let place = place_alone(symbols, more)?;
+    } else if is_word(kind, "word") {
+        watches(symbols, rest)
+    } else if is_word(kind, "chan") {
+        watches_bits(rest)
+    } else if is_word(kind, "exec") {
+        let place = place_alone(symbols, rest)?;
         Some(broken_at(Breakpoint::Executed(place)))
-    } else if kind == "change".as_bytes() {
-        let subject = subject_alone(symbols, more)?;
+    } else if is_word(kind, "change") {
+        let subject = subject_alone(symbols, rest)?;
         Some(broken_at(Breakpoint::Changed(subject)))
     } else {
         None

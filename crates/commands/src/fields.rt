@@ -1,6 +1,7 @@
 //! The fields of commands.
 
 ghost use Rattle.std.specs.Prelude.{◌≡◌};
+ghost use Rattle.agc_text.specs.Tables.{same_name};
 ghost use Rattle.commands.specs.Commands.{count_in, channel_in, bank_in, offset_in};
 
 use agc_text::{decimal, octal};
@@ -11,6 +12,13 @@ const COUNT_DIGITS: usize = 15;
 
 /// The most digits of places, channels and words.
 pub(crate) const OCTAL_DIGITS: usize = 5;
+
+// Whether a field is a word.
+pub(crate) fn is_word(field: &[u8], word: &str) -> bool
+    ensures { result ≡ same_name field.now word.now }
+{
+    field == word.as_bytes()
+}
 
 // A step, or a number of steps.
 pub(crate) fn count_in(field: &[u8]) -> Option<u64>

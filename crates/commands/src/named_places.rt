@@ -6,7 +6,7 @@ ghost use Rattle.agc_text.specs.Tables.{value_in};
 ghost use Rattle.space.specs.Places.{window};
 ghost use Rattle.commands.specs.NamedPlaces.{registers, in_erasable_bank, in_fixed_bank, erasable_bank_in, place_of_bank, listed_place, unnamed_place, further_place, named_place, own_place, moved_on, begins_with_plus, words_on, place_first, after_place};
 
-use crate::fields::{OCTAL_DIGITS, bank_in};
+use crate::fields::{OCTAL_DIGITS, bank_in, is_word};
 use crate::places::{fixed_place_in, numbered_place, place_in};
 use agc_text::{length_before_byte, octal, split_field};
 use feed::counter_of;
@@ -113,19 +113,19 @@ fn own_place(field: &[u8]) -> Option<Eras>
 fn register_in(field: &[u8]) -> Option<Eras>
     ensures { result ≡ value_in registers field.now }
 {
-    if field == "A".as_bytes() {
+    if is_word(field, "A") {
         Some(Eras::A)
-    } else if field == "L".as_bytes() {
+    } else if is_word(field, "L") {
         Some(Eras::L)
-    } else if field == "Q".as_bytes() {
+    } else if is_word(field, "Q") {
         Some(Eras::Q)
-    } else if field == "EB".as_bytes() {
+    } else if is_word(field, "EB") {
         Some(Eras::EB)
-    } else if field == "FB".as_bytes() {
+    } else if is_word(field, "FB") {
         Some(Eras::FB)
-    } else if field == "Z".as_bytes() {
+    } else if is_word(field, "Z") {
         Some(Eras::Z)
-    } else if field == "BB".as_bytes() {
+    } else if is_word(field, "BB") {
         Some(Eras::BB)
     } else {
         None

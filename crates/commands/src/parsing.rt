@@ -8,7 +8,7 @@ ghost use Rattle.commands.specs.Commands.{forms, break_word, known, adding, adde
 ghost use Rattle.commands.specs.Lines.{kept_line};
 
 use crate::command::{Breakpoint, Command, ParsedLine};
-use crate::fields::{channel_in, count_in};
+use crate::fields::{channel_in, count_in, is_word};
 use crate::line::CommandLine;
 use crate::places::{erasable_in, place_in};
 use agc_text::{before_comment, next_field, split_field};
@@ -32,7 +32,7 @@ pub(crate) fn parsed_in(symbols: &Symbols, line: &[u8]) -> ParsedLine
     let Some((name, rest)) = split_field(before_comment(line)) else {
         return ParsedLine::Nothing;
     };
-    if name == "add".as_bytes() {
+    if is_word(name, "add") {
         added_by(line)
     } else {
         known(command_in(symbols, name, rest))
@@ -73,15 +73,15 @@ fn command_in(symbols: &Symbols, name: &[u8], rest: &[u8]) -> Option<Command>
 fn command_alone(symbols: &Symbols, name: &[u8]) -> Option<Command>
     ensures { result ≡ option_and_then (λ form. form []) (value_in (forms symbols.now) name.now) }
 {
-    if name == "seek".as_bytes() {
+    if is_word(name, "seek") {
         Some(Command::Seek)
-    } else if name == "clear".as_bytes() {
+    } else if is_word(name, "clear") {
         Some(Command::Clear)
-    } else if name == "regs".as_bytes() {
+    } else if is_word(name, "regs") {
         Some(Command::Registers)
-    } else if name == "tail".as_bytes() {
+    } else if is_word(name, "tail") {
         Some(Command::Tail)
-    } else if name == "quit".as_bytes() {
+    } else if is_word(name, "quit") {
         Some(Command::Quit)
     } else {
         None
@@ -93,23 +93,23 @@ fn command_alone(symbols: &Symbols, name: &[u8]) -> Option<Command>
 fn command_of_one(symbols: &Symbols, name: &[u8], field: &[u8]) -> Option<Command>
     ensures { result ≡ option_and_then (λ form. form (field.now ∷ [])) (value_in (forms symbols.now) name.now) }
 {
-    if name == "step".as_bytes() {
+    if is_word(name, "step") {
         count_in(field).map(Command::Step)
-    } else if name == "run".as_bytes() {
+    } else if is_word(name, "run") {
         count_in(field).map(Command::Run)
-    } else if name == "back".as_bytes() {
+    } else if is_word(name, "back") {
         count_in(field).map(Command::Back)
-    } else if name == "goto".as_bytes() {
+    } else if is_word(name, "goto") {
         count_in(field).map(Command::Goto)
-    } else if name == "mem".as_bytes() {
+    } else if is_word(name, "mem") {
         place_in(symbols, field).map(Command::Memory)
-    } else if name == "chan".as_bytes() {
+    } else if is_word(name, "chan") {
         channel_in(field).map(Command::Channel)
-    } else if name == "last".as_bytes() {
+    } else if is_word(name, "last") {
         erasable_in(symbols, field).map(Command::Last)
-    } else if name == "sym".as_bytes() {
+    } else if is_word(name, "sym") {
         Some(Command::Symbol(symbols.symbol(field)))
-    } else if name == "changed".as_bytes() {
+    } else if is_word(name, "changed") {
         count_in(field).map(Command::Changed)
     } else {
         None
@@ -121,7 +121,7 @@ fn command_of_one(symbols: &Symbols, name: &[u8], field: &[u8]) -> Option<Comman
 fn command_of_two(symbols: &Symbols, name: &[u8], first: &[u8], second: &[u8]) -> Option<Command>
     ensures { result ≡ option_and_then (λ form. form (first.now ∷ second.now ∷ [])) (value_in (forms symbols.now) name.now) }
 {
-    if name == "break".as_bytes() && first == "at".as_bytes() {
+    if is_word(name, "break") && is_word(first, "at") {
         match place_in(symbols, second) {
             Some(place) => Some(Command::Break(Breakpoint::Place(place))),
             None => None,
@@ -142,7 +142,7 @@ fn command_of_three(
 ) -> Option<Command>
     ensures { result ≡ option_and_then (λ form. form (kind.now ∷ watched.now ∷ word.now ∷ [])) (value_in (forms symbols.now) name.now) }
 {
-    if name == "break".as_bytes() {
+    if is_word(name, "break") {
         break_word(symbols, kind, watched, word)
     } else {
         None
@@ -153,13 +153,13 @@ fn command_of_three(
 fn break_word(symbols: &Symbols, kind: &[u8], watched: &[u8], word: &[u8]) -> Option<Command>
     ensures { result ≡ break_word symbols.now kind.now watched.now word.now }
 {
-    if kind == "word".as_bytes() {
+    if is_word(kind, "word") {
         match (erasable_in(symbols, watched), word_in(word)) {
             (Some(place), Some(word)) => Some(Command::Break(Breakpoint::Word(place, word))),
             (Some(_), None) => None,
             (None, _) => None,
         }
-    } else if kind == "chan".as_bytes() {
+    } else if is_word(kind, "chan") {
         match (channel_in(watched), word_in(word)) {
             (Some(channel), Some(word)) => Some(Command::Break(Breakpoint::Channel(channel, word))),
             (Some(_), None) => None,

@@ -6,6 +6,7 @@ ghost use Rattle.agc_text.specs.Fields.{runs, texts};
 ghost use Rattle.commands.specs.Commands.{before_comma, after_comma};
 ghost use Rattle.commands.specs.Refusals.{begins_with_place, breakpoint_place_field, place_field, is_no_symbol, missing_symbol, erasable_breakpoint_field, erasable_field, is_in_fixed_memory, fixed_field, octal_fields, is_beyond_octal, is_no_octal, wrong_form, refusal_line};
 
+use crate::fields::is_word;
 use crate::named_places::{begins_with_plus, named_place};
 use crate::phrase::Phrase;
 use crate::subject::channel_named;
@@ -66,11 +67,11 @@ fn number_not_octal<'a>(symbols: &Symbols, name: &[u8], rest: &'a [u8]) -> Optio
     ensures short { IfSome result (λ field. length field.now ≤ 80) }
 {
     let (first, more) = split_field(rest)?;
-    if name == "break".as_bytes() {
+    if is_word(name, "break") {
         return first_not_octal(symbols, more);
     }
     let begins_with_place = begins_with_place(name);
-    if !begins_with_place && name != "chan".as_bytes() {
+    if !begins_with_place && !is_word(name, "chan") {
         return None;
     }
     if is_no_octal(symbols, first) {
@@ -158,7 +159,7 @@ fn place_field<'a>(name: &[u8], rest: &'a [u8]) -> Option<&'a [u8]>
     let (first, rest) = split_field(rest)?;
     if begins_with_place(name) {
         Some(first)
-    } else if name == "break".as_bytes() {
+    } else if is_word(name, "break") {
         breakpoint_place_field(first, rest)
     } else {
         None
@@ -169,11 +170,11 @@ fn place_field<'a>(name: &[u8], rest: &'a [u8]) -> Option<&'a [u8]>
 fn begins_with_place(name: &[u8]) -> bool
     ensures { result ≡ begins_with_place name.now }
 {
-    name == "mem".as_bytes()
-        || name == "last".as_bytes()
-        || name == "why".as_bytes()
-        || name == "list".as_bytes()
-        || name == "value".as_bytes()
+    is_word(name, "mem")
+        || is_word(name, "last")
+        || is_word(name, "why")
+        || is_word(name, "list")
+        || is_word(name, "value")
 }
 
 // The field of `break` that names a place.
@@ -183,7 +184,7 @@ fn breakpoint_place_field<'a>(kind: &[u8], rest: &'a [u8]) -> Option<&'a [u8]>
     ensures short { IfSome result (λ field. length field.now ≤ 80) }
 {
     let (field, _) = split_field(rest)?;
-    if kind == "chan".as_bytes() {
+    if is_word(kind, "chan") {
         None
     } else {
         Some(field)
@@ -216,9 +217,9 @@ fn erasable_field<'a>(name: &[u8], rest: &'a [u8]) -> Option<&'a [u8]>
     ensures short { IfSome result (λ field. length field.now ≤ 80) }
 {
     let (first, rest) = split_field(rest)?;
-    if name == "last".as_bytes() || name == "why".as_bytes() {
+    if is_word(name, "last") || is_word(name, "why") {
         Some(first)
-    } else if name == "break".as_bytes() {
+    } else if is_word(name, "break") {
         erasable_breakpoint_field(first, rest)
     } else {
         None
@@ -232,7 +233,7 @@ fn erasable_breakpoint_field<'a>(kind: &[u8], rest: &'a [u8]) -> Option<&'a [u8]
     ensures short { IfSome result (λ field. length field.now ≤ 80) }
 {
     let (field, _) = split_field(rest)?;
-    if kind == "word".as_bytes() || kind == "change".as_bytes() {
+    if is_word(kind, "word") || is_word(kind, "change") {
         Some(field)
     } else {
         None

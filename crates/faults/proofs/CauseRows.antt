@@ -62,7 +62,7 @@ lines_with_causes =
     ∷ []
 
 each_told : map {B = List ℕ × List ℕ} (λ r. told r.0) lines_with_causes ≡ map {B = List ℕ × List ℕ} (λ r. r.1) lines_with_causes
-unfolding runs operators digits
+unfolding fault_cause runs operators digits
 each_told = refl
 
 -- each operator of a class stands in the table of operators

@@ -14,7 +14,7 @@ use Rattle.yayul.specs.Operators.{operators}
 use Rattle.yayul.specs.declared.finding.Finding.{Finding}
 use Rattle.yayul.specs.declared.language.Language.{Language}
 use Rattle.yayul.specs.declared.language.Language.TheVariants.{Flight, Standard}
-use Rattle.faults.specs.Causes.{Cause, filled}
+use Rattle.faults.specs.Causes.{Cause, fault_cause, filled}
 use Rattle.faults.specs.FlightCauses.{downlist_words, bank_words, comparisons, channel_words, count_words, decimals, double_octals, fixed_words, octal_words, told_cause, unsure_effects, unsure_values, unsure_words, verb_nouns}
 use Rattle.faults.specs.Interpretive.{count_before_first, first_and_others, interpretive_operators}
 use Rattle.faults.specs.Kinds.{kind_of_source}
@@ -66,7 +66,7 @@ reported : report Flight (codes "a") (source (codes " FROB;+3 CALL; FOO; CA X; C
     ++ codes "a:2:2: warning W2:  is the register or the counter of that number, and not the number;    2 | +3 CALL;      |  ^^;      = a number has a line of its own: NAME OCT , and CALL NAME;"
     ++ codes "a:3:2: warning W3: FOO takes two words, and ERASE reserves one for ;    3 |  FOO;      |  ^^;      =  ERASE +1 reserves two;"
     ++ codes "a:4:2: error E17: no line defines X;    4 |  CA X;      |  ^^;")
-unfolding report told_text shown_line beside_text kind_of_source lines digits runs operators parsed
+unfolding report told_text fault_cause shown_line beside_text kind_of_source lines digits runs operators parsed
 reported = refl
 
 -- none of its operators is one of a flight source
@@ -133,7 +133,7 @@ lines_with_causes =
     ∷ []
 
 each_cause : map {B = List ℕ × List ℕ} (λ r. told r.0) lines_with_causes ≡ map {B = List ℕ × List ℕ} (λ r. r.1) lines_with_causes
-unfolding runs operators digits
+unfolding fault_cause runs operators digits
 each_cause = refl
 
 -- each operator of a class is one of a flight source, and none is that is not taken
@@ -177,10 +177,10 @@ lines_with_cures =
     ∷ []
 
 each_cure : map {B = List ℕ} (λ r. cure_row r.0) lines_with_cures ≡ map {B = List ℕ} (λ r. r.1) lines_with_cures
-unfolding has_flight_form statement_of line_effect uncounted_statement runs operators flight_operators digits
+unfolding fault_cause has_flight_form statement_of line_effect uncounted_statement runs operators flight_operators digits
 each_cure = refl
 
 -- nothing is told so of a flight source
 none_of_flight : list_any (λ r. (told_cause Flight false r.0.0 (parts_for Flight r.0.0) (fault (1, r.0.1))).flight) lines_with_causes ≡ false
-unfolding runs operators digits
+unfolding fault_cause runs operators digits
 none_of_flight = refl

@@ -8,6 +8,7 @@ use Rattle.feed.specs.Statements.{parsed}
 use Rattle.yayul.specs.Operators.{operators}
 use Rattle.yayul.specs.declared.finding.Finding.{Finding}
 use Rattle.yayul.specs.declared.language.Language.TheVariants.{Standard}
+use Rattle.faults.specs.Causes.{fault_cause}
 use Rattle.faults.specs.Kinds.{kind_of_source}
 use Rattle.faults.specs.Warnings.{warnings}
 use Rattle.faults.specs.Report.{as_error, beside_text, count_text, report, shown_finding, shown_line, told_text}
@@ -64,7 +65,7 @@ shown_in_order : report Standard (codes "a") (source (codes " CA 5; TS FIV;Z")) 
     ++ codes "      = reserve the word there: SETLOC and a place below 4000, and ERASE;"
     ++ codes "a:2:2: warning W3: TS takes two words, and ERASE reserves one for FIV;    2 |  TS FIV;      |  ^^;      = FIV ERASE +1 reserves two;"
     ++ codes "a:3:2: warning W8: no operand names Z;    3 | Z;      |  ^;")
-unfolding report told_text shown_line beside_text kind_of_source lines digits runs operators parsed
+unfolding report told_text fault_cause shown_line beside_text kind_of_source lines digits runs operators parsed
 shown_in_order = refl
 
 -- a symbol of the wrong kind is told with its line, and one that a later line defines is not taken for another
@@ -72,14 +73,14 @@ told_with_lines : report Standard (codes "a") (source (codes " TS SUM;SUM OCT 0;
     ≡ source (codes "a:1:2: error E25: TS writes to erasable memory, and SUM, of line 2, is not there;    1 |  TS SUM;      |  ^^;"
     ++ codes "      = reserve the word there: SETLOC and a place below 4000, and ERASE;"
     ++ codes "a:3:2: error E18: SETLOC needs the value of SUX here, and line 4 defines it, which is below;    3 |  SETLOC SUX;      |  ^^;")
-unfolding report told_text shown_line beside_text kind_of_source lines digits runs operators parsed
+unfolding report told_text fault_cause shown_line beside_text kind_of_source lines digits runs operators parsed
 told_with_lines = refl
 
 -- an E18 names the first of two lines below that define its symbol; one that its own line defines names none
 told_below : report Standard (codes "a") (source (codes " SETLOC SUX; OCT 1;SUX OCT 1;SUX OCT 2;P EQUALS P")) (placed 1 18 ∷ placed 5 18 ∷ []) []
     ≡ source (codes "a:1:2: error E18: SETLOC needs the value of SUX here, and line 3 defines it, which is below;    1 |  SETLOC SUX;      |  ^^;"
     ++ codes "a:5:2: error E18: EQUALS needs the value of P here, and no earlier line defines it;    5 | P EQUALS P;      |  ^^;")
-unfolding report told_text shown_line beside_text kind_of_source lines digits runs operators parsed
+unfolding report told_text fault_cause shown_line beside_text kind_of_source lines digits runs operators parsed
 told_below = refl
 
 -- of a place that is taken the line is told whose word stands there, and where none is known what the fault is
@@ -87,13 +88,13 @@ told_taken : report Standard (codes "a") (source (codes " OCT 1;X OCT 2; SETLOC 
     ≡ source (codes "a:4:2: error E21: line 1 has a word at this place already;    4 | X OCT 3;      |  ^^;"
     ++ codes "a:4:2: error E14: line 2 has the label X already;    4 | X OCT 3;      |  ^^;"
     ++ codes "a:4:2: error E21: a word stands at this place already;    4 | X OCT 3;      |  ^^;")
-unfolding report told_text shown_line beside_text kind_of_source lines digits runs operators parsed
+unfolding report told_text fault_cause shown_line beside_text kind_of_source lines digits runs operators parsed
 told_taken = refl
 
 -- however many faults there are: without the labels of other lines too
 taken_alone : shown_finding Standard (codes "a") [] (lines (source (codes " 2CADR 4000; SETLOC 4001; OCT 2"))) (as_error (record (placed 3 21) { taken_by = Some 1 }))
     ≡ source (codes "a:3:2: error E21: line 1 has a word at this place already;    3 |  OCT 2;      |  ^^;")
-unfolding shown_line beside_text lines digits runs
+unfolding fault_cause shown_line beside_text lines digits runs
 taken_alone = refl
 
 -- how many there are

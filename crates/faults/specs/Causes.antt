@@ -340,7 +340,7 @@ near_label labels parts f =
     if (f.number == 17 || f.number == 18) && not (is_among labels (text_of parts.operand)) then near_name labels (text_of parts.operand) else None
 
 -- a fault of a line with some fields in words, where a text from other lines stands for `~` or none does
-abbrev pub fault_cause : Bool → List ℕ → Parts → Finding → Cause
+unfoldable pub fault_cause : Bool → List ℕ → Parts → Finding → Cause
 fault_cause near text parts f =
     if f.number == 10 then byte_cause text f.span.start
     else if f.number == 11 then cured (meaning 11) (codes "part the comment into two lines")

@@ -1,7 +1,7 @@
 //! What a fault is in words, by its cause.
 
-ghost use Rattle.std.specs.Prelude.{◌≡◌, [], map, unwrap_or};
-ghost use Rattle.std.specs.Option.{option_map};
+ghost use Rattle.std.specs.Prelude.{◌≡◌, ◌==◌, ◌+◌, [], false, length, map, nat_le, slice_get, unwrap_or};
+ghost use Rattle.std.specs.Option.{option_map, option_map_or};
 ghost use Rattle.agc_text.specs.Tables.{value_in};
 ghost use Rattle.agc_text.specs.Views.{piece};
 ghost use Rattle.faults.specs.Warnings.{parts_in, bank_operators};
@@ -61,6 +61,7 @@ impl Cause {
 }
 
 /// A fault of a line with some fields in words, where a text from other lines stands for `~` or none does.
+#[tactic(auto, unfolding(crate::specs::Causes::fault_cause))]
 pub(crate) fn fault_cause(text: &[u8], parts: &Line<'_>, near: bool, finding: &Finding) -> Cause
     ensures { cause_in result ≡ fault_cause near text.now (parts_in parts.now) finding.now }
 {
@@ -165,21 +166,49 @@ pub(crate) fn byte_cause(text: &[u8], place: usize) -> Cause
     ensures { cause_in result ≡ byte_cause text.now place }
 {
     if place == 0 && begins_with_mark(text) {
-        return Cause::cured(
+        Cause::cured(
             b"a byte order mark stands in front of the line, and a line holds ASCII alone",
             b"tail -c +4 FILE > NEW",
-        );
-    }
-    match text.get(place) {
-        Some(b'\r') if place + 1 == text.len() => {
+        )
+    } else if stands_at(b'\r', text, place) {
+        if ends_at(text, place) {
             Cause::said(b"a carriage return ends the line; only a line feed may")
+        } else {
+            Cause::said(b"a carriage return stands in the line")
         }
-        Some(b'\r') => Cause::said(b"a carriage return stands in the line"),
-        Some(0o14) => Cause::said(b"a form feed stands in the line"),
-        Some(0o200..=0o377) => {
-            Cause::said(b"this byte is not ASCII, and a line holds ASCII alone, its comment too")
-        }
-        _ => Cause::said(b"this byte is no character that prints, no blank and no tab"),
+    } else if stands_at(0o14, text, place) {
+        Cause::said(b"a form feed stands in the line")
+    } else if is_beyond_ascii(text, place) {
+        Cause::said(b"this byte is not ASCII, and a line holds ASCII alone, its comment too")
+    } else {
+        Cause::said(b"this byte is no character that prints, no blank and no tab")
+    }
+}
+
+// A byte stands at a place of a text.
+fn stands_at(byte: u8, text: &[u8], place: usize) -> bool
+    ensures { result ≡ option_map_or (λ other. other == byte) (slice_get text.now place) false }
+{
+    match text.get(place) {
+        Some(other) => *other == byte,
+        None => false,
+    }
+}
+
+// A text ends after a place.
+fn ends_at(text: &[u8], place: usize) -> bool
+    ensures { result ≡ (place + 1 == length text.now) }
+{
+    place < text.len() && place + 1 == text.len()
+}
+
+// What stands at a place of a text is no byte of ASCII.
+fn is_beyond_ascii(text: &[u8], place: usize) -> bool
+    ensures { result ≡ option_map_or (λ byte. nat_le 0o200 byte) (slice_get text.now place) false }
+{
+    match text.get(place) {
+        Some(byte) => *byte >= 0o200,
+        None => false,
     }
 }
 

@@ -60,7 +60,6 @@ fn lines_apart(
 }
 
 // The names of a source.
-#[derive(Drop)]
 struct Names {
     /// Those for which one word is reserved.
     singles: NameSet,
@@ -74,6 +73,20 @@ struct Names {
     sets_erasable: bool,
     /// Whether some line may set FB.
     sets_fixed: bool,
+}
+
+// One function, and not its parts at each place where names are let go.
+impl Drop for Names {
+    fn drop(self) {
+        let Names {
+            singles: _,
+            operands: _,
+            read: _,
+            banks: _,
+            sets_erasable: _,
+            sets_fixed: _,
+        } = self;
+    }
 }
 
 impl Names {

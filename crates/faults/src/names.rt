@@ -15,9 +15,15 @@ use words::Word;
 use yayul::Value;
 
 /// Some names, each once.
-#[derive(Drop)]
 pub(crate) struct NameSet {
     symbols: Symbols,
+}
+
+// One function, and not its parts at each place where names are let go.
+impl Drop for NameSet {
+    fn drop(self) {
+        let NameSet { symbols: _ } = self;
+    }
 }
 
 impl Model for NameSet {

@@ -9,8 +9,9 @@ use Rattle.symbols.specs.Values.{place_of}
 use Rattle.yayul.specs.Operators.{is_bank}
 use Rattle.yayul.specs.Forms.{greatest_number}
 use Rattle.yayul.specs.Layout.{Layout, fault_number, fault_if, standing, and_then, moved, moved_value, term_value, value_of, location_of, location_at, erasable_number, erasable_place, value_here, early_value, is_malformed, is_missing, is_twice, is_taken, is_erasable, lacks_room, width, bank_target, erased_to, equals, is_later, promised, valued, statement_effect}
+use Rattle.yayul.specs.Later.{Table, awaited, value_of_promise, promise_kind, waiting_kind}
 use Rattle.yayul.specs.Inside.Answers.{lesser_kind, least_kind}
-use Rattle.yayul.specs.Language.{FaultKind, NotAscii, LongLine, TooManyLines, BadLabel, TwiceDefined, UnknownOperator, BadOperand, UsedTooEarly, BadBank, BankFull, PlaceTaken, CodeInErasable, NeedsExtend, NoMemory, NotExtracode, OutOfRange, Undefined, WrongKindOfAddress, Label, Operation, Nothing, Unknown, Setloc, Bank, Erase, Equals, Ebank, Gives, BankRange, Numeral, NoForm, TooLarge, Is, Operand, Shift, Plus, Minus, Term, Value, Num, Erasable, Fixed, Location}
+use Rattle.yayul.specs.Language.{FaultKind, NotAscii, LongLine, TooManyLines, BadLabel, TwiceDefined, UnknownOperator, BadOperand, UsedTooEarly, BadBank, BankFull, PlaceTaken, CodeInErasable, NeedsExtend, NoMemory, NotExtracode, OutOfRange, Undefined, WrongKindOfAddress, Label, Malformed, Missing, Named, Operation, Nothing, Unknown, Setloc, Bank, Erase, Equals, Ebank, Gives, BankRange, Numeral, NoForm, TooLarge, Is, Operand, Shift, Plus, Minus, Term, Value, Num, Erasable, Fixed, Location}
 
 -- the kinds of faults that what a line says may have
 abbrev pub is_of_fields : FaultKind → Bool
@@ -31,7 +32,7 @@ abbrev pub AreLate : List FaultKind → Type 0
 AreLate [] = Unit {0}
 AreLate (k ∷ ks) = (is_of_fields k ≡ true) × AreLate ks
 
-abbrev IsLateIf : Option FaultKind → Type 0
+abbrev pub IsLateIf : Option FaultKind → Type 0
 IsLateIf None = Unit {0}
 IsLateIf (Some k) = is_of_fields k ≡ true
 
@@ -151,6 +152,31 @@ statement_late line s label (Gives (Some content)) =
     (stands_late (fault_if (lacks_room (width content) s.location) BankFull) (fault_if (is_taken s (width content)) PlaceTaken ∷ fault_if (is_erasable s.location) CodeInErasable ∷ []) (late_if (lacks_room (width content) s.location) BankFull refl)
     (stands_late (fault_if (is_taken s (width content)) PlaceTaken) (fault_if (is_erasable s.location) CodeInErasable ∷ []) (late_if (is_taken s (width content)) PlaceTaken refl)
     (stands_late (fault_if (is_erasable s.location) CodeInErasable) [] (late_if (is_erasable s.location) CodeInErasable refl) tt)))
+
+-- so is what is wrong with a name that waits
+pub waiting_late : (table : Table) (s : Layout) (label : Label) (operation : Operation) → IsLateIf (waiting_kind table s label operation)
+waiting_late table s label Nothing = tt
+waiting_late table s label Unknown = tt
+waiting_late table s label (Setloc operand) = tt
+waiting_late table s label (Bank taken number) = tt
+waiting_late table s label (Erase count) = tt
+waiting_late table s label (Equals None) = tt
+waiting_late table s Missing (Equals (Some operand)) = tt
+waiting_late table s Malformed (Equals (Some operand)) = tt
+waiting_late table s (Named name) (Equals (Some operand)) = by_test (is_later s operand)
+  where
+    promise_late : IsLateIf (promise_kind table name operand)
+    promise_late =
+        late_err (value_of_promise table name operand)
+        (then_late (λ v. ok_or (value_in table name) UsedTooEarly) (awaited table operand)
+        (then_late (moved_value operand.shift) (term_value UsedTooEarly table (Fixed 2 0) operand.term) (term_late table (Fixed 2 0) operand.term) (moved_value_late operand.shift))
+        (λ v. ok_or_late (value_in table name) UsedTooEarly refl))
+
+    by_test : (b : Bool) → IsLateIf (if b then promise_kind table name operand else None)
+    by_test true = promise_late
+    by_test false = tt
+waiting_late table s label (Ebank operand) = tt
+waiting_late table s label (Gives content) = tt
 
 -- the least of some faults, where others have greater numbers
 late : (k : FaultKind) → is_of_fields k ≡ true → 12 < fault_number k

@@ -1,30 +1,33 @@
 -- What is told of a source agrees with what it assembles to: nothing where it does, and where it is refused its fault. Each fault is told once.
-use Rattle.std.proofs.Common.{◌≡◌, ℕ, zero, suc, ◌+◌, ◌==◌, Bool, true, false, not, ◌&&◌, ◌||◌, cond, nat_lt, length, List, [], ◌∷◌, ◌++◌, map, take, fold, Option, Some, None, Result, Ok, Err, refl, ap, sym, subst, ◌∙◌, inl, inr, ◌⊎◌, arith, append_assoc, append-nil}
-use Rattle.std.specs.Prelude.{if◌then◌else◌}
+use Rattle.std.proofs.Common.{◌≡◌, ℕ, zero, suc, ◌+◌, ◌≤◌, ◌==◌, Bool, true, false, not, ◌&&◌, ◌||◌, cond, nat_lt, length, List, [], ◌∷◌, ◌++◌, map, take, fold, Option, Some, None, Result, Ok, Err, refl, ap, sym, subst, ◌∙◌, inl, inr, ◌⊎◌, arith, append_assoc, append-nil}
+use Rattle.std.specs.Prelude.{if◌then◌else◌, ok_or, is_some}
 use Rattle.std.specs.List.{list_any, list_all, filter, find, flat_map}
-use Rattle.std.specs.Option.{option_map, option_map_or, option_or}
+use Rattle.std.specs.Option.{option_map, option_map_or, option_or, unwrap_or}
 use Rattle.std.specs.Result.{result_err, result_unwrap_or}
-use Rattle.std.proofs.lemmas.Bool.{cases_Bool, and_parts, and_right, and_cases, eq-eqb, ne_eqb, not-false, not-true}
+use Rattle.std.proofs.lemmas.Bool.{cases_Bool, and_parts, and_right, and_cases, eq-eqb, eqb-true, ne_eqb, not-false, not-true}
+use Rattle.std.proofs.lemmas.Bool.Decides.{nat_tests}
 use Rattle.std.proofs.lemmas.List.Concat.{flat_map-append}
 use Rattle.std.proofs.lemmas.List.Sums.{fold-append}
 use Rattle.std.proofs.lemmas.List.Folds.{find_at, list_any-append}
 use Rattle.agc_text.specs.Bytes.{line_length, is_text_byte}
 use Rattle.agc_text.specs.Lines.{lines}
+use Rattle.agc_text.specs.Tables.{same_name, value_in}
 use Rattle.yayul.specs.Flight.{measured, most_lines}
-use Rattle.yayul.specs.Later.{Table, first_fault, promise_fault, promise_kind, waiting_kind, with_values}
-use Rattle.yayul.specs.Layout.{Promise, LineEffect, equals, is_later, promised, valued, statement_on, Request, Layout, value_here, early_value, defined, asked, asked_here, fault_if, fault_number, standing, start, on_line, is_malformed, is_twice, word_place, statement_effect, text_faults, line_effect, line_faults, layout_after, layout_faults}
+use Rattle.yayul.specs.Later.{Table, awaited, first_fault, promise_fault, promise_kind, waiting_kind, with_values}
+use Rattle.yayul.specs.Layout.{Promise, LineEffect, and_then, equals, gives, is_later, is_taken, is_erasable, lacks_room, width, promised, valued, statement_on, Request, Layout, value_here, early_value, defined, asked, asked_here, fault_if, fault_number, standing, start, on_line, is_malformed, is_twice, word_place, statement_effect, text_faults, line_effect, line_faults, layout_after, layout_faults}
 use Rattle.yayul.specs.Laws.{is_of, TellsOf, FindingsAgree}
 use Rattle.yayul.specs.Program.{Program, least, completed, finished, program, unless_fault}
-use Rattle.yayul.specs.Survey.{Survey, unmarked, known_after, extracode_known, moves, displaces, some_stands, wrong_byte, is_refused, layout_kinds, noted, passed_line, passed_lines, settled_survey, is_among, names_one, erases, is_same_byte, doubt, follows, kinds_in_order, is_one_of, finding, taken_by, told_of, word_kinds, content_kinds, line_kinds, told_line, told_lines, looked_at, told}
+use Rattle.yayul.specs.Mended.{given_by, lacks_form, lacks_operand, mended}
+use Rattle.yayul.specs.Survey.{Survey, unmarked, operation_on, operand_of, counts_from_here, rests_on_known, is_done, location_known, known_after, extracode_known, some_stands, wrong_byte, laid, with_known, said_passed, layout_kinds, passed_line, passed_lines, settled_survey, is_among, names_one, waits_in_vain, erases, is_same_byte, doubt, follows, is_beyond, kinds_in_order, kinds_on, is_one_of, finding, taken_by, told_of, form_kinds, vain_kind, word_kinds, content_kinds, said_kinds, told_line, told_lines, looked_at, told}
 use Rattle.yayul.specs.Words.{content_words, request_words, request_faults, word_faults}
 use Rattle.yayul.specs.Inside.Answers.{lesser_kind, least_kind}
-use Rattle.yayul.specs.Language.{Language, Addressed, BadBank, BadLabel, BadOperand, Bank, BankFull, BankWord, CodeInErasable, Complemented, Constant, Constants, Content, Ebank, Equals, Erase, FarAddress, FarComplement, Fault, FaultKind, Gives, Label, LongLine, Malformed, Missing, Named, NeedsExtend, NoMemory, NotAscii, NotExtracode, Nothing, Operand, Operation, OutOfRange, PlaceTaken, Plain, Setloc, Term, TooManyLines, TwiceDefined, Undefined, Unknown, UnknownOperator, UsedTooEarly, Value, WrongKindOfAddress}
+use Rattle.yayul.specs.Language.{Language, Addressed, BadBank, BadLabel, BadOperand, Bank, BankFull, BankWord, CodeInErasable, Complemented, Constant, Constants, Content, Ebank, Equals, Erase, FarAddress, FarComplement, Fault, FaultKind, Gives, Label, LongLine, Malformed, Missing, Named, NeedsExtend, NoMemory, NotAscii, NotExtracode, Nothing, Operand, Operation, OutOfRange, PlaceTaken, Plain, Setloc, Term, Location, TooManyLines, TwiceDefined, Undefined, Unknown, UnknownOperator, UsedTooEarly, Value, WrongKindOfAddress}
 use Rattle.yayul.specs.declared.doubt.Doubt.{Doubt}
 use Rattle.yayul.specs.declared.doubt.Known.{Known}
 use Rattle.yayul.specs.declared.finding.Finding.{Finding}
-use Rattle.yayul.proofs.LineRequests.{defined_keeps, none_stands, no_others, head_faults}
+use Rattle.yayul.proofs.LineRequests.{defined_keeps, free_place, none_stands, no_others, head_faults}
 use Rattle.yayul.proofs.Equalled.{by_later, promise_requests}
-use Rattle.yayul.proofs.LateFaults.{AreLate, is_of_fields, statement_late}
+use Rattle.yayul.proofs.LateFaults.{AreLate, IsLateIf, is_of_fields, statement_late, waiting_late}
 use Rattle.yayul.proofs.Least.{none_least}
 use Rattle.yayul.proofs.LeastOfSet.{StandsIn, fold_is_least}
 use Rattle.yayul.proofs.Least as least_fault
@@ -32,11 +35,11 @@ use Rattle.yayul.proofs.Lines.{same_language, faultless_line, faulty_line, few_l
 
 -- ## Lines without a fault
 all_known : Known
-all_known = record { location = true; extracode = true; wrong = None }
+all_known = record { location = true; banks = true; extracode = true; wrong = None }
 
--- what stands before a line where no line before it is refused
+-- what stands before a line where no line before it has a fault
 abbrev clean : Layout → Survey
-clean l = record { layout = l; lost = []; known = record { location = true; extracode = true; wrong = None } }
+clean l = record { layout = l; lost = []; known = record { location = true; banks = true; extracode = true; wrong = None } }
 
 none_found : (test : ℕ → Bool) (text : List ℕ) → list_all test text ≡ true → find (λ byte. not (test byte)) text ≡ None
 none_found test [] e = refl
@@ -61,7 +64,20 @@ own_fault : (a b : Bool) (j k kind : FaultKind) → standing (fault_if a j ∷ f
 own_fault a b j k kind e =
     let bad : kind ∷ [] ≡ [] = (none_stands b k (Some kind ∷ []) (none_stands a j (fault_if b k ∷ Some kind ∷ []) e).1).1 in cc
 
-still_known : (line : ℕ) (s : Layout) (label : Label) (operation : Operation) → (statement_effect line s label operation).faults ≡ [] → extracode_known true false operation ≡ true
+-- a line without a fault says what it says, no operand in place of another
+same_operation : (line : ℕ) (s : Layout) (text : List ℕ) (label : Label) (operation : Operation) → (statement_effect line s label operation).faults ≡ []
+    → (mended s.language text operation ≡ operation) × (lacks_form operation ≡ false)
+same_operation line s text label Nothing e = (refl, refl)
+same_operation line s text label Unknown e = (refl, refl)
+same_operation line s text label (Setloc operand) e = (refl, refl)
+same_operation line s text label (Bank taken number) e = (refl, refl)
+same_operation line s text label (Erase count) e = (refl, refl)
+same_operation line s text label (Equals operand) e = (refl, refl)
+same_operation line s text label (Ebank operand) e = (refl, refl)
+same_operation line s text label (Gives None) e = absurd (own_fault (is_malformed label) (is_twice s label) BadLabel TwiceDefined BadOperand e)
+same_operation line s text label (Gives (Some content)) e = (refl, refl)
+
+still_known : (line : ℕ) (s : Layout) (label : Label) (operation : Operation) → (statement_effect line s label operation).faults ≡ [] → extracode_known true operation ≡ true
 still_known line s label Nothing e = refl
 still_known line s label Unknown e = absurd (own_fault (is_malformed label) (is_twice s label) BadLabel TwiceDefined UnknownOperator e)
 still_known line s label (Setloc operand) e = refl
@@ -72,38 +88,60 @@ still_known line s label (Ebank operand) e = refl
 still_known line s label (Gives None) e = absurd (own_fault (is_malformed label) (is_twice s label) BadLabel TwiceDefined BadOperand e)
 still_known line s label (Gives (Some content)) e = refl
 
+location_stays : (operation : Operation) → location_known true true operation ≡ true
+location_stays Nothing = refl
+location_stays Unknown = refl
+location_stays (Setloc operand) = refl
+location_stays (Bank taken number) = refl
+location_stays (Erase count) = refl
+location_stays (Equals operand) = refl
+location_stays (Ebank operand) = refl
+location_stays (Gives content) = refl
+
+rests_on_all : (alone : Bool) (operation : Operation) → rests_on_known (record { location = true; banks = true; extracode = true; wrong = None }) alone operation ≡ true
+rests_on_all alone Nothing = refl
+rests_on_all alone Unknown = refl
+rests_on_all alone (Setloc operand) = refl
+rests_on_all alone (Bank taken number) = refl
+rests_on_all alone (Erase count) = refl
+rests_on_all alone (Equals operand) = refl
+rests_on_all alone (Ebank operand) = refl
+rests_on_all alone (Gives content) = refl
+
 module _ (line : ℕ) (l : Layout) (text : List ℕ) (e : line_faults line l text ≡ []) where
   no_text : text_faults l.language line text ≡ []
   no_text = no_front (text_faults l.language line text) (line_effect line l text).faults e
 
-  no_layout : layout_kinds line l text ≡ []
+  no_layout : (statement_effect line l (statement_on l text).label (statement_on l text).operation).faults ≡ []
+  unfolding line_effect
   no_layout = no_others (text_faults l.language line text) (line_effect line l text).faults e
 
-  not_refused : is_refused line l text ≡ false
-  not_refused = ap (λ kinds. some_stands kinds || some_stands (layout_kinds line l text)) no_text ∙ ap some_stands no_layout
+  says_same : (operation_on l text ≡ (statement_on l text).operation) × (lacks_form (statement_on l text).operation ≡ false)
+  says_same = same_operation line l text (statement_on l text).label (statement_on l text).operation no_layout
 
-  extracode_stays : extracode_known true false (statement_on l text).operation ≡ true
-  unfolding line_effect
-  extracode_stays = still_known line l (statement_on l text).label (statement_on l text).operation no_layout
-
-  all_stays : known_after (record { location = true; extracode = true; wrong = None }) text (statement_on l text).operation (is_refused line l text) (list_any displaces (layout_kinds line l text))
-      ≡ record { location = true; extracode = true; wrong = None }
-  all_stays =
-      ap (λ r. known_after (record { location = true; extracode = true; wrong = None }) text (statement_on l text).operation r (list_any displaces (layout_kinds line l text))) not_refused
-      ∙ ap (λ kinds. known_after (record { location = true; extracode = true; wrong = None }) text (statement_on l text).operation false (list_any displaces kinds)) no_layout
-      ∙ (λ i. record { location = whether (moves (statement_on l text).operation) i; extracode = extracode_stays i; wrong = ap (λ byte. option_or byte None) (none_wrong text (all_text l.language line text no_text)) i })
-    where
-      whether : (b : Bool) → cond b (not false) (true && not false) ≡ true
-      whether true = refl
-      whether false = refl
+  all_stays : known_after (record { location = true; banks = true; extracode = true; wrong = None }) text (statement_on l text).operation true
+      ≡ record { location = true; banks = true; extracode = true; wrong = None }
+  all_stays = λ i. record {
+    location = location_stays (statement_on l text).operation i;
+    banks = true;
+    extracode = still_known line l (statement_on l text).label (statement_on l text).operation no_layout i;
+    wrong = ap (λ byte. option_or byte None) (none_wrong text (all_text l.language line text no_text)) i;
+  }
 
   -- after a faultless line
   pub passed_clean : passed_line line (clean l) text ≡ clean (line_effect line l text).after
-  passed_clean = λ i. record {
-    layout = ap (λ r. cond r l (line_effect line l text).after) not_refused i;
-    lost = ap (λ r. cond r (noted [] (statement_on l text).label) []) not_refused i;
-    known = all_stays i;
-  }
+  unfolding passed_line line_effect
+  passed_clean =
+      let label : Label = (statement_on l text).label in
+      let operation : Operation = (statement_on l text).operation in
+      let known : Known = record { location = true; banks = true; extracode = true; wrong = None } in
+      let alone : Bool = lacks_operand l.language text in
+      let after : Layout = (statement_effect line l label operation).after in
+      ap (λ o. said_passed line (clean l) text label o (is_done known alone o (layout_kinds line l label o)) (layout_kinds line l label o)) says_same.0
+      ∙ ap (λ ks. said_passed line (clean l) text label operation (is_done known alone operation ks) ks) no_layout
+      ∙ ap (λ d. said_passed line (clean l) text label operation d []) (rests_on_all alone operation)
+      ∙ ap (λ k. with_known (laid line (clean l) label operation) k) all_stays
+      ∙ ap (λ ks. clean (cond (some_stands ks) l after)) no_layout
 
 -- after faultless lines
 clean_after : (texts : List (List ℕ)) (line : ℕ) (l : Layout) → layout_faults line l texts ≡ [] → passed_lines line (clean l) texts ≡ clean (layout_after line l texts)
@@ -117,26 +155,53 @@ clean_after (text ∷ texts) line l e =
 abbrev words_of : List (List ℕ × Value) → ℕ → Layout → List (List ℕ) → List Fault
 words_of table line l [] = []
 words_of table line l (text ∷ texts) =
-    on_line line (word_kinds table l (statement_on l text).operation) ++ words_of table (line + 1) (line_effect line l text).after texts
+    on_line line (word_kinds table l false (statement_on l text).operation) ++ words_of table (line + 1) (line_effect line l text).after texts
 
-asked_words : (table : List (List ℕ × Value)) (line : ℕ) (s : Layout) (content : Content)
+asked_words : (table : List (List ℕ × Value)) (line : ℕ) (s : Layout) (content : Content) (bank offset : ℕ) → word_place s.location ≡ Some (bank, offset)
     → word_faults table (asked_here line s content).requests ≡ word_faults table s.requests ++ on_line line (content_kinds table s content)
 unfolding request_faults request_words
-asked_words table line s content = by_place (word_place s.location)
-  where
-    by_place : (place : Option (ℕ × ℕ))
-        → word_faults table (option_map_or (λ p. asked s (record { line = line; bank = p.0; offset = p.1; content = content; extracode = s.extracode; eb = s.eb })) place s).requests
-        ≡ word_faults table s.requests
-        ++ on_line line (option_map_or (λ p. standing (result_err (content_words table (Value.Fixed p.0 p.1) s.extracode s.eb content) ∷ Rattle.yayul.specs.Words.extracode_fault (Rattle.yayul.specs.Words.extracode_of content) s.extracode ∷ [])) place [])
-    by_place None = sym (append-nil (word_faults table s.requests))
-    by_place (Some p) =
-        let r : Request = record { line = line; bank = p.0; offset = p.1; content = content; extracode = s.extracode; eb = s.eb } in
-        flat_map-append (λ q. on_line q.line (request_faults table q)) s.requests (r ∷ [])
-        ∙ ap (λ more. word_faults table s.requests ++ more) (append-nil (on_line line (request_faults table r)))
+asked_words table line s content bank offset here =
+    let r : Request = record { line = line; bank = bank; offset = offset; content = content; extracode = s.extracode; eb = s.eb } in
+    ap (λ (place : Option (ℕ × ℕ)). word_faults table (option_map_or (λ p. asked s (record { line = line; bank = p.0; offset = p.1; content = content; extracode = s.extracode; eb = s.eb })) place s).requests) here
+    ∙ flat_map-append (λ q. on_line q.line (request_faults table q)) s.requests (r ∷ [])
+    ∙ ap (λ more. word_faults table s.requests ++ more) (append-nil (on_line line (request_faults table r)))
+    ∙ ap (λ (place : ℕ × ℕ). word_faults table s.requests ++ on_line line (standing (result_err (content_words table (Value.Fixed place.0 place.1) s.extracode s.eb content) ∷ Rattle.yayul.specs.Words.extracode_fault (Rattle.yayul.specs.Words.extracode_of content) s.extracode ∷ [])))
+    (sym (ap (λ (place : Option (ℕ × ℕ)). unwrap_or place (2, 0)) here))
 
-statement_words : (table : List (List ℕ × Value)) (line : ℕ) (s : Layout) (label : Label) (operation : Operation)
-    → word_faults table (statement_effect line s label operation).after.requests ≡ word_faults table s.requests ++ on_line line (word_kinds table s operation)
-statement_words table line s label operation = by_operation operation
+-- a faultless line that gives words has a place for them
+given_place : (line : ℕ) (s : Layout) (label : Label) (content : Content) → (gives line s label content).faults ≡ [] → (bank : ℕ) × (offset : ℕ) × (word_place s.location ≡ Some (bank, offset))
+given_place line s label content e = by_location s.location (free_place line s label content e).0 fixed
+  where
+    fixed : is_erasable s.location ≡ false
+    fixed =
+        let last : List (Option FaultKind) = fault_if (is_erasable s.location) CodeInErasable ∷ [] in
+        let taken : List (Option FaultKind) = fault_if (is_taken s (width content)) PlaceTaken ∷ last in
+        let full : List (Option FaultKind) = fault_if (lacks_room (width content) s.location) BankFull ∷ taken in
+        let a = none_stands (is_malformed label) BadLabel (fault_if (is_twice s label) TwiceDefined ∷ full) e in
+        let b = none_stands (is_twice s label) TwiceDefined full a.1 in
+        let c = none_stands (lacks_room (width content) s.location) BankFull taken b.1 in
+        (none_stands (is_erasable s.location) CodeInErasable [] (none_stands (is_taken s (width content)) PlaceTaken last c.1).1).0
+
+    some_width : (c : Content) → 1 ≤ width c
+    some_width (Constant number) = omega arith
+    some_width (Plain i) = omega arith
+    some_width (Addressed i operand) = omega arith
+    some_width (FarAddress operand) = omega arith
+    some_width (Constants pair) = omega arith
+    some_width (Complemented i operand) = omega arith
+    some_width (FarComplement operand) = omega arith
+    some_width (BankWord operand) = omega arith
+
+    by_location : (here : Location) → lacks_room (width content) here ≡ false → is_erasable here ≡ false → (bank : ℕ) × (offset : ℕ) × (word_place here ≡ Some (bank, offset))
+    by_location (Location.Erasable n) room fixed_place = absurd (cc)
+    by_location (Location.Fixed bank n) room fixed_place =
+        let some : 1 ≤ width content = some_width content in
+        let within : nat_lt n 0o2000 ≡ true = grind (arith, nat_tests) in
+        (bank, n, rw within refl)
+
+statement_words : (table : List (List ℕ × Value)) (line : ℕ) (s : Layout) (label : Label) (operation : Operation) → (statement_effect line s label operation).faults ≡ []
+    → word_faults table (statement_effect line s label operation).after.requests ≡ word_faults table s.requests ++ on_line line (word_kinds table s false operation)
+statement_words table line s label operation none = by_operation operation none
   where
     same : (requests : List Request) → requests ≡ s.requests → word_faults table requests ≡ word_faults table s.requests ++ []
     same requests e = ap (word_faults table) e ∙ sym (append-nil (word_faults table s.requests))
@@ -145,36 +210,39 @@ statement_words table line s label operation = by_operation operation
     valued_requests (Ok value) = (defined_keeps s label value).1
     valued_requests (Err kind) = refl
 
-    gives : (content : Content) (l : Label) → word_faults table (asked_here line (defined s l (value_here s.location)) content).requests ≡ word_faults table s.requests ++ on_line line (content_kinds table s content)
-    gives content Missing = asked_words table line s content
-    gives content Malformed = asked_words table line s content
-    gives content (Named name) = asked_words table line (defined s (Named name) (value_here s.location)) content
+    gives_words : (content : Content) (l : Label) (bank offset : ℕ) → word_place s.location ≡ Some (bank, offset)
+        → word_faults table (asked_here line (defined s l (value_here s.location)) content).requests ≡ word_faults table s.requests ++ on_line line (content_kinds table s content)
+    gives_words content Missing bank offset here = asked_words table line s content bank offset here
+    gives_words content Malformed bank offset here = asked_words table line s content bank offset here
+    gives_words content (Named name) bank offset here = asked_words table line (defined s (Named name) (value_here s.location)) content bank offset here
 
-    by_operation : (o : Operation) → word_faults table (statement_effect line s label o).after.requests ≡ word_faults table s.requests ++ on_line line (word_kinds table s o)
-    by_operation Nothing = same _ (defined_keeps s label (value_here s.location)).1
-    by_operation Unknown = same s.requests refl
-    by_operation (Setloc operand) = same s.requests refl
-    by_operation (Bank taken number) = same s.requests refl
-    by_operation (Erase count) = same _ (defined_keeps s label (value_here s.location)).1
-    by_operation (Equals operand) = same _ (by_later (λ (x : LineEffect). x.after.requests ≡ s.requests) line s label operand valued_requests (λ o. promise_requests line s label o))
-    by_operation (Ebank operand) = same s.requests refl
-    by_operation (Gives None) = same s.requests refl
-    by_operation (Gives (Some content)) = gives content label
+    by_operation : (o : Operation) → (statement_effect line s label o).faults ≡ []
+        → word_faults table (statement_effect line s label o).after.requests ≡ word_faults table s.requests ++ on_line line (word_kinds table s false o)
+    by_operation Nothing e = same _ (defined_keeps s label (value_here s.location)).1
+    by_operation Unknown e = same s.requests refl
+    by_operation (Setloc operand) e = same s.requests refl
+    by_operation (Bank taken number) e = same s.requests refl
+    by_operation (Erase count) e = same _ (defined_keeps s label (value_here s.location)).1
+    by_operation (Equals operand) e = same _ (by_later (λ (x : LineEffect). x.after.requests ≡ s.requests) line s label operand valued_requests (λ o. promise_requests line s label o))
+    by_operation (Ebank operand) e = same s.requests refl
+    by_operation (Gives None) e = same s.requests refl
+    by_operation (Gives (Some content)) e = let place = given_place line s label content e in gives_words content label place.0 place.1 place.2
 
-line_words : (table : List (List ℕ × Value)) (line : ℕ) (s : Layout) (text : List ℕ)
-    → word_faults table (line_effect line s text).after.requests ≡ word_faults table s.requests ++ on_line line (word_kinds table s (statement_on s text).operation)
+line_words : (table : List (List ℕ × Value)) (line : ℕ) (s : Layout) (text : List ℕ) → line_faults line s text ≡ []
+    → word_faults table (line_effect line s text).after.requests ≡ word_faults table s.requests ++ on_line line (word_kinds table s false (statement_on s text).operation)
 unfolding line_effect
-line_words table line s text = statement_words table line s (statement_on s text).label (statement_on s text).operation
+line_words table line s text e = statement_words table line s (statement_on s text).label (statement_on s text).operation (no_layout line s text e)
 
 -- the word faults of what lines ask for are those of the lines
-words_told : (table : List (List ℕ × Value)) (texts : List (List ℕ)) (line : ℕ) (s : Layout)
+words_told : (table : List (List ℕ × Value)) (texts : List (List ℕ)) (line : ℕ) (s : Layout) → layout_faults line s texts ≡ []
     → word_faults table (layout_after line s texts).requests ≡ word_faults table s.requests ++ words_of table line s texts
-words_told table [] line s = sym (append-nil (word_faults table s.requests))
-words_told table (text ∷ texts) line s =
+words_told table [] line s e = sym (append-nil (word_faults table s.requests))
+words_told table (text ∷ texts) line s e =
     let after : Layout = (line_effect line s text).after in
-    let here : List Fault = on_line line (word_kinds table s (statement_on s text).operation) in
-    words_told table texts (line + 1) after
-    ∙ ap (λ faults. faults ++ words_of table (line + 1) after texts) (line_words table line s text)
+    let here : List Fault = on_line line (word_kinds table s false (statement_on s text).operation) in
+    let parts = head_faults line (line_faults line s text) (layout_faults (line + 1) after texts) e in
+    words_told table texts (line + 1) after parts.1
+    ∙ ap (λ faults. faults ++ words_of table (line + 1) after texts) (line_words table line s text parts.0)
     ∙ append_assoc (word_faults table s.requests) here (words_of table (line + 1) after texts)
 
 -- ## The faults of names that wait
@@ -346,16 +414,43 @@ in_order OutOfRange = inr (inr (inr (inr (inr (inr (inr (inr (inr (inr (inr (inr
 in_order LongLine = inr (inr (inr (inr (inr (inr (inr (inr (inr (inr (inr (inr (inr (inr (inr (inr (inl refl))))))))))))))))
 in_order NoMemory = inr (inr (inr (inr (inr (inr (inr (inr (inr (inr (inr (inr (inr (inr (inr (inr (inr (inl refl)))))))))))))))))
 
+-- a kind is one of those that pass a test, or of those that do not
+among_half : (test : FaultKind → Bool) (kind : FaultKind) (kinds : List FaultKind) → IsAmong kind kinds → IsAmong kind (filter (λ k. not (test k)) kinds ++ filter test kinds)
+among_half test kind kinds among = either_half (test kind) refl
+  where
+    passes : (pass : FaultKind → Bool) (ks : List FaultKind) → pass kind ≡ true → IsAmong kind ks → IsAmong kind (filter pass ks)
+    passes pass [] is none = none
+    passes pass (k ∷ ks) is (inl same) = subst (λ (b : Bool). IsAmong kind (cond b (k ∷ filter pass ks) (filter pass ks))) (sym (ap pass (sym same) ∙ is)) (inl same)
+    passes pass (k ∷ ks) is (inr more) = by_test (passes pass ks is more) (pass k)
+      where
+        by_test : IsAmong kind (filter pass ks) → (b : Bool) → IsAmong kind (cond b (k ∷ filter pass ks) (filter pass ks))
+        by_test rest true = inr rest
+        by_test rest false = rest
+
+    front : (xs ys : List FaultKind) → IsAmong kind xs → IsAmong kind (xs ++ ys)
+    front [] ys none = absurd none
+    front (x ∷ xs) ys (inl same) = inl same
+    front (x ∷ xs) ys (inr more) = inr (front xs ys more)
+
+    back : (xs ys : List FaultKind) → IsAmong kind ys → IsAmong kind (xs ++ ys)
+    back [] ys more = more
+    back (x ∷ xs) ys more = inr (back xs ys more)
+
+    either_half : (b : Bool) → test kind ≡ b → IsAmong kind (filter (λ k. not (test k)) kinds ++ filter test kinds)
+    either_half true is = back (filter (λ k. not (test k)) kinds) (filter test kinds) (passes test kinds is among)
+    either_half false is = front (filter (λ k. not (test k)) kinds) (filter test kinds) (passes (λ k. not (test k)) kinds (ap not is) among)
+
 -- a fault of a line that does not follow from another is told
 told_here : (language : Language) (d : Doubt) (line : ℕ) (text : List ℕ) (taken : Option ℕ) (kinds : List FaultKind) (kind : FaultKind) → is_one_of kinds kind ≡ true → follows d kind ≡ false
     → list_any (is_of (least_fault.told line kind)) (told_of language d line text taken kinds) ≡ true
 told_here language d line text taken kinds kind stands alone =
-    told_among (λ k. is_one_of kinds k && not (follows d k)) language line text taken kind kinds_in_order (in_order kind)
+    told_among (λ k. is_one_of kinds k && not (follows d k)) language line text taken kind (kinds_on language text)
+    (among_half (is_beyond language text) kind kinds_in_order (in_order kind))
     (ap (λ b. b && not (follows d kind)) stands ∙ ap not alone)
 
 -- ## What does not follow
 names_none : (operation : Operation) → names_one [] operation ≡ false
-names_none operation = by_operation operation
+names_none operation = by_operand (operand_of operation)
   where
     among_none : (term : Term) → is_among [] term ≡ false
     among_none (Term.Number number) = refl
@@ -363,46 +458,159 @@ names_none operation = by_operation operation
     among_none (Term.Place bank offset) = refl
     among_none Term.Here = refl
 
-    by_operation : (o : Operation) → names_one [] o ≡ false
-    by_operation Nothing = refl
-    by_operation Unknown = refl
-    by_operation (Setloc None) = refl
-    by_operation (Setloc (Some operand)) = among_none operand.term
-    by_operation (Bank taken number) = refl
-    by_operation (Erase count) = refl
-    by_operation (Equals None) = refl
-    by_operation (Equals (Some operand)) = among_none operand.term
-    by_operation (Ebank None) = refl
-    by_operation (Ebank (Some operand)) = among_none operand.term
-    by_operation (Gives None) = refl
-    by_operation (Gives (Some (Constant number))) = refl
-    by_operation (Gives (Some (Plain i))) = refl
-    by_operation (Gives (Some (Addressed i operand))) = among_none operand.term
-    by_operation (Gives (Some (FarAddress operand))) = among_none operand.term
-    by_operation (Gives (Some (Constants pair))) = refl
-    by_operation (Gives (Some (Complemented i operand))) = among_none operand.term
-    by_operation (Gives (Some (FarComplement operand))) = among_none operand.term
-    by_operation (Gives (Some (BankWord operand))) = among_none operand.term
+    by_operand : (operand : Option Operand) → option_map_or (λ o. is_among [] o.term) operand false ≡ false
+    by_operand None = refl
+    by_operand (Some operand) = among_none operand.term
 
 same_as_none : (byte : Option ℕ) → is_same_byte byte None ≡ false
 same_as_none None = refl
 same_as_none (Some b) = refl
 
--- what holds of all faults but that of the bytes, and of those of symbols that all lines of the source lose
+-- what holds of all faults but that of the bytes, and of those of symbols that are lost or wait in vain
 abbrev doubt_here : Bool → Bool → Doubt
-doubt_here bytes symbol = record { bytes = bytes; repeated = false; location = false; erased = false; symbol = symbol; early = false; extracode = false }
+doubt_here bytes symbol = record { bytes = bytes; repeated = false; location = false; erased = false; counted = false; symbol = symbol; early = false; extracode = false }
 
-clean_doubt : (lost : List (List ℕ × Value)) (text : List ℕ) (operation : Operation)
-    → doubt lost [] (record { location = true; extracode = true; wrong = None }) text operation ≡ doubt_here (not (list_all is_text_byte text)) (names_one lost operation)
-clean_doubt lost text operation = λ i. record {
+-- a symbol is lost, or waits in vain
+abbrev is_lost : Survey → Operation → Bool
+is_lost w operation = names_one w.lost operation || waits_in_vain w.layout.promised w.layout.symbols operation
+
+clean_doubt : (w : Survey) (l : Layout) (text : List ℕ) (operation : Operation) → doubt w (clean l) text operation ≡ doubt_here (not (list_all is_text_byte text)) (is_lost w operation)
+clean_doubt w l text operation = λ i. record {
   bytes = not (list_all is_text_byte text);
   repeated = same_as_none (wrong_byte text) i;
   location = false;
   erased = and_right (erases operation) false refl i;
-  symbol = names_one lost operation;
+  counted = and_right (counts_from_here operation) false refl i;
+  symbol = is_lost w operation;
   early = names_none operation i;
   extracode = false;
 }
+
+-- ## Names that wait
+-- all names of a table stand in another
+abbrev AllStand : Table → Table → Type 0
+AllStand promised table = (name : List ℕ) → is_some (value_in promised name) ≡ true → is_some (value_in table name) ≡ true
+
+-- where all names that wait have a value none waits in vain
+none_in_vain : (promised table : Table) (operation : Operation) → AllStand promised table → waits_in_vain promised table operation ≡ false
+none_in_vain promised table operation all = by_operand (operand_of operation)
+  where
+    by_name : (name : List ℕ) (b : Bool) → is_some (value_in promised name) ≡ b → (is_some (value_in promised name) && not (is_some (value_in table name))) ≡ false
+    by_name name true is = ap (λ b. b && not (is_some (value_in table name))) is ∙ ap not (all name is)
+    by_name name false is = ap (λ b. b && not (is_some (value_in table name))) is
+
+    by_term : (term : Term) → (is_among promised term && not (is_among table term)) ≡ false
+    by_term (Term.Number number) = refl
+    by_term (Term.Named name) = by_name name (is_some (value_in promised name)) refl
+    by_term (Term.Place bank offset) = refl
+    by_term Term.Here = refl
+
+    by_operand : (operand : Option Operand) → (option_map_or (λ o. is_among promised o.term) operand false && not (option_map_or (λ o. is_among table o.term) operand false)) ≡ false
+    by_operand None = refl
+    by_operand (Some operand) = by_term operand.term
+
+-- a name of a table with one more
+of_one_more : (names : Table) (name n : List ℕ) (value : Value) → is_some (value_in (names ++ (name, value) ∷ []) n) ≡ true → (is_some (value_in names n) ≡ true) ⊎ (same_name n name ≡ true)
+of_one_more [] name n value e = by_test (same_name n name) refl
+  where
+    by_test : (b : Bool) → same_name n name ≡ b → (is_some {T = Value} (value_in [] n) ≡ true) ⊎ (same_name n name ≡ true)
+    by_test true is = inr is
+    by_test false is = absurd (let bad : false ≡ true = sym (ap (λ b. is_some (cond b (Some value) None)) is) ∙ e in cc)
+of_one_more (p ∷ names) name n value e = by_test (of_one_more names name n value) (same_name n p.0) refl
+  where
+    by_test : (is_some (value_in (names ++ (name, value) ∷ []) n) ≡ true → (is_some (value_in names n) ≡ true) ⊎ (same_name n name ≡ true))
+        → (b : Bool) → same_name n p.0 ≡ b → (is_some (value_in (p ∷ names) n) ≡ true) ⊎ (same_name n name ≡ true)
+    by_test more true is = inl (ap (λ b. is_some (cond b (Some p.1) (value_in names n))) is)
+    by_test more false is =
+        elim (more (sym (ap (λ b. is_some (cond b (Some p.1) (value_in (names ++ (name, value) ∷ []) n))) is) ∙ e)) [
+          | inl there ↦ inl (ap (λ b. is_some (cond b (Some p.1) (value_in names n))) is ∙ there)
+          | inr here ↦ inr here
+        ]
+
+names_same : (a b : List ℕ) → same_name a b ≡ true → a ≡ b
+names_same [] [] e = refl
+names_same [] (y ∷ ys) e = absurd (cc)
+names_same (x ∷ xs) [] e = absurd (cc)
+names_same (x ∷ xs) (y ∷ ys) e =
+    let parts = and_parts (x == y) (same_name xs ys) e in
+    λ i. eqb-true x y parts.0 i ∷ names_same xs ys parts.1 i
+
+-- a name that waits has a value, where nothing is wrong with it
+valued_promise : (table : Table) (name : List ℕ) (operand : Operand) → promise_kind table name operand ≡ None → is_some (value_in table name) ≡ true
+valued_promise table name operand e = by_value (awaited table operand) (value_in table name) e
+  where
+    by_value : (r : Result Value FaultKind) (v : Option Value) → result_err (and_then (λ x. ok_or v UsedTooEarly) r) ≡ None → is_some v ≡ true
+    by_value (Err kind) v e = absurd (let bad : Some kind ≡ None = e in cc)
+    by_value (Ok x) None e = absurd (let bad : Some UsedTooEarly ≡ None = e in cc)
+    by_value (Ok x) (Some v) e = refl
+
+-- after a line that lets no name wait in vain, all names that wait have a value
+kept_stand : (table : Table) (line : ℕ) (s : Layout) (label : Label) (operation : Operation) → AllStand s.promised table → waiting_kind table s label operation ≡ None
+    → AllStand (statement_effect line s label operation).after.promised table
+kept_stand table line s label operation all none = by_operation operation none
+  where
+    same : (promised : Table) → promised ≡ s.promised → AllStand promised table
+    same promised e = subst (λ (t : Table). AllStand t table) (sym e) all
+
+    labelled : (l : Label) (value : Value) → (defined s l value).promised ≡ s.promised
+    labelled Missing value = refl
+    labelled Malformed value = refl
+    labelled (Named name) value = refl
+
+    valued_same : (l : Label) (value : Result Value FaultKind) → (valued s l value).after.promised ≡ s.promised
+    valued_same l (Ok value) = labelled l value
+    valued_same l (Err kind) = refl
+
+    asked_same : (content : Content) (t : Layout) (place : Option (ℕ × ℕ)) → (option_map_or (λ p. asked t (record { line = line; bank = p.0; offset = p.1; content = content; extracode = t.extracode; eb = t.eb })) place t).promised ≡ t.promised
+    asked_same content t None = refl
+    asked_same content t (Some p) = refl
+
+    one_more : (name : List ℕ) → is_some (value_in table name) ≡ true → AllStand (s.promised ++ (name, Value.Num 0) ∷ []) table
+    one_more name stands n e =
+        elim (of_one_more s.promised name n (Value.Num 0) e) [
+          | inl before ↦ all n before
+          | inr here ↦ ap (λ m. is_some (value_in table m)) (names_same n name here) ∙ stands
+        ]
+
+    waits : (l : Label) (operand : Operand) (b : Bool) → kind_where table operand l b ≡ None → AllStand (effect_where line s operand l b).after.promised table
+    waits Missing operand true e = all
+    waits Malformed operand true e = all
+    waits (Named name) operand true e = one_more name (valued_promise table name operand e)
+    waits l operand false e = same _ (valued_same l (early_value s (Some operand)))
+
+    by_equals : (l : Label) (operand : Operand) → waiting_kind table s l (Equals (Some operand)) ≡ None → AllStand (equals line s l (Some operand)).after.promised table
+    by_equals Missing operand e = waits Missing operand (is_later s operand) refl
+    by_equals Malformed operand e = waits Malformed operand (is_later s operand) refl
+    by_equals (Named name) operand e = waits (Named name) operand (is_later s operand) e
+
+    by_operation : (o : Operation) → waiting_kind table s label o ≡ None → AllStand (statement_effect line s label o).after.promised table
+    by_operation Nothing e = same _ (labelled label (value_here s.location))
+    by_operation Unknown e = all
+    by_operation (Setloc operand) e = all
+    by_operation (Bank taken number) e = all
+    by_operation (Erase count) e = same _ (labelled label (value_here s.location))
+    by_operation (Equals None) e = all
+    by_operation (Equals (Some operand)) e = by_equals label operand e
+    by_operation (Ebank operand) e = all
+    by_operation (Gives None) e = all
+    by_operation (Gives (Some content)) e = same _ (asked_same content (defined s label (value_here s.location)) (word_place (defined s label (value_here s.location)).location) ∙ labelled label (value_here s.location))
+
+line_stand : (table : Table) (line : ℕ) (s : Layout) (text : List ℕ) → AllStand s.promised table → waiting_kind table s (statement_on s text).label (statement_on s text).operation ≡ None
+    → AllStand (line_effect line s text).after.promised table
+unfolding line_effect
+line_stand table line s text all none = kept_stand table line s (statement_on s text).label (statement_on s text).operation all none
+
+none_of_line : (line : ℕ) (kind : Option FaultKind) → option_map (λ k. least_fault.told line k) kind ≡ None → kind ≡ None
+none_of_line line None e = refl
+none_of_line line (Some kind) e = absurd (let bad : Some (least_fault.told line kind) ≡ None = e in cc)
+
+-- after lines that let no name wait in vain
+lines_stand : (table : Table) (texts : List (List ℕ)) (line : ℕ) (s : Layout) → AllStand s.promised table → first_of table line s texts ≡ None → AllStand (layout_after line s texts).promised table
+lines_stand table [] line s all none = all
+lines_stand table (text ∷ texts) line s all none =
+    let parts = neither (line_fault table line s (statement_on s text).label (statement_on s text).operation) (first_of table (line + 1) (line_effect line s text).after texts) none in
+    lines_stand table texts (line + 1) (line_effect line s text).after
+    (line_stand table line s text all (none_of_line line (waiting_kind table s (statement_on s text).label (statement_on s text).operation) parts.0)) parts.1
 
 -- where all is known, and no symbol is lost, nothing follows
 none_follows : (kind : FaultKind) → follows (doubt_here false false) kind ≡ false
@@ -446,21 +654,52 @@ fields_follow symbol OutOfRange e = refl
 fields_follow symbol LongLine e = absurd (cc)
 fields_follow symbol NoMemory e = absurd (cc)
 
--- ## Where no line is refused
+-- ## Where no line has a fault of its own
 -- the faults of a faultless line are those of a name that waits and of its words
+abbrev vain_of : Survey → Layout → List ℕ → Option FaultKind
+vain_of w l text = vain_kind w (clean l) (statement_on l text).label (statement_on l text).operation
+
 abbrev waiting_of : Survey → Layout → List ℕ → Option FaultKind
 waiting_of w l text = waiting_kind w.layout.symbols l (statement_on l text).label (statement_on l text).operation
 
-clean_kinds : (w : Survey) (line : ℕ) (l : Layout) (text : List ℕ) → line_faults line l text ≡ []
-    → line_kinds w line (clean l) text ≡ standing (waiting_of w l text ∷ []) ++ word_kinds w.layout.symbols l (statement_on l text).operation
-clean_kinds w line l text e = ap (λ kinds. kinds ++ standing (waiting_of w l text ∷ []) ++ word_kinds w.layout.symbols l (statement_on l text).operation) e
+-- what is told of such a line
+clean_line : (w : Survey) (line : ℕ) (l : Layout) (text : List ℕ) → line_faults line l text ≡ []
+    → told_line w line (clean l) text
+    ≡ told_of l.language (doubt_here (not (list_all is_text_byte text)) (is_lost w (statement_on l text).operation)) line text (taken_by l (statement_on l text).operation)
+    (standing (vain_of w l text ∷ []) ++ word_kinds w.layout.symbols l false (statement_on l text).operation)
+clean_line w line l text e =
+    let label : Label = (statement_on l text).label in
+    let operation : Operation = (statement_on l text).operation in
+    let says = says_same line l text e in
+    let no_bytes = no_text line l text e in
+    let no_fields = no_layout line l text e in
+    (λ i. told_of l.language (doubt w (clean l) text (says.0 i)) line text (taken_by l (says.0 i)) (said_kinds w line (clean l) text label (says.1 i) (says.0 i)))
+    ∙ (λ i. told_of l.language (clean_doubt w l text operation i) line text (taken_by l operation) (no_bytes i ++ [] ++ no_fields i ++ standing (vain_of w l text ∷ []) ++ word_kinds w.layout.symbols l false operation))
 
-none_waits : (line : ℕ) (kind : Option FaultKind) → option_map (λ k. least_fault.told line k) kind ≡ None → standing (kind ∷ []) ≡ []
-none_waits line None e = refl
-none_waits line (Some kind) e = absurd (let bad : Some (least_fault.told line kind) ≡ None = e in cc)
+-- a name waits in vain, where no other does before it
+vain_none : (w : Survey) (l : Layout) (text : List ℕ) → waiting_of w l text ≡ None → vain_of w l text ≡ None
+vain_none w l text e = by_test (names_one w.lost (statement_on l text).operation || waits_in_vain l.promised w.layout.symbols (statement_on l text).operation)
+  where
+    by_test : (b : Bool) → cond b None (waiting_of w l text) ≡ None
+    by_test true = refl
+    by_test false = e
+
+vain_same : (l w : Layout) (text : List ℕ) → AllStand l.promised w.symbols → vain_of (clean w) l text ≡ waiting_of (clean w) l text
+vain_same l w text all =
+    λ i. cond (names_none (statement_on l text).operation i || none_in_vain l.promised w.symbols (statement_on l text).operation all i) None (waiting_of (clean w) l text)
+
+none_lost : (w : Layout) (operation : Operation) → AllStand w.promised w.symbols → is_lost (clean w) operation ≡ false
+none_lost w operation all = λ i. names_none operation i || none_in_vain w.promised w.symbols operation all i
+
+none_waits : (kind : Option FaultKind) → kind ≡ None → standing (kind ∷ []) ≡ []
+none_waits kind e = ap (λ k. standing (k ∷ [])) e
 
 nothing_told : (language : Language) (d : Doubt) (line : ℕ) (text : List ℕ) (taken : Option ℕ) → told_of language d line text taken [] ≡ []
-nothing_told language d line text taken = refl
+nothing_told language d line text taken = ap (map (finding language line text taken)) (none_pass (kinds_on language text))
+  where
+    none_pass : (kinds : List FaultKind) → filter (λ kind. is_one_of [] kind && not (follows d kind)) kinds ≡ []
+    none_pass [] = refl
+    none_pass (kind ∷ kinds) = none_pass kinds
 
 no_kinds : (line : ℕ) (kinds : List FaultKind) (others : List Fault) → on_line line kinds ++ others ≡ [] → (kinds ≡ []) × (others ≡ [])
 no_kinds line kinds others e = head_faults line kinds others e
@@ -471,11 +710,17 @@ none_told : (texts : List (List ℕ)) (line : ℕ) (l w : Layout) → layout_fau
 none_told [] line l w e first none = refl
 none_told (text ∷ texts) line l w e first none =
     let after : Layout = (line_effect line l text).after in
+    let operation : Operation = (statement_on l text).operation in
     let parts = head_faults line (line_faults line l text) (layout_faults (line + 1) after texts) e in
-    let words = head_faults line (word_kinds w.symbols l (statement_on l text).operation) (words_of w.symbols (line + 1) after texts) none in
-    let waits = neither (line_fault w.symbols line l (statement_on l text).label (statement_on l text).operation) (first_of w.symbols (line + 1) after texts) first in
-    let d : Doubt = doubt [] [] (record { location = true; extracode = true; wrong = None }) text (statement_on l text).operation in
-    ap (λ kinds. told_of l.language d line text (taken_by l (statement_on l text).operation) kinds ++ told_lines (clean w) (line + 1) (passed_line line (clean l) text) texts) (clean_kinds (clean w) line l text parts.0 ∙ ap (λ kinds. kinds ++ word_kinds w.symbols l (statement_on l text).operation) (none_waits line (waiting_of (clean w) l text) waits.0) ∙ words.0)
+    let words = head_faults line (word_kinds w.symbols l false operation) (words_of w.symbols (line + 1) after texts) none in
+    let waits = neither (line_fault w.symbols line l (statement_on l text).label operation) (first_of w.symbols (line + 1) after texts) first in
+    let vain = vain_none (clean w) l text (none_of_line line (waiting_of (clean w) l text) waits.0) in
+    let d : Doubt = doubt_here (not (list_all is_text_byte text)) (is_lost (clean w) operation) in
+    let here : told_line (clean w) line (clean l) text ≡ [] =
+    clean_line (clean w) line l text parts.0
+    ∙ (λ i. told_of l.language d line text (taken_by l operation) (none_waits (vain_of (clean w) l text) vain i ++ words.0 i))
+    ∙ nothing_told l.language d line text (taken_by l operation) in
+    ap (λ findings. findings ++ told_lines (clean w) (line + 1) (passed_line line (clean l) text) texts) here
     ∙ ap (λ s. told_lines (clean w) (line + 1) s texts) (passed_clean line l text parts.0)
     ∙ none_told texts (line + 1) after w parts.1 waits.1 words.1
 
@@ -493,38 +738,44 @@ either_list (f ∷ fs) gs fault (inr more) =
     elim (either_list fs gs fault more) [ inl here ↦ inl (inr here) | inr there ↦ inr there ]
 
 -- a word fault of a faultless line is told
-word_told : (line : ℕ) (l w : Layout) (text : List ℕ) (fault : Fault) → line_faults line l text ≡ [] → StandsIn (on_line line (word_kinds w.symbols l (statement_on l text).operation)) fault
-    → list_any (is_of fault) (told_line (clean w) line (clean l) text) ≡ true
-word_told line l w text fault e stands =
-    let kinds : List FaultKind = word_kinds w.symbols l (statement_on l text).operation in
+word_told : (line : ℕ) (l w : Layout) (text : List ℕ) (fault : Fault) → AllStand w.promised w.symbols → line_faults line l text ≡ []
+    → StandsIn (on_line line (word_kinds w.symbols l false (statement_on l text).operation)) fault → list_any (is_of fault) (told_line (clean w) line (clean l) text) ≡ true
+word_told line l w text fault all e stands =
+    let operation : Operation = (statement_on l text).operation in
+    let kinds : List FaultKind = word_kinds w.symbols l false operation in
     let found = kind_of_fault line kinds fault stands in
-    let d : Doubt = doubt [] [] (record { location = true; extracode = true; wrong = None }) text (statement_on l text).operation in
     let plain : list_all is_text_byte text ≡ true = all_text l.language line text (no_front (text_faults l.language line text) (line_effect line l text).faults e) in
-    let alone : follows d found.0 ≡ false =
-    ap (λ x. follows x found.0) (clean_doubt [] text (statement_on l text).operation ∙ (λ i. doubt_here (not (plain i)) (names_none (statement_on l text).operation i))) ∙ none_follows found.0 in
+    let d : Doubt = doubt_here (not (list_all is_text_byte text)) (is_lost (clean w) operation) in
+    let alone : follows d found.0 ≡ false = (λ i. follows (doubt_here (not (plain i)) (none_lost w operation all i)) found.0) ∙ none_follows found.0 in
     ap (λ f. list_any (is_of f) (told_line (clean w) line (clean l) text)) found.1.1
-    ∙ ap (λ ks. list_any (is_of (least_fault.told line found.0)) (told_of l.language d line text (taken_by l (statement_on l text).operation) ks)) (clean_kinds (clean w) line l text e)
-    ∙ told_here l.language d line text (taken_by l (statement_on l text).operation) (standing (waiting_of (clean w) l text ∷ []) ++ kinds) found.0
-    (any_back (λ other. fault_number other == fault_number found.0) (standing (waiting_of (clean w) l text ∷ [])) kinds (one_of_among found.0 kinds found.1.0)) alone
+    ∙ ap (list_any (is_of (least_fault.told line found.0))) (clean_line (clean w) line l text e)
+    ∙ told_here l.language d line text (taken_by l operation) (standing (vain_of (clean w) l text ∷ []) ++ kinds) found.0
+    (any_back (λ other. fault_number other == fault_number found.0) (standing (vain_of (clean w) l text ∷ [])) kinds (one_of_among found.0 kinds found.1.0)) alone
 
--- the fault of a name that a faultless line lets wait is told
-waiting_told : (line : ℕ) (l w : Layout) (text : List ℕ) (kind : FaultKind) → line_faults line l text ≡ [] → waiting_of (clean w) l text ≡ Some kind
+late_some : (found : Option FaultKind) (kind : FaultKind) → found ≡ Some kind → IsLateIf found → is_of_fields kind ≡ true
+late_some found kind is late = subst IsLateIf is late
+
+-- the fault of a name that a faultless line lets wait is told, where no other waits in vain before it
+waiting_told : (line : ℕ) (l w : Layout) (text : List ℕ) (kind : FaultKind) → AllStand l.promised w.symbols → line_faults line l text ≡ [] → waiting_of (clean w) l text ≡ Some kind
     → list_any (is_of (least_fault.told line kind)) (told_line (clean w) line (clean l) text) ≡ true
-waiting_told line l w text kind e is =
-    let words : List FaultKind = word_kinds w.symbols l (statement_on l text).operation in
-    let d : Doubt = doubt [] [] (record { location = true; extracode = true; wrong = None }) text (statement_on l text).operation in
+waiting_told line l w text kind all e is =
+    let operation : Operation = (statement_on l text).operation in
+    let words : List FaultKind = word_kinds w.symbols l false operation in
+    let lost : Bool = is_lost (clean w) operation in
+    let d : Doubt = doubt_here (not (list_all is_text_byte text)) lost in
     let plain : list_all is_text_byte text ≡ true = all_text l.language line text (no_front (text_faults l.language line text) (line_effect line l text).faults e) in
-    let alone : follows d kind ≡ false =
-    ap (λ x. follows x kind) (clean_doubt [] text (statement_on l text).operation ∙ (λ i. doubt_here (not (plain i)) (names_none (statement_on l text).operation i))) ∙ none_follows kind in
-    ap (λ ks. list_any (is_of (least_fault.told line kind)) (told_of l.language d line text (taken_by l (statement_on l text).operation) ks)) (clean_kinds (clean w) line l text e ∙ ap (λ k. standing (k ∷ []) ++ words) is)
-    ∙ told_here l.language d line text (taken_by l (statement_on l text).operation) (kind ∷ words) kind (one_of_among kind (kind ∷ words) (inl refl)) alone
+    let fields : is_of_fields kind ≡ true = late_some (waiting_of (clean w) l text) kind is (waiting_late w.symbols l (statement_on l text).label operation) in
+    let alone : follows d kind ≡ false = ap (λ b. follows (doubt_here (not b) lost) kind) plain ∙ fields_follow lost kind fields in
+    ap (list_any (is_of (least_fault.told line kind)))
+    (clean_line (clean w) line l text e ∙ ap (λ k. told_of l.language d line text (taken_by l operation) (standing (k ∷ []) ++ words)) (vain_same l w text all ∙ is))
+    ∙ told_here l.language d line text (taken_by l operation) (kind ∷ words) kind (one_of_among kind (kind ∷ words) (inl refl)) alone
 
-first_is_told : (texts : List (List ℕ)) (line : ℕ) (l w : Layout) (fault : Fault) → layout_faults line l texts ≡ [] → first_of w.symbols line l texts ≡ Some fault
+first_is_told : (texts : List (List ℕ)) (line : ℕ) (l w : Layout) (fault : Fault) → AllStand l.promised w.symbols → layout_faults line l texts ≡ [] → first_of w.symbols line l texts ≡ Some fault
     → list_any (is_of fault) (told_lines (clean w) line (clean l) texts) ≡ true
-first_is_told [] line l w fault e first = absurd (let bad : None ≡ Some fault = first in cc)
-first_is_told (text ∷ texts) line l w fault e first =
+first_is_told [] line l w fault all e first = absurd (let bad : None ≡ Some fault = first in cc)
+first_is_told (text ∷ texts) line l w fault all e first =
     let parts = head_faults line (line_faults line l text) (layout_faults (line + 1) (line_effect line l text).after texts) e in
-    by_kind parts.0 (λ more. first_is_told texts (line + 1) (line_effect line l text).after w fault parts.1 more) (waiting_of (clean w) l text) refl
+    by_kind parts.0 (λ stand more. first_is_told texts (line + 1) (line_effect line l text).after w fault stand parts.1 more) (waiting_of (clean w) l text) refl
   where
     after : Layout
     after = (line_effect line l text).after
@@ -532,31 +783,32 @@ first_is_told (text ∷ texts) line l w fault e first =
     later : List Finding
     later = told_lines (clean w) (line + 1) (passed_line line (clean l) text) texts
 
-    by_kind : line_faults line l text ≡ [] → (first_of w.symbols (line + 1) after texts ≡ Some fault → list_any (is_of fault) (told_lines (clean w) (line + 1) (clean after) texts) ≡ true)
+    by_kind : line_faults line l text ≡ []
+        → (AllStand after.promised w.symbols → first_of w.symbols (line + 1) after texts ≡ Some fault → list_any (is_of fault) (told_lines (clean w) (line + 1) (clean after) texts) ≡ true)
         → (found : Option FaultKind) → waiting_of (clean w) l text ≡ found → list_any (is_of fault) (told_line (clean w) line (clean l) text ++ later) ≡ true
     by_kind none others None is =
         let more : first_of w.symbols (line + 1) after texts ≡ Some fault =
         sym (ap (λ k. option_or (option_map (λ x. least_fault.told line x) k) (first_of w.symbols (line + 1) after texts)) is) ∙ first in
         any_back (is_of fault) (told_line (clean w) line (clean l) text) later
-        (ap (λ s. list_any (is_of fault) (told_lines (clean w) (line + 1) s texts)) (passed_clean line l text none) ∙ others more)
+        (ap (λ s. list_any (is_of fault) (told_lines (clean w) (line + 1) s texts)) (passed_clean line l text none) ∙ others (line_stand w.symbols line l text all is) more)
     by_kind none others (Some kind) is =
         let same : Some (least_fault.told line kind) ≡ Some fault =
         sym (ap (λ k. option_or (option_map (λ x. least_fault.told line x) k) (first_of w.symbols (line + 1) after texts)) is) ∙ first in
         let told_is : least_fault.told line kind ≡ fault = cc in
         any_front (is_of fault) (told_line (clean w) line (clean l) text) later
-        (subst (λ (f : Fault). list_any (is_of f) (told_line (clean w) line (clean l) text) ≡ true) told_is (waiting_told line l w text kind none is))
+        (subst (λ (f : Fault). list_any (is_of f) (told_line (clean w) line (clean l) text) ≡ true) told_is (waiting_told line l w text kind all none is))
 
-words_are_told : (texts : List (List ℕ)) (line : ℕ) (l w : Layout) (fault : Fault) → layout_faults line l texts ≡ [] → StandsIn (words_of w.symbols line l texts) fault
+words_are_told : (texts : List (List ℕ)) (line : ℕ) (l w : Layout) (fault : Fault) → AllStand w.promised w.symbols → layout_faults line l texts ≡ [] → StandsIn (words_of w.symbols line l texts) fault
     → list_any (is_of fault) (told_lines (clean w) line (clean l) texts) ≡ true
-words_are_told [] line l w fault e none = absurd none
-words_are_told (text ∷ texts) line l w fault e stands =
+words_are_told [] line l w fault all e none = absurd none
+words_are_told (text ∷ texts) line l w fault all e stands =
     let after : Layout = (line_effect line l text).after in
     let parts = head_faults line (line_faults line l text) (layout_faults (line + 1) after texts) e in
     let later : List Finding = told_lines (clean w) (line + 1) (passed_line line (clean l) text) texts in
-    elim (either_list (on_line line (word_kinds w.symbols l (statement_on l text).operation)) (words_of w.symbols (line + 1) after texts) fault stands) [
-      | inl here ↦ any_front (is_of fault) (told_line (clean w) line (clean l) text) later (word_told line l w text fault parts.0 here)
+    elim (either_list (on_line line (word_kinds w.symbols l false (statement_on l text).operation)) (words_of w.symbols (line + 1) after texts) fault stands) [
+      | inl here ↦ any_front (is_of fault) (told_line (clean w) line (clean l) text) later (word_told line l w text fault all parts.0 here)
       | inr there ↦ any_back (is_of fault) (told_line (clean w) line (clean l) text) later
-          (ap (λ s. list_any (is_of fault) (told_lines (clean w) (line + 1) s texts)) (passed_clean line l text parts.0) ∙ words_are_told texts (line + 1) after w fault parts.1 there)
+          (ap (λ s. list_any (is_of fault) (told_lines (clean w) (line + 1) s texts)) (passed_clean line l text parts.0) ∙ words_are_told texts (line + 1) after w fault all parts.1 there)
     ]
 
 -- ## The first line that is refused
@@ -611,30 +863,78 @@ early_follows symbol a b c others kind late among = by_bytes a among
     by_bytes true (inr more) = by_length b more
     by_bytes false more = by_length b more
 
--- the least fault of the first line that is refused is told
+-- a fault of a line's fields is one of those that are looked at: where its operand has no form, that, and those of its label
+among_mended : (line : ℕ) (l : Layout) (text : List ℕ) (label : Label) (operation : Operation) (kind : FaultKind) → IsAmong kind (statement_effect line l label operation).faults
+    → is_one_of (form_kinds (lacks_form operation) ++ layout_kinds line l label (mended l.language text operation)) kind ≡ true
+among_mended line l text label Nothing kind among = one_of_among kind _ among
+among_mended line l text label Unknown kind among = one_of_among kind _ among
+among_mended line l text label (Setloc operand) kind among = one_of_among kind _ among
+among_mended line l text label (Bank taken number) kind among = one_of_among kind _ among
+among_mended line l text label (Erase count) kind among = one_of_among kind _ among
+among_mended line l text label (Equals operand) kind among = one_of_among kind _ among
+among_mended line l text label (Ebank operand) kind among = one_of_among kind _ among
+among_mended line l text label (Gives (Some content)) kind among = one_of_among kind _ among
+among_mended line l text label (Gives None) kind among = by_words (given_by l.language text)
+  where
+    of_label : (a b : Bool) (rest : List (Option FaultKind)) → IsAmong kind (standing (fault_if a BadLabel ∷ fault_if b TwiceDefined ∷ Some BadOperand ∷ []))
+        → is_one_of (BadOperand ∷ standing (fault_if a BadLabel ∷ fault_if b TwiceDefined ∷ rest)) kind ≡ true
+    of_label true true rest (inl same) = subst (λ k. is_one_of (BadOperand ∷ BadLabel ∷ TwiceDefined ∷ standing rest) k ≡ true) (sym same) refl
+    of_label true true rest (inr (inl same)) = subst (λ k. is_one_of (BadOperand ∷ BadLabel ∷ TwiceDefined ∷ standing rest) k ≡ true) (sym same) refl
+    of_label true true rest (inr (inr (inl same))) = subst (λ k. is_one_of (BadOperand ∷ BadLabel ∷ TwiceDefined ∷ standing rest) k ≡ true) (sym same) refl
+    of_label true true rest (inr (inr (inr none))) = absurd none
+    of_label true false rest (inl same) = subst (λ k. is_one_of (BadOperand ∷ BadLabel ∷ standing rest) k ≡ true) (sym same) refl
+    of_label true false rest (inr (inl same)) = subst (λ k. is_one_of (BadOperand ∷ BadLabel ∷ standing rest) k ≡ true) (sym same) refl
+    of_label true false rest (inr (inr none)) = absurd none
+    of_label false true rest (inl same) = subst (λ k. is_one_of (BadOperand ∷ TwiceDefined ∷ standing rest) k ≡ true) (sym same) refl
+    of_label false true rest (inr (inl same)) = subst (λ k. is_one_of (BadOperand ∷ TwiceDefined ∷ standing rest) k ≡ true) (sym same) refl
+    of_label false true rest (inr (inr none)) = absurd none
+    of_label false false rest (inl same) = subst (λ k. is_one_of (BadOperand ∷ standing rest) k ≡ true) (sym same) refl
+    of_label false false rest (inr none) = absurd none
+
+    by_words : (content : Option Content) → is_one_of (BadOperand ∷ layout_kinds line l label (Gives content)) kind ≡ true
+    by_words None = of_label (is_malformed label) (is_twice l label) (Some BadOperand ∷ []) among
+    by_words (Some content) =
+        of_label (is_malformed label) (is_twice l label)
+        (fault_if (lacks_room (width content) l.location) BankFull ∷ fault_if (is_taken l (width content)) PlaceTaken ∷ fault_if (is_erasable l.location) CodeInErasable ∷ []) among
+
+either_among : (kind : FaultKind) (xs ys : List FaultKind) → IsAmong kind (xs ++ ys) → IsAmong kind xs ⊎ IsAmong kind ys
+either_among kind [] ys more = inr more
+either_among kind (x ∷ xs) ys (inl same) = inl (inl same)
+either_among kind (x ∷ xs) ys (inr more) = elim (either_among kind xs ys more) [ inl here ↦ inl (inr here) | inr there ↦ inr there ]
+
+-- the least fault of the first line that has one is told
 first_told : (w : Survey) (line : ℕ) (l : Layout) (text : List ℕ) (kind : FaultKind) → least_kind (line_faults line l text) ≡ Some kind
     → list_any (is_of (least_fault.told line kind)) (told_line w line (clean l) text) ≡ true
 unfolding line_effect
 first_told w line l text kind e =
-    let operation : Operation = (statement_on l text).operation in
-    let words : List FaultKind = word_kinds w.layout.symbols l operation in
-    let d : Doubt = doubt w.lost [] (record { location = true; extracode = true; wrong = None }) text operation in
+    let label : Label = (statement_on l text).label in
+    let operation : Operation = operation_on l text in
+    let lost : Bool = is_lost w operation in
+    let bytes : List FaultKind = text_faults l.language line text in
+    let form : List FaultKind = form_kinds (lacks_form (statement_on l text).operation) in
+    let fields : List FaultKind = layout_kinds line l label operation in
+    let waits : List FaultKind = standing (vain_kind w (clean l) label operation ∷ []) in
+    let words : List FaultKind = word_kinds w.layout.symbols l (lacks_form (statement_on l text).operation) operation in
+    let test : FaultKind → Bool = λ other. fault_number other == fault_number kind in
     let among : IsAmong kind (line_faults line l text) = least_among (line_faults line l text) kind e in
-    let waits : List FaultKind = standing (waiting_of w l text ∷ []) in
-    let stands : is_one_of (line_faults line l text ++ waits ++ words) kind ≡ true =
-    any_front (λ other. fault_number other == fault_number kind) (line_faults line l text ++ waits) words
-    (any_front (λ other. fault_number other == fault_number kind) (line_faults line l text) waits (one_of_among kind (line_faults line l text) among)) in
-    let told_alone : follows d kind ≡ false → list_any (is_of (least_fault.told line kind)) (told_line w line (clean l) text) ≡ true =
-    told_here l.language d line text (taken_by l (statement_on l text).operation) (line_faults line l text ++ waits ++ words) kind stands in
+    let stands : is_one_of (bytes ++ form ++ fields ++ waits ++ words) kind ≡ true =
+    any_front test (bytes ++ form ++ fields ++ waits) words (any_front test (bytes ++ form ++ fields) waits
+    (elim (either_among kind bytes (statement_effect line l label (statement_on l text).operation).faults among) [
+      | inl here ↦ any_front test (bytes ++ form) fields (any_front test bytes form (one_of_among kind bytes here))
+      | inr there ↦ ap (list_any test) (append_assoc bytes form fields) ∙ any_back test bytes (form ++ fields) (among_mended line l text label (statement_on l text).operation kind there)
+    ])) in
+    let told_alone : follows (doubt_here (not (list_all is_text_byte text)) lost) kind ≡ false → list_any (is_of (least_fault.told line kind)) (told_line w line (clean l) text) ≡ true =
+    λ alone. ap (λ d. list_any (is_of (least_fault.told line kind)) (told_of l.language d line text (taken_by l operation) (bytes ++ form ++ fields ++ waits ++ words))) (clean_doubt w l text operation)
+    ∙ told_here l.language (doubt_here (not (list_all is_text_byte text)) lost) line text (taken_by l operation) (bytes ++ form ++ fields ++ waits ++ words) kind stands alone in
     elim (cases_Bool (list_all is_text_byte text)) [
       | inl plain ↦ told_alone
-          (ap (λ x. follows x kind) (clean_doubt w.lost text operation ∙ (λ i. doubt_here (not (plain i)) (names_one w.lost operation)))
-          ∙ early_follows (names_one w.lost operation) (not (list_all is_text_byte text)) _ _ (line_effect line l text).faults kind
-          (statement_late line l (statement_on l text).label operation) among)
+          (ap (λ b. follows (doubt_here (not b) lost) kind) plain
+          ∙ early_follows lost (not (list_all is_text_byte text)) _ _ (statement_effect line l label (statement_on l text).operation).faults kind
+          (statement_late line l label (statement_on l text).operation) among)
       | inr other ↦
-          let bytes : Some NotAscii ≡ Some kind = sym (line_told line l text NotAscii (first_is_bytes (not (list_all is_text_byte text)) _ _ (ap not other))) ∙ e in
+          let least_is : Some NotAscii ≡ Some kind = sym (line_told line l text NotAscii (first_is_bytes (not (list_all is_text_byte text)) _ _ (ap not other))) ∙ e in
           let is : NotAscii ≡ kind = cc in
-          told_alone (ap (λ x. follows x kind) (clean_doubt w.lost text operation) ∙ ap (follows (doubt_here (not (list_all is_text_byte text)) (names_one w.lost operation))) (sym is))
+          told_alone (ap (follows (doubt_here (not (list_all is_text_byte text)) lost)) (sym is))
     ]
 
 least_of_none : (faults : List Fault) → faults ≡ [] → least faults ≡ None
@@ -722,20 +1022,26 @@ laid_out language source e =
     first = promises_first whole.symbols (lines source) 1 (start language)
 
     words : word_faults whole.symbols after.requests ≡ words_of whole.symbols 1 (start language) (lines source)
-    words = words_told whole.symbols (lines source) 1 (start language)
+    words = words_told whole.symbols (lines source) 1 (start language) e
+
+    none_before : AllStand [] whole.symbols
+    none_before name is = absurd (let bad : false ≡ true = is in cc)
+
+    all_stand : first_of whole.symbols 1 (start language) (lines source) ≡ None → AllStand whole.promised whole.symbols
+    all_stand none = lines_stand whole.symbols (lines source) 1 (start language) none_before none
 
     by_least : first_of whole.symbols 1 (start language) (lines source) ≡ None → (found : Option Fault) → least (word_faults whole.symbols after.requests) ≡ found
         → TellsOf (unless_fault found (Ok (record { rope = Rattle.rope.specs.Places.with_words Rattle.rope.specs.Places.no_words (Rattle.yayul.specs.Program.image_of whole); symbols = whole.symbols; source = record { language = language; text = source } })))
         (told_lines (clean whole) 1 (clean (start language)) (lines source))
     by_least none None is = none_told (lines source) 1 (start language) whole e none (sym words ∙ none_of_least (word_faults whole.symbols after.requests) is)
     by_least none (Some fault) is =
-        words_are_told (lines source) 1 (start language) whole fault e
+        words_are_told (lines source) 1 (start language) whole fault (all_stand none) e
         (subst (λ (faults : List Fault). StandsIn faults fault) words (stands_least (word_faults whole.symbols after.requests) fault is))
 
     by_first : (found : Option Fault) → first_fault whole.symbols after.promises ≡ found
         → TellsOf (unless_fault found (completed whole (record { language = language; text = source }))) (told_lines (clean whole) 1 (clean (start language)) (lines source))
     by_first None is = by_least (sym first ∙ is) (least (word_faults whole.symbols after.requests)) refl
-    by_first (Some fault) is = first_is_told (lines source) 1 (start language) whole fault e (sym first ∙ is)
+    by_first (Some fault) is = first_is_told (lines source) 1 (start language) whole fault none_before e (sym first ∙ is)
 
 pub findings_agree : (language : Language) (source : List ℕ) → FindingsAgree language source
 unfolding program told

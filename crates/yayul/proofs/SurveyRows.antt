@@ -10,7 +10,8 @@ use Rattle.yayul.specs.Forms.{statement_of}
 use Rattle.yayul.specs.Flight.{flight_operators, uncounted_statement}
 use Rattle.yayul.specs.Layout.{line_effect}
 use Rattle.yayul.specs.Words.{request_words, request_faults}
-use Rattle.yayul.specs.Survey.{span_at, span_in, told}
+use Rattle.yayul.specs.Mended.{given_by}
+use Rattle.yayul.specs.Survey.{passed_line, span_at, span_in, told}
 use Rattle.yayul.specs.declared.finding.Finding.{Finding}
 
 -- a source of lines, each but the last followed by a semicolon here
@@ -37,10 +38,18 @@ told_rows =
     ∷ (codes " SETLOC NOWHERE;X ERASE; CA 5", (1, 9, 7, 18) ∷ [])
     ∷ (codes " SETLOC 100;X ERASE; CA X; CA X", (3, 2, 2, 22) ∷ [])
     ∷ (codes " SETLOC 3777; ERASE;X ERASE", (3, 3, 5, 20) ∷ [])
+    ∷ (codes " SETLOC NOSUCH; OCT 1; SETLOC 4000; OCT 1; SETLOC 4000; OCT 2", (1, 9, 6, 18) ∷ (6, 2, 3, 21) ∷ [])
+    ∷ (codes " FROB;X OCT 1; BANK 2; OCT 2; SETLOC 4000; OCT 3; TC X", (1, 2, 4, 15) ∷ [])
+    ∷ (codes " ERASE; ERASE; TCF -1", (1, 2, 5, 25) ∷ [])
+    ∷ (codes "X FROB 1;X OCT 2", (1, 3, 4, 15) ∷ (2, 1, 1, 14) ∷ [])
+    ∷ (codes "X SETLOC 4000;X OCT 1", (1, 1, 1, 13) ∷ [])
+    ∷ (codes " SETLOC 5776; OCT 9; OCT 1; OCT 2", (2, 6, 1, 16) ∷ (4, 2, 3, 20) ∷ [])
+    ∷ (codes " CA 18;X TCF X -1", (1, 5, 2, 16) ∷ [])
+    ∷ (codes " SETLOC 100; CA NONE", (2, 2, 2, 22) ∷ (2, 5, 4, 17) ∷ [])
     ∷ []
 
 each_told : map {B = List (ℕ × ℕ × ℕ × ℕ)} (λ r. map row (told Standard (source r.0))) told_rows ≡ map {B = List (ℕ × ℕ × ℕ × ℕ)} (λ r. r.1) told_rows
-unfolding told span_in span_at runs operators statement_of line_effect request_words request_faults lines window fb_of sup_of
+unfolding told span_in span_at runs operators statement_of passed_line given_by line_effect request_words request_faults lines window fb_of sup_of
 each_told = refl
 
 -- so it is in the language of flight programs: on a line with a count the fields after it are marked
@@ -50,16 +59,21 @@ flight_rows =
     ∷ (codes " -1 FROB X", (1, 5, 4, 15) ∷ [])
     ∷ (codes "  +8D TC 14000 +5", (1, 10, 8, 26) ∷ [])
     ∷ (codes "-LONGNAME CA -X", (1, 1, 9, 13) ∷ (1, 14, 2, 17) ∷ [])
-    ∷ (codes "X EQUALS Y; CA X;Y EQUALS X;Z EQUALS X +1", (1, 10, 1, 18) ∷ (2, 5, 1, 17) ∷ (3, 10, 1, 18) ∷ (4, 10, 1, 18) ∷ [])
+    ∷ (codes "X EQUALS Y; CA X;Y EQUALS X;Z EQUALS X +1", (1, 10, 1, 18) ∷ [])
+    ∷ (codes "X EQUALS NOSUCH; CA X;Y EQUALS X; TS Y", (1, 10, 6, 18) ∷ [])
+    ∷ (codes "Y EQUALS X;X FROB; CA Y", (2, 3, 4, 15) ∷ [])
+    ∷ (codes "A EQUALS B;B EQUALS NOSUCH; CA A", (1, 10, 1, 18) ∷ (2, 10, 6, 18) ∷ [])
+    ∷ (codes " FROB; BANK; OCT 1; BANK 18", (1, 2, 4, 15) ∷ (4, 7, 2, 16) ∷ [])
+    ∷ (codes " 2DEC X; SETLOC 4001; OCT 1", (1, 7, 1, 16) ∷ (3, 2, 3, 21) ∷ [])
     ∷ (codes "X EQUALS Y +77777;Y EQUALS 5; CA NONE", (1, 10, 8, 26) ∷ (3, 5, 4, 17) ∷ [])
     ∷ (replicate 121 0o40 ++ codes "# one byte and its sign too many", (1, 121, 2, 11) ∷ [])
     ∷ []
 
 each_flight : map {B = List (ℕ × ℕ × ℕ × ℕ)} (λ r. map row (told Flight (source r.0))) flight_rows ≡ map {B = List (ℕ × ℕ × ℕ × ℕ)} (λ r. r.1) flight_rows
-unfolding told span_in span_at runs operators flight_operators statement_of uncounted_statement line_effect request_words request_faults lines window fb_of sup_of
+unfolding told span_in span_at runs operators flight_operators statement_of uncounted_statement passed_line given_by line_effect request_words request_faults lines window fb_of sup_of
 each_flight = refl
 
--- of places that are taken, the line and that whose word stands there: the first word's, else the second's; no refused line has a word
+-- of places that are taken, the line and that whose word stands there: the first word's, else the second's; an operand without a form takes nothing from its words
 abbrev taken_row : Finding → ℕ × ℕ × Option ℕ
 taken_row f = (f.line, f.number, f.taken_by)
 
@@ -70,13 +84,13 @@ taken_rows =
     ∷ (codes " 2CADR 4000; SETLOC 4001; OCT 1", (3, 21, Some 1) ∷ [])
     ∷ (codes " OCT 1; OCT 2; SETLOC 4000; 2CADR 4000", (4, 21, Some 1) ∷ [])
     ∷ (codes " OCT 1; SETLOC 4000; OCT 2; SETLOC 4000; OCT 3", (3, 21, Some 1) ∷ (5, 21, Some 1) ∷ [])
-    ∷ (codes " OCT 8; OCT 1; SETLOC 4000; OCT 2", (1, 16, None) ∷ (4, 21, Some 2) ∷ [])
+    ∷ (codes " OCT 8; OCT 1; SETLOC 4000; OCT 2", (1, 16, None) ∷ (4, 21, Some 1) ∷ [])
     ∷ (codes " SETLOC 4024; TC 0; TC 0; TC 0; TC 0; TC 0; SETLOC 4030; TC 0", (8, 21, Some 6) ∷ [])
     ∷ (codes " BANK 5;X OCT 1; SETLOC 4000; OCT 2; SETLOC X; OCT 3", (6, 21, Some 2) ∷ [])
     ∷ []
 
 each_taken : map {B = List (ℕ × ℕ × Option ℕ)} (λ r. map taken_row (told Standard (source r.0))) taken_rows ≡ map {B = List (ℕ × ℕ × Option ℕ)} (λ r. r.1) taken_rows
-unfolding told span_in span_at runs operators statement_of line_effect request_words request_faults lines window fb_of sup_of
+unfolding told span_in span_at runs operators statement_of passed_line given_by line_effect request_words request_faults lines window fb_of sup_of
 each_taken = refl
 
 -- and in the language of flight programs, where 2DEC gives two words
@@ -86,5 +100,5 @@ flight_taken =
     ∷ []
 
 each_flight_taken : map {B = List (ℕ × ℕ × Option ℕ)} (λ r. map taken_row (told Flight (source r.0))) flight_taken ≡ map {B = List (ℕ × ℕ × Option ℕ)} (λ r. r.1) flight_taken
-unfolding told span_in span_at runs operators flight_operators statement_of uncounted_statement line_effect request_words request_faults lines window fb_of sup_of
+unfolding told span_in span_at runs operators flight_operators statement_of uncounted_statement passed_line given_by line_effect request_words request_faults lines window fb_of sup_of
 each_flight_taken = refl

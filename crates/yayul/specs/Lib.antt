@@ -8,6 +8,7 @@ pub mod FlightForms
 pub mod Later
 pub mod Words
 pub mod Program
+pub mod Mended
 pub mod Survey
 pub mod Told
 pub mod Listing

@@ -3,7 +3,7 @@
 ghost use Rattle.std.specs.Prelude.{◌≡◌, ◌∷◌, [], ℕ};
 ghost use Rattle.std.specs.Result.{result_err};
 ghost use Rattle.yayul.specs.Layout.{Layout as LaidOut, standing, statement_effect, bare_faults, label_alone, refused, relocated, bank_target, erase, equals, ebank, width};
-ghost use Rattle.yayul.specs.Survey.{word_kinds, content_kinds};
+ghost use Rattle.yayul.specs.Survey.{word_kinds, content_kinds, place_of_words};
 ghost use Rattle.yayul.specs.declared.language.Operation.TheVariants as operation;
 ghost use Rattle.yayul.specs.Inside.Answers.{layout_of, tested_faults, Agrees};
 
@@ -12,7 +12,8 @@ use crate::language::{Content, Label, Numeral, Operand, Operation};
 use crate::layout::{Layout, Placing};
 use crate::line::fault_of;
 use crate::word::{fault_in, words_at};
-use symbols::Symbols;
+use space::Offset;
+use symbols::{FixedBank, Symbols};
 
 /// As many faults as the fields of a line may have.
 pub(crate) type Conditions = [Option<FaultKind>; 5];
@@ -123,15 +124,19 @@ impl Layout {
         ]
     }
 
-    /// The word faults of a line's fields, by the symbols of the whole source.
+    /// The word faults of a line's fields, by the symbols of the whole source; of words whose operand has no form those of extracode alone.
     pub(crate) fn word_conditions(
         &self,
         symbols: &Symbols,
+        formless: bool,
         operation: &Operation,
     ) -> [Option<FaultKind>; 2]
-        ensures { standing result ≡ word_kinds symbols.now (layout_of self.now) operation.now }
+        ensures { standing result ≡ word_kinds symbols.now (layout_of self.now) formless operation.now }
     {
         match operation {
+            Operation::Gives(Some(content)) if formless => {
+                [None, content.extracode().fault(self.extracode)]
+            }
             Operation::Gives(Some(content)) => self.content_conditions(symbols, content),
             _ => [None, None],
         }
@@ -140,11 +145,24 @@ impl Layout {
     fn content_conditions(&self, symbols: &Symbols, content: &Content) -> [Option<FaultKind>; 2]
         ensures { standing result ≡ content_kinds symbols.now (layout_of self.now) content.now }
     {
-        let Some(place) = self.location.word_place() else {
-            return [None, None];
-        };
-        let words = words_at(symbols, place, self.extracode, self.eb, content);
+        let words = words_at(
+            symbols,
+            self.place_of_words(),
+            self.extracode,
+            self.eb,
+            content,
+        );
         [fault_in(&words), content.extracode().fault(self.extracode)]
+    }
+
+    // Where words stand, else a place of no account.
+    fn place_of_words(&self) -> (FixedBank, Offset)
+        ensures { result ≡ place_of_words self.now.location }
+    {
+        match self.location.word_place() {
+            Some(place) => place,
+            None => (FixedBank::two(), Offset::of_low_bits(0)),
+        }
     }
 }
 

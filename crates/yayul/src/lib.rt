@@ -23,6 +23,7 @@ mod listing;
 mod location;
 mod margin;
 mod mark;
+mod mended;
 mod name;
 mod named;
 mod number;

@@ -158,7 +158,7 @@ pub(crate) fn operation_of(operator: Option<Operator>, line: &Line<'_>) -> Opera
 }
 
 // The location after the line's.
-fn next_location() -> Operand
+pub(crate) fn next_location() -> Operand
     ensures { result ≡ next_location }
 {
     Operand {

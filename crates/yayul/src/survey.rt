@@ -1,40 +1,52 @@
 //! All faults of a source at once.
 
-ghost use Rattle.std.specs.Prelude.{◌≡◌, ◌<◌, ◌≤◌, ◌+◌, ◌++◌, ◌&&◌, ◌||◌, not, ℕ, false, length, map, filter, flat_map, IfErr, IfOk, OnOk};
+ghost use Rattle.std.specs.Prelude.{◌≡◌, ◌<◌, ◌≤◌, ◌+◌, ◌++◌, ◌&&◌, ◌||◌, not, ℕ, false, true, length, map, filter, flat_map, IfErr, IfOk, OnOk};
 ghost use Rattle.arrayvec.specs.ArrayVec.{array_vec_len};
-ghost use Rattle.std.specs.List.{list_any};
+ghost use Rattle.std.specs.List.{list_any, list_all};
 ghost use Rattle.std.specs.Option.{option_map_or};
 ghost use Rattle.yayul.specs.Layout.{standing, fault_number, statement_on};
 ghost use Rattle.yayul.specs.Inside.Answers.{layout_of};
 ghost use Rattle.yayul.specs.Program.{no_memory};
-ghost use Rattle.yayul.specs.Survey.{Survey as Surveyed, unmarked, noted, displaces, some_stands, passed_line, passed_lines, settled_survey, follows, named_line, finding, taken_by, told_of, told_line, told_lines, looked_at, told};
-ghost use Rattle.yayul.specs.Inside.Surveys.{Surveys, has_number, number_in, kinds_of};
+ghost use Rattle.yayul.specs.Mended.{lacks_form};
+ghost use Rattle.yayul.specs.Survey.{Survey as Surveyed, unmarked, noted, operation_on, is_of_label, is_done, is_kept, names_one, waits_in_vain, label_lost, label_passed, kept_label, laid, passed_over, done_line, with_known, some_stands, passed_line, passed_lines, settled_survey, follows, named_line, finding, taken_by, told_of, told_line, told_lines, looked_at, told};
+ghost use Rattle.yayul.specs.Inside.Surveys.{Surveys, has_number, number_in, kinds_of, stands_beyond, doubt_of, vain_of};
 
 use crate::assembly::NO_MEMORY;
 use crate::conditions::Conditions;
-use crate::doubt::{Doubt, Known};
+use crate::doubt::{Doubt, Known, is_same_byte};
 use crate::faults::{Fault, FaultKind, least_fault};
-use crate::finding::{Finding, span_in};
+use crate::finding::{Finding, span_in, wrong_byte};
 use crate::flight::most_lines;
-use crate::language::{Label, Language, Operation, Statement};
+use crate::language::{Label, Language, Location, Operation, Statement};
 use crate::later::settle;
 use crate::layout::{Layout, Placing};
 use crate::line::text_conditions;
+use crate::mended::lacks_operand;
 use crate::word_lines::WordLines;
-use agc_text::next_line;
+use agc_text::{LINE_LENGTH, is_text, next_line};
 use arrayvec::ArrayVec;
 use std::alloc::{AllocError, Global};
-use symbols::{Symbols, Value};
+use symbols::{FixedBank, Symbols, Value};
 use words::Word;
 
-/// What stands before a line. A refused line does nothing, but that its label is lost.
+/// What a line says.
+#[derive(Drop)]
+struct Said {
+    label: Label,
+    /// Where the operand of an operator that gives words has no form, with one of no account.
+    operation: Operation,
+    /// Whether it is such an operand.
+    formless: bool,
+}
+
+/// What stands before a line. Of a line with a fault what is sure is done.
 #[derive(Drop)]
 pub(crate) struct Survey {
     layout: Layout,
     placing: Placing,
     /// The lines whose words stand.
     lines: WordLines,
-    /// The labels of refused lines.
+    /// The labels of lines with faults, where these have no value.
     lost: Symbols,
     known: Known,
 }
@@ -57,26 +69,116 @@ impl Survey {
             lost: Symbols::new(alloc),
             known: Known {
                 location: true,
+                banks: true,
                 extracode: true,
                 wrong: None,
             },
         })
     }
 
+    // What a line says.
+    fn said_on(&self, text: &[u8]) -> Said
+        ensures label { result.label ≡ (statement_on (layout_of self.now.layout) text.now).label }
+        ensures operation { result.operation ≡ operation_on (layout_of self.now.layout) text.now }
+        ensures formless { result.formless ≡ lacks_form (statement_on (layout_of self.now.layout) text.now).operation }
+    {
+        let Statement { label, operation } = self.layout.statement_on(text);
+        Said {
+            label,
+            formless: operation.lacks_form(),
+            operation: operation.mended(self.layout.language, text),
+        }
+    }
+
     // Passes a line that says this.
-    fn pass(&mut self, line: u32, text: &[u8], statement: Statement) -> Result<(), Fault>
-        requires { statement ≡ statement_on (layout_of self.old.layout) text.now }
+    fn pass(&mut self, line: u32, text: &[u8], said: Said) -> Result<(), Fault>
+        requires label { said.label ≡ (statement_on (layout_of self.old.layout) text.now).label }
+        requires operation { said.operation ≡ operation_on (layout_of self.old.layout) text.now }
         ensures leads { (s : Surveyed) → Surveys line s self.old → OnOk result (Surveys (line + 1) (passed_line line s text.now) self.new) }
         ensures err { IfErr result (λ fault. fault ≡ no_memory) }
     {
-        let Statement { label, operation } = statement;
-        let of_text = text_conditions(self.layout.language, line, text);
-        let of_layout = self.layout.conditions(&self.placing, &label, &operation);
-        let refused = is_refused(&of_text, &of_layout);
-        let displaced = is_displaced(&of_layout);
-        self.known = self.known.after(text, &operation, refused, displaced);
-        if refused {
-            return self.lose(label);
+        let Said {
+            label,
+            operation,
+            ..
+        } = said;
+        let kinds = self.layout.conditions(&self.placing, &label, &operation);
+        let alone = lacks_operand(self.layout.language, text);
+        let done = is_done(&kinds, self.known, alone, &operation);
+        let kept = is_kept(&kinds, done);
+        let known = self.known.after(text, &operation, done);
+        self.pass_said(line, text, label, operation, done, kept)?;
+        self.know(known);
+        Ok(())
+    }
+
+    // Passes a line that is done, or is not, and whose label is kept or not.
+    fn pass_said(
+        &mut self,
+        line: u32,
+        text: &[u8],
+        label: Label,
+        operation: Operation,
+        done: bool,
+        kept: bool,
+    ) -> Result<(), Fault>
+        requires { label ≡ (statement_on (layout_of self.old.layout) text.now).label }
+        ensures leads { (s : Surveyed) → Surveys line s self.old → OnOk result (Surveys (line + 1) (done_line line s label operation done kept) self.new) }
+        ensures known { self.new.known ≡ self.old.known }
+        ensures err { IfErr result (λ fault. fault ≡ no_memory) }
+    {
+        let label = self.pass_label(text, label, &operation, kept)?;
+        if done {
+            self.lay(line, label, operation)
+        } else {
+            self.pass_over(&operation);
+            Ok(())
+        }
+    }
+
+    // The label of a line, where it is kept; another has no value.
+    fn pass_label(
+        &mut self,
+        text: &[u8],
+        label: Label,
+        operation: &Operation,
+        kept: bool,
+    ) -> Result<Label, Fault>
+        requires { label ≡ (statement_on (layout_of self.old.layout) text.now).label }
+        ensures leads { (line : ℕ) (s : Surveyed) → Surveys line s self.old → OnOk result (Surveys line (label_passed kept s label operation.now) self.new) }
+        ensures label { IfOk result (λ passed. passed ≡ kept_label kept label) }
+        ensures known { self.new.known ≡ self.old.known }
+        ensures err { IfErr result (λ fault. fault ≡ no_memory) }
+    {
+        if kept {
+            return Ok(label);
+        }
+        self.lose(text, label, operation)?;
+        Ok(Label::Missing)
+    }
+
+    // The label of a line has no value; where its operator takes one, it may not stand again.
+    fn lose(&mut self, text: &[u8], label: Label, operation: &Operation) -> Result<(), Fault>
+        requires { label ≡ (statement_on (layout_of self.old.layout) text.now).label }
+        ensures leads { (line : ℕ) (s : Surveyed) → Surveys line s self.old → OnOk result (Surveys line (label_lost s label operation.now) self.new) }
+        ensures known { self.new.known ≡ self.old.known }
+        ensures err { IfErr result (λ fault. fault ≡ no_memory) }
+    {
+        if !operation.is_bare() {
+            let copy = self.layout.statement_on(text).label;
+            note(&mut self.layout.promised, copy)?;
+        }
+        note(&mut self.lost, label)
+    }
+
+    // Does what a line says, where it has no fault.
+    fn lay(&mut self, line: u32, label: Label, operation: Operation) -> Result<(), Fault>
+        ensures leads { (s : Surveyed) → Surveys line s self.old → OnOk result (Surveys (line + 1) (laid line s label operation) self.new) }
+        ensures known { self.new.known ≡ self.old.known }
+        ensures err { IfErr result (λ fault. fault ≡ no_memory) }
+    {
+        if is_any(&self.layout.conditions(&self.placing, &label, &operation)) {
+            return Ok(());
         }
         self.lines.hold(line, &self.layout, operation.width());
         match self
@@ -86,6 +188,24 @@ impl Survey {
             Ok(()) => Ok(()),
             Err(_) => Err(NO_MEMORY),
         }
+    }
+
+    // Passes over what a line says, but that extracode is in force after its words or is not.
+    fn pass_over(&mut self, operation: &Operation)
+        ensures leads { (line : ℕ) (s : Surveyed) → Surveys line s self.old → Surveys (line + 1) (passed_over s operation.now) self.new }
+        ensures known { self.new.known ≡ self.old.known }
+    {
+        self.layout.extracode = operation.extracode_after(self.layout.extracode);
+    }
+
+    // So much is known, and where the location is not, it is a place of no account.
+    fn know(&mut self, known: Known)
+        ensures { (line : ℕ) (s : Surveyed) → Surveys line s self.old → Surveys line (with_known s known) self.new }
+    {
+        if !known.location {
+            self.layout.location = Location::Fixed(FixedBank::two(), 0);
+        }
+        self.known = known;
     }
 
     // Gives the names that wait their values.
@@ -98,31 +218,20 @@ impl Survey {
             Err(_) => Err(NO_MEMORY),
         }
     }
-
-    // A label that has no value.
-    fn lose(&mut self, label: Label) -> Result<(), Fault>
-        ensures lost { OnOk result (self.new.lost ≡ noted self.old.lost label) }
-        ensures layout { self.new.layout ≡ self.old.layout }
-        ensures placing { self.new.placing ≡ self.old.placing }
-        ensures lines { self.new.lines ≡ self.old.lines }
-        ensures known { self.new.known ≡ self.old.known }
-        ensures err { IfErr result (λ fault. fault ≡ no_memory) }
-    {
-        match label {
-            Label::Named(name) => match self.lost.define(name, Value::Num(Word::ZERO)) {
-                Ok(_) => Ok(()),
-                Err(_) => Err(NO_MEMORY),
-            },
-            Label::Missing | Label::Malformed => Ok(()),
-        }
-    }
 }
 
-// Whether some fault stands of a line's bytes, its length and its number, or of its fields.
-fn is_refused(of_text: &[Option<FaultKind>], of_layout: &[Option<FaultKind>]) -> bool
-    ensures { result ≡ (some_stands (standing of_text.now) || some_stands (standing of_layout.now)) }
+// A label that has no value.
+fn note(symbols: &mut Symbols, label: Label) -> Result<(), Fault>
+    ensures noted { OnOk result (symbols.new ≡ noted symbols.old label) }
+    ensures err { IfErr result (λ fault. fault ≡ no_memory) }
 {
-    is_any(of_text) || is_any(of_layout)
+    match label {
+        Label::Named(name) => match symbols.define(name, Value::Num(Word::ZERO)) {
+            Ok(_) => Ok(()),
+            Err(_) => Err(NO_MEMORY),
+        },
+        Label::Missing | Label::Malformed => Ok(()),
+    }
 }
 
 // Whether some fault stands.
@@ -132,19 +241,49 @@ fn is_any(conditions: &[Option<FaultKind>]) -> bool
     least_fault(conditions).is_some()
 }
 
-// Whether a fault of where words stand does.
-fn is_displaced(conditions: &[Option<FaultKind>]) -> bool
-    ensures { result ≡ list_any (λ c. option_map_or displaces c false) conditions.now }
+// Whether a line with these faults does what it says.
+#[tactic(auto, using(crate::proofs::FaultOrder::of_label_all))]
+fn is_done(
+    conditions: &[Option<FaultKind>],
+    known: Known,
+    alone: bool,
+    operation: &Operation,
+) -> bool
+    ensures { result ≡ is_done known alone operation.now (standing conditions.now) }
 {
-    conditions.iter().any(|condition| displaces(*condition))
+    are_of_label(conditions) && known.is_enough(alone, operation)
 }
 
-fn displaces(condition: Option<FaultKind>) -> bool
-    ensures { result ≡ option_map_or displaces condition false }
+// Whether the label of a line with these faults is kept.
+#[tactic(auto, using(crate::proofs::FaultOrder::of_label_any))]
+fn is_kept(conditions: &[Option<FaultKind>], done: bool) -> bool
+    ensures { result ≡ is_kept done (standing conditions.now) }
+{
+    done && !has_of_label(conditions)
+}
+
+// Whether all faults that stand are those of a label.
+fn are_of_label(conditions: &[Option<FaultKind>]) -> bool
+    ensures { result ≡ list_all (λ c. option_map_or is_of_label c true) conditions.now }
+{
+    conditions
+        .iter()
+        .all(|condition| condition.is_none() || is_of_label(*condition))
+}
+
+// Whether a fault of a label stands.
+fn has_of_label(conditions: &[Option<FaultKind>]) -> bool
+    ensures { result ≡ list_any (λ c. option_map_or is_of_label c false) conditions.now }
+{
+    conditions.iter().any(|condition| is_of_label(*condition))
+}
+
+fn is_of_label(condition: Option<FaultKind>) -> bool
+    ensures { result ≡ option_map_or is_of_label condition false }
 {
     matches!(
         condition,
-        Some(FaultKind::BankFull | FaultKind::PlaceTaken | FaultKind::CodeInErasable)
+        Some(FaultKind::BadLabel | FaultKind::TwiceDefined)
     )
 }
 
@@ -171,8 +310,8 @@ fn passed_lines(alloc: Global, language: Language, source: &[u8]) -> Result<Surv
         if line > most_lines(language) + 1 {
             return Ok(survey);
         }
-        let statement = survey.layout.statement_on(text);
-        survey.pass(line, text, statement)?;
+        let said = survey.said_on(text);
+        survey.pass(line, text, said)?;
         rest = after;
         line += 1;
     }
@@ -198,9 +337,9 @@ fn told_lines(
         if line > most_lines(language) + 1 {
             return Ok(told);
         }
-        let statement = survey.layout.statement_on(text);
-        match survey.tell(whole, line, text, &statement, &mut told) {
-            Ok(()) => survey.pass(line, text, statement)?,
+        let said = survey.said_on(text);
+        match survey.tell(whole, line, text, &said, &mut told) {
+            Ok(()) => survey.pass(line, text, said)?,
             Err(_) => return Err(NO_MEMORY),
         }
         rest = after;
@@ -232,12 +371,13 @@ const KINDS_IN_ORDER: [FaultKind; 18] = [
 ];
 
 /// How many kinds of faults may stand on a line at once.
-const MOST_KINDS: usize = 11;
+const MOST_KINDS: usize = 12;
 
 // The faults of a line, each where its condition holds.
 #[derive(Drop)]
 struct LineFaults {
     of_text: [Option<FaultKind>; 3],
+    of_form: Option<FaultKind>,
     of_layout: Conditions,
     of_promise: Option<FaultKind>,
     of_words: [Option<FaultKind>; 2],
@@ -264,35 +404,83 @@ impl Survey {
         }
     }
 
+    // Whether the operand of a line names a symbol that has no value for another fault, where this stands after the last line.
+    fn loses(&self, operation: &Operation) -> bool
+        ensures { result ≡ (names_one self.now.lost operation.now || waits_in_vain self.now.layout.promised self.now.layout.symbols operation.now) }
+    {
+        operation.names_one(&self.lost)
+            || operation.waits_in_vain(&self.layout.promised, &self.layout.symbols)
+    }
+
+    // What follows on a line from other faults, where `whole` stands after the last line.
+    fn doubt(&self, whole: &Survey, text: &[u8], operation: &Operation) -> Doubt
+        ensures { result ≡ doubt_of whole.now self.now text.now operation.now }
+    {
+        let elsewhere = !self.known.location;
+        Doubt {
+            bytes: !is_text(text),
+            repeated: is_same_byte(wrong_byte(text), self.known.wrong),
+            location: elsewhere,
+            erased: operation.erases() && elsewhere,
+            counted: operation.counts_from_here() && elsewhere,
+            symbol: whole.loses(operation),
+            early: operation.names_one(&self.lost),
+            extracode: !self.known.extracode,
+        }
+    }
+
+    // What is wrong with a name that a line lets wait, unless that follows from another fault.
+    fn vain_condition(
+        &self,
+        whole: &Survey,
+        label: &Label,
+        operation: &Operation,
+    ) -> Option<FaultKind>
+        ensures { result ≡ vain_of whole.now self.now label.now operation.now }
+    {
+        let symbols = &whole.layout.symbols;
+        if operation.names_one(&whole.lost)
+            || operation.waits_in_vain(&self.layout.promised, symbols)
+        {
+            return None;
+        }
+        self.layout.waiting_condition(symbols, label, operation)
+    }
+
     // Appends what is told of a line that says this, where `whole` stands after the last line.
     fn tell(
         &self,
         whole: &Survey,
         line: u32,
         text: &[u8],
-        statement: &Statement,
+        said: &Said,
         told: &mut Vec<Finding>,
     ) -> Result<(), AllocError>
-        requires { statement.now ≡ statement_on (layout_of self.now.layout) text.now }
+        requires label { said.now.label ≡ (statement_on (layout_of self.now.layout) text.now).label }
+        requires operation { said.now.operation ≡ operation_on (layout_of self.now.layout) text.now }
+        requires formless { said.now.formless ≡ lacks_form (statement_on (layout_of self.now.layout) text.now).operation }
         ensures { (s w : Surveyed) (last : ℕ) → Surveys line s self.now → Surveys last w whole.now → OnOk result (told.new.items ≡ told.old.items ++ told_line w line s text.now) }
     {
-        let Statement { label, operation } = statement;
+        let Said {
+            label,
+            operation,
+            formless,
+        } = said;
         let telling = Telling {
             language: self.layout.language,
             line,
             text,
-            doubt: Doubt::of(&whole.lost, &self.lost, self.known, text, operation),
+            doubt: self.doubt(whole, text, operation),
             taken_by: self.taken_by(operation),
         };
         let faults = LineFaults {
             of_text: text_conditions(self.layout.language, line, text),
+            of_form: FaultKind::BadOperand.when(*formless),
             of_layout: self.layout.conditions(&self.placing, label, operation),
-            of_promise: self
-                .layout
-                .waiting_condition(&whole.layout.symbols, label, operation),
+            of_promise: self.vain_condition(whole, label, operation),
             of_words: self
                 .layout
-                .word_conditions(&whole.layout.symbols, operation),
+                .word_conditions(&whole.layout.symbols, *formless, operation),
         };
         telling.tell(&faults, told)
     }
@@ -304,24 +492,38 @@ impl Telling<'_> {
         ensures { OnOk result (told.new.items ≡ told.old.items ++ told_of self.entry.language self.entry.doubt self.entry.line self.entry.text.now self.entry.taken_by (kinds_of faults.now)) }
     {
         let numbers = faults.numbers();
-        self.tell_each(numbers.as_slice(), &KINDS_IN_ORDER, told)
+        let numbers = numbers.as_slice();
+        self.tell_each(numbers, &KINDS_IN_ORDER, false, told)?;
+        self.tell_each(numbers, &KINDS_IN_ORDER, true, told)
     }
 
-    // Appends those of some kinds of faults that have one of some numbers and do not follow from others.
+    // Appends those of some kinds of faults that have one of some numbers, do not follow from others, and stand past the longest line or do not.
     fn tell_each(
         self,
         numbers: &[u8],
         kinds: &[FaultKind],
+        beyond: bool,
         told: &mut Vec<Finding>,
     ) -> Result<(), AllocError>
-        ensures { OnOk result (told.new.items ≡ told.old.items ++ map (finding self.entry.language self.entry.line self.entry.text.now self.entry.taken_by) (filter (λ kind. has_number numbers.now kind && not (follows self.entry.doubt kind)) kinds.now)) }
+        ensures { OnOk result (told.new.items ≡ told.old.items ++ map (finding self.entry.language self.entry.line self.entry.text.now self.entry.taken_by) (filter (λ kind. (has_number numbers.now kind && not (follows self.entry.doubt kind)) && stands_beyond self.entry.language self.entry.text.now beyond kind) kinds.now)) }
     {
         for kind in kinds {
-            if has_number(numbers, *kind) && !self.doubt.follows(*kind) {
+            if has_number(numbers, *kind)
+                && !self.doubt.follows(*kind)
+                && self.stands_beyond(beyond, *kind)
+            {
                 told.push(self.finding(*kind))?;
             }
         }
         Ok(())
+    }
+
+    // Whether a fault stands past the longest line, or does not.
+    fn stands_beyond(self, beyond: bool, kind: FaultKind) -> bool
+        ensures { result ≡ stands_beyond self.entry.language self.entry.text.now beyond kind }
+    {
+        let is_beyond = span_in(self.language, self.text, kind).start > LINE_LENGTH;
+        if beyond { is_beyond } else { !is_beyond }
     }
 
     fn finding(self, kind: FaultKind) -> Finding
@@ -353,6 +555,7 @@ impl LineFaults {
     {
         let mut numbers = ArrayVec::new();
         push_numbers(&mut numbers, &self.of_text);
+        push_numbers(&mut numbers, &[self.of_form]);
         push_numbers(&mut numbers, &self.of_layout);
         push_numbers(&mut numbers, &[self.of_promise]);
         push_numbers(&mut numbers, &self.of_words);

@@ -8,7 +8,8 @@ pub returns : goal.returns
 returns c =
     let f = c.args.self.now in
     let first = c.push_numbers.ensures.items ∙ ap (λ (items : List ℕ). items ++ flat_map number_in f.of_text) c.new-numbers.ensures in
-    let second = c.push_numbers-2.ensures.items ∙ ap (λ (items : List ℕ). items ++ flat_map number_in f.of_layout) first in
-    let third = c.push_numbers-3.ensures.items ∙ ap (λ (items : List ℕ). items ++ flat_map number_in (f.of_promise ∷ [])) second in
-    c.push_numbers-4.ensures.items ∙ ap (λ (items : List ℕ). items ++ flat_map number_in f.of_words) third
-    ∙ numbers_standing f.of_text f.of_layout (f.of_promise ∷ []) f.of_words
+    let second = c.push_numbers-2.ensures.items ∙ ap (λ (items : List ℕ). items ++ flat_map number_in (f.of_form ∷ [])) first in
+    let third = c.push_numbers-3.ensures.items ∙ ap (λ (items : List ℕ). items ++ flat_map number_in f.of_layout) second in
+    let fourth = c.push_numbers-4.ensures.items ∙ ap (λ (items : List ℕ). items ++ flat_map number_in (f.of_promise ∷ [])) third in
+    c.push_numbers-5.ensures.items ∙ ap (λ (items : List ℕ). items ++ flat_map number_in f.of_words) fourth
+    ∙ numbers_standing f.of_text (f.of_form ∷ []) f.of_layout (f.of_promise ∷ []) f.of_words

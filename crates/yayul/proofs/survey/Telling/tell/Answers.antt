@@ -1,13 +1,17 @@
-use Rattle.std.proofs.Common.{◌∙◌}
-use Rattle.yayul.specs.Survey.{kinds_in_order}
+use Rattle.std.proofs.Common.{◌∙◌, ◌++◌, ap, append_assoc, true, false}
 use Rattle.yayul.specs.Inside.Surveys.{kinds_of}
-use Rattle.yayul.proofs.FaultOrder.{told_by_numbers}
-use Rattle.yayul.proofs.SurveyByLine.{told_on}
+use Rattle.yayul.proofs.FaultOrder.{told_part, told_parts}
+use Rattle.yayul.proofs.SurveyByLine.{on_ok}
 use Rattle.yayul.proofs.survey.Telling.tell.Goals as goal
 
 pub returns : goal.returns
 returns c =
-    told_on c.tell_each.result c.args.told.now.items c.tell_each.new.told.items _ _
-    (told_by_numbers c.args.self.language c.args.self.line c.args.self.text.now c.args.self.taken_by c.args.self.doubt kinds_in_order (kinds_of c.args.faults.now) c.as_slice.result.now
-    (c.as_slice.ensures.value ∙ c.numbers-numbers.ensures))
-    c.tell_each.ensures
+    let self = c.args.self in
+    let numbers = c.as_slice-numbers.result.now in
+    let within = told_part self.language self.line self.text.now self.taken_by self.doubt numbers false in
+    let past = told_part self.language self.line self.text.now self.taken_by self.doubt numbers true in
+    on_ok c.tell_each-2.result
+    (λ second. second ∙ ap (λ items. items ++ past) c.in_ok-tell_each.ensures ∙ append_assoc c.args.told.now.items within past
+    ∙ ap (λ items. c.args.told.now.items ++ items)
+    (told_parts self.language self.line self.text.now self.taken_by self.doubt (kinds_of c.args.faults.now) numbers (c.as_slice-numbers.ensures.value ∙ c.numbers-numbers.ensures)))
+    c.tell_each-2.ensures

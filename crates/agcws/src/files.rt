@@ -1,0 +1,145 @@
+//! The files and streams that a subcommand reads and writes, and what is told of those that fail.
+
+use crate::gathered::Gathered;
+use plans::{Image, Kind, Program};
+use std::alloc::AllocError;
+use std::cell::Cell;
+use std::{fs, io};
+use words::{ReadAhead, Std, Write, write_all};
+use workshop::{InForm, Origin, Symbols, WorkshopFault, read_names, unread_text};
+
+/// A file that is read.
+pub type ReadFile = ReadAhead<Std<fs::File>>;
+
+/// Standard output, with what is to be written gathered.
+type StandardOutput<'a> = Std<Gathered<'a>>;
+
+/// A program whose files are open: where its words come from, its file and that of its feed.
+#[derive(Drop)]
+pub struct OpenProgram {
+    pub origin: Origin,
+    pub file: InForm<ReadFile>,
+    pub feed: Std<fs::File>,
+}
+
+/// Opens the files of a program, and reads its table of names once all are open.
+pub fn opened_program(
+    rt: &HostRuntime,
+    program: &Program<'_>,
+) -> Result<OpenProgram, WorkshopFault> {
+    let mut table = opened_table(rt, program.symbols)?;
+    let file = InForm::new(opened(rt, program.path)?, program.form);
+    let feed = Std::new(fs::open(rt, program.feed).map_err(not_opened)?);
+    let names = names_of(rt, &mut table)?;
+    Ok(OpenProgram {
+        origin: origin(program.kind, names),
+        file,
+        feed,
+    })
+}
+
+/// Where the words of a program come from: a source, or an image, with names for its places where there are some.
+fn origin(kind: Kind, names: Option<Symbols>) -> Origin {
+    match (kind, names) {
+        (Kind::Source(language), _) => Origin::Source(language),
+        (Kind::Image(version), Some(names)) => Origin::NamedImage(version, names),
+        (Kind::Image(version), None) => Origin::Image(version),
+    }
+}
+
+/// A table of names, where there is one: it is opened, and read later.
+fn opened_table(rt: &HostRuntime, path: Option<&str>) -> Result<Option<ReadFile>, WorkshopFault> {
+    match path {
+        Some(path) => Ok(Some(opened(rt, path)?)),
+        None => Ok(None),
+    }
+}
+
+/// The names of a table, where there is one.
+fn names_of(
+    rt: &HostRuntime,
+    table: &mut Option<ReadFile>,
+) -> Result<Option<Symbols>, WorkshopFault> {
+    match table {
+        Some(table) => Ok(Some(read_names(rt.alloc(), table)?)),
+        None => Ok(None),
+    }
+}
+
+/// The file of an image, in the form in which its bytes are taken.
+pub fn opened_image(
+    rt: &HostRuntime,
+    image: &Image<'_>,
+) -> Result<InForm<ReadFile>, WorkshopFault> {
+    Ok(InForm::new(opened(rt, image.path)?, image.form))
+}
+
+/// A file that is read, from its beginning on.
+pub fn opened(rt: &HostRuntime, path: &str) -> Result<ReadFile, WorkshopFault> {
+    let file = fs::open(rt, path).map_err(not_opened)?;
+    Ok(ReadAhead::new(Std::new(file)))
+}
+
+/// Calls an engine with standard output, which is flushed then. That it can't be is told whatever the engine has answered.
+pub fn with_stdout<'a, T: Drop, F: FnOnce(&mut StandardOutput<'a>) -> Result<T, WorkshopFault>>(
+    rt: &'a HostRuntime,
+    engine: F,
+) -> Result<T, WorkshopFault>
+    requires { F.IsAlwaysCallable engine }
+{
+    let mut out = Std::new(Gathered::new(rt).map_err(not_buffered)?);
+    let outcome = engine(&mut out);
+    match out.flush() {
+        Ok(()) => outcome,
+        Err(_) => Err(WorkshopFault::WriteFailed),
+    }
+}
+
+/// How a command ends that makes a file, where there may have been no memory to make it.
+pub fn ended<T: Drop>(
+    outcome: Result<T, WorkshopFault>,
+    refused: &Cell<bool>,
+) -> Result<T, WorkshopFault> {
+    match outcome {
+        Err(_) if refused.get() => Err(WorkshopFault::NoMemory),
+        outcome => outcome,
+    }
+}
+
+/// Tells a fault: one of a file that can't be read, and one of an image, as faults of a source are told.
+pub fn refused_file(
+    rt: &HostRuntime,
+    name: &str,
+    fault: WorkshopFault,
+) -> Result<u8, WorkshopFault> {
+    match fault {
+        WorkshopFault::ReadFailed | WorkshopFault::TooLong | WorkshopFault::Rope(_) => {
+            let text = unread_text(rt.alloc(), name.as_bytes(), &fault)?;
+            write_all(&mut Std::new(rt.stderr()), text.as_slice())?;
+            Ok(fault.status())
+        }
+        fault => Err(fault),
+    }
+}
+
+pub fn no_memory(_: AllocError) -> WorkshopFault {
+    WorkshopFault::NoMemory
+}
+
+/// The fault of a file that could not be opened, or for which no buffer could be made.
+pub fn not_opened(error: io::Error) -> WorkshopFault {
+    if error.kind() == io::ErrorKind::OutOfMemory {
+        WorkshopFault::NoMemory
+    } else {
+        WorkshopFault::ReadFailed
+    }
+}
+
+/// The fault of standard output, where no buffer could be made for it.
+fn not_buffered(error: io::Error) -> WorkshopFault {
+    if error.kind() == io::ErrorKind::OutOfMemory {
+        WorkshopFault::NoMemory
+    } else {
+        WorkshopFault::WriteFailed
+    }
+}

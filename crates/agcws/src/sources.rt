@@ -1,0 +1,120 @@
+//! The subcommands that assemble or check a source.
+
+use crate::files::{ended, not_opened, opened, refused_file, with_stdout};
+use crate::target::wrong_target;
+use crate::{DONE, REFUSED, refuse_arguments};
+use image_file::ImageFile;
+use plans::{Assembly, Check};
+use std::cell::Cell;
+use std::fs;
+use words::{Read, Std, Write};
+use workshop::{
+    Tally, WorkshopFault, asm_engine, asm_with_check_words, check_feed, check_source,
+    report_no_room, write_tally,
+};
+
+/// `agcws asm [--flight] [--rope VERSION] SRC ROPE`. The file ROPE is made at the first write, so that a refused source leaves
+/// none. A path of the source, or of one, is refused for ROPE before anything is opened.
+pub fn assemble(rt: &HostRuntime, assembly: &Assembly<'_>) -> Result<u8, WorkshopFault> {
+    let source = assembly.source;
+    if let Some(wrong) = wrong_target(rt, source.path, assembly.rope) {
+        return refuse_arguments(rt, wrong.of_an_assembly());
+    }
+    let mut text = Std::new(fs::open(rt, source.path).map_err(not_opened)?);
+    let refused = Cell::new(false);
+    let mut image = Std::new(ImageFile::new(rt, assembly.rope, &refused));
+    with_stdout(rt, |listing| {
+        let outcome = asm_engine(
+            rt.alloc(),
+            source.language,
+            &mut text,
+            &mut image,
+            listing,
+            assembly.version,
+        );
+        ended(outcome, &refused)
+    })?;
+    Ok(DONE)
+}
+
+/// `agcws asm --sums [--flight] [--rope VERSION] SRC ROPE`: files as without `--sums`. A bank without room is told in words.
+pub fn assemble_with_sums(rt: &HostRuntime, assembly: &Assembly<'_>) -> Result<u8, WorkshopFault> {
+    let source = assembly.source;
+    if let Some(wrong) = wrong_target(rt, source.path, assembly.rope) {
+        return refuse_arguments(rt, wrong.of_an_assembly());
+    }
+    let mut text = Std::new(fs::open(rt, source.path).map_err(not_opened)?);
+    let refused = Cell::new(false);
+    let mut image = Std::new(ImageFile::new(rt, assembly.rope, &refused));
+    let full = with_stdout(rt, |listing| {
+        let outcome = asm_with_check_words(
+            rt.alloc(),
+            source.language,
+            &mut text,
+            &mut image,
+            listing,
+            assembly.version,
+        );
+        ended(outcome, &refused)
+    })?;
+    match full {
+        Some(bank) => report_no_room(bank, &mut Std::new(rt.stderr())),
+        None => Ok(DONE),
+    }
+}
+
+/// `agcws check [--flight] [--unused] SRC [FEED ..]`. All files are opened before anything is read. A file that can't be read is told by its name.
+pub fn check(rt: &HostRuntime, asked: &Check<'_>) -> Result<u8, WorkshopFault> {
+    let mut last = asked.source.path;
+    match check_files(rt, asked, &mut last) {
+        Ok(tally) => Ok(if tally.errors == 0 { DONE } else { REFUSED }),
+        Err(fault) => refused_file(rt, last, fault),
+    }
+}
+
+/// Tells what is wrong with a source and some feeds. The file that was opened or read last is named beside a fault.
+fn check_files<'a>(
+    rt: &HostRuntime,
+    asked: &Check<'a>,
+    last: &mut &'a str,
+) -> Result<Tally, WorkshopFault> {
+    let (source, names) = (asked.source, asked.feeds.as_slice());
+    let mut text = opened(rt, source.path)?;
+    let mut feeds = Vec::new(rt.alloc());
+    for name in names {
+        *last = *name;
+        if feeds.push(opened(rt, name)?).is_err() {
+            return Err(WorkshopFault::NoMemory);
+        }
+    }
+    *last = source.path;
+    with_stdout(rt, |out| {
+        let told = check_source(
+            rt.alloc(),
+            source.language,
+            source.path.as_bytes(),
+            asked.tells_unused,
+            &mut text,
+            out,
+        )?;
+        check_feeds(rt, names, &mut feeds, last, told, out)
+    })
+}
+
+/// Tells what is wrong with some feeds, after what was told of a source, and then how much was told.
+fn check_feeds<'a, F: Read, W: Write>(
+    rt: &HostRuntime,
+    names: &[&'a str],
+    feeds: &mut [F],
+    last: &mut &'a str,
+    told: Tally,
+    out: &mut W,
+) -> Result<Tally, WorkshopFault> {
+    let mut told = told;
+    for (name, feed) in names.iter().zip(feeds) {
+        *last = *name;
+        told = told.with_errors(check_feed(rt.alloc(), name.as_bytes(), feed, out)?);
+    }
+    write_tally(rt.alloc(), &told, out)?;
+    Ok(told)
+}
