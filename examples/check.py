@@ -1098,7 +1098,7 @@ def check_made_anew(room):
     compare("a session made anew", (ran.returncode, ran.stdout, ran.stderr), 0, b"BREAK 1\nHIT 1\nAT 2 4 4002\n7 CH 010 00012\nHIT 1\nAT 7 12 4002\n")
 
 
-def check_slips(room):
+def check_likely_mistakes(room):
     """What section 8 of the manual says of an operand that is an address, and of an interrupt that enters where no handler stands."""
     source, feed = f"{room}/slip.agc", f"{room}/slip.feed"
     # Z, which CA 5 reads, leads to the word after it: 4001. CA takes 2 cycles, EXTEND 1 and WRITE 2.
@@ -1149,7 +1149,7 @@ def main():
         check_notes(room)
         check_handed_on(room)
         check_made_anew(room)
-        check_slips(room)
+        check_likely_mistakes(room)
     return end()
 
 
