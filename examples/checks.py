@@ -48,6 +48,8 @@ SAID = [
     (" TS SUM|SUM OCT 0", [(1, 5, "E25: TS writes to erasable memory, and SUM, of line 2, is not there", "reserve the word there: SETLOC and a place below 4000, and ERASE")]),
     (" SETLOC 4024| TC 0| TC 0| TC 0| TC 0| TC 0| SETLOC 4030| TC 0", [(8, 2, "E21: line 6 has a word at this place already", "")]),
     (" OCT 1| OCT 2| SETLOC 4000| 2CADR 4000| SETLOC 4001| OCT 3", [(4, 2, "E21: line 1 has a word at this place already", ""), (6, 2, "E21: line 2 has a word at this place already", "")]),
+    (" TS 4000|4000 OCT 1", [(1, 5, "E25: TS writes to erasable memory, and 4000 is not there", "reserve the word there: SETLOC and a place below 4000, and ERASE"), (2, 1, "E13: 4000 is a number, and no label", "")]),
+    (" CA 12E|12D OCT 5", [(1, 5, "E17: no line defines 12E", ""), (2, 1, "E13: 12D is a number, and no label", "")]),
     (" TC START|START: OCT 1", [(1, 5, "E17: no line defines START", "did you mean START:?")]),
     (" OCT 0x1F", [(1, 6, "E16: OCT takes octal digits, 0 to 7, and 0x1F is no such number", "DEC takes decimal digits")]),
     (" OCT -1", [(1, 6, "E16: OCT takes no sign", "DEC takes one; a minus complements the word; with --flight this is taken")]),

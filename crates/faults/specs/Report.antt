@@ -8,7 +8,9 @@ use Rattle.agc_text.specs.Tables.{same_name}
 use Rattle.yayul.specs.declared.finding.Finding.{Finding}
 use Rattle.yayul.specs.declared.language.Language.{Language}
 use Rattle.yayul.specs.declared.language.Language.TheVariants.{Flight, Standard}
-use Rattle.faults.specs.Causes.{Cause, below_cause, filled, near_label, text_of, warning_cause}
+use Rattle.yayul.specs.Flight.{is_count}
+use Rattle.yayul.specs.Forms.{is_digits}
+use Rattle.faults.specs.Causes.{Cause, below_cause, filled, holds, near_label, text_of, warning_cause}
 use Rattle.faults.specs.Kinds.{kind_of_source}
 use Rattle.faults.specs.Refusals.{meaning}
 use Rattle.faults.specs.FlightCauses.{equalities, told_cause}
@@ -129,9 +131,17 @@ shown_line language name labels texts text parts f =
 abbrev pub shown_finding : Language → List ℕ → List (List ℕ) → List (List ℕ) → Severity × Finding → List ℕ
 shown_finding language name labels texts f = shown_line language name labels texts (text_at texts f.1.line) (parts_for language (text_at texts f.1.line)) f
 
+-- a text may have a label's form: it is no number, alone or behind a sign, and holds no `$`
+abbrev pub may_be_label : List ℕ → Bool
+may_be_label text = not (is_digits text) && not (is_count text) && not (holds 0o44 text)
+
+-- some names, and the label of a line, where that may have the form of one
+abbrev pub with_label : List (List ℕ) → Parts → List (List ℕ)
+with_label labels parts = if may_be_label (text_of parts.label) then with_field labels parts.label else labels
+
 -- the labels of some lines, each once
 abbrev pub labels_of : Language → List (List ℕ) → List (List ℕ)
-labels_of language texts = fold (λ labels text. with_field labels (parts_for language text).label) [] texts
+labels_of language texts = fold (λ labels text. with_label labels (parts_for language text)) [] texts
 
 -- the labels that so many faults are told with: those of all lines, where at most 100 are told
 abbrev pub sought_labels : Language → List (List ℕ) → ℕ → List (List ℕ)

@@ -6,15 +6,15 @@ ghost use Rattle.agc_text.specs.Lines.{lines};
 ghost use Rattle.faults.specs.Kinds.{kind_of_source};
 ghost use Rattle.faults.specs.Warnings.{parts_in};
 ghost use Rattle.faults.specs.Causes.{below_cause};
-ghost use Rattle.faults.specs.Report.{caused_text, text_at, shown_finding, shown_line, beside_text, line_beside, needs_value, line_below, as_label, told_by_line, labels_of, sought_labels, has_label, first_line, count_before, as_warning, merged, counted, count_text, interpretive_text, warned_before, listed_from, listed_around, told_around, told_text, refused_file, report};
+ghost use Rattle.faults.specs.Report.{caused_text, text_at, shown_finding, shown_line, beside_text, line_beside, needs_value, line_below, as_label, told_by_line, may_be_label, with_label, labels_of, sought_labels, has_label, first_line, count_before, as_warning, merged, counted, count_text, interpretive_text, warned_before, listed_from, listed_around, told_around, told_text, refused_file, report};
 
-use crate::causes::{below_cause, near_label, text_of};
+use crate::causes::{below_cause, holds, near_label, text_of};
 use crate::flight_causes::equalities;
 use crate::interpretive::{count_before_first, first_and_others, interpretive_cause};
 use crate::kinds::push_kind_of_source;
 use crate::mistakes::{add_field, has_operator};
 use crate::names::NameSet;
-use crate::parts::parts_for;
+use crate::parts::{is_count, is_digits, parts_for};
 use crate::refusals::meaning;
 use crate::texts::{DIGITS, push_caused, push_finding, push_number};
 use agc_text::{Line, next_line};
@@ -248,9 +248,27 @@ fn labels_of(alloc: Global, language: Language, texts: &[&[u8]]) -> Result<NameS
 {
     let mut labels = NameSet::new(alloc);
     for text in texts {
-        add_field(&mut labels, parts_for(language, text).label)?;
+        add_label(&mut labels, &parts_for(language, text))?;
     }
     Ok(labels)
+}
+
+// Adds the label of a line, where it may have the form of one.
+fn add_label(labels: &mut NameSet, parts: &Line<'_>) -> Result<(), AllocError>
+    ensures { OnOk result (labels.new ≡ with_label labels.old (parts_in parts.now)) }
+{
+    if may_be_label(text_of(parts.label)) {
+        add_field(labels, parts.label)
+    } else {
+        Ok(())
+    }
+}
+
+// Whether a text may have a label's form: it is no number, alone or behind a sign, and holds no `$`.
+fn may_be_label(text: &[u8]) -> bool
+    ensures { result ≡ may_be_label text.now }
+{
+    !is_digits(text) && !is_count(text) && !holds(b'$', text)
 }
 
 // The lines of a source.

@@ -87,8 +87,8 @@ pub(crate) fn is_count(text: &[u8]) -> bool
     is_signed(text) && is_digits(text.get(1..).unwrap_or(&[]))
 }
 
-// Digits alone, or digits followed by `D`.
-fn is_digits(text: &[u8]) -> bool
+/// Digits alone, or digits followed by `D`.
+pub(crate) fn is_digits(text: &[u8]) -> bool
     ensures { result ≡ is_digits text.now }
 {
     let digits = match text.last() {

@@ -2,8 +2,8 @@
 use Rattle.std.proofs.Common.{◌≡◌, ℕ, ◌+◌, ◌^◌, ◌<◌, ◌≤◌, Bool, true, List, [], ◌++◌, length, Option, Some, None, refl, sym, ap, ◌∙◌, arith, append-nil, length-append, subst}
 use Rattle.std.proofs.lemmas.List.Concat.{flat_map-append}
 use Rattle.std.specs.Option.{option_to_list}
-use Rattle.words.specs.Devices.{WritesBeginning}
-use Rattle.words.proofs.Texts.{append-then, beginning-after}
+use Rattle.words.specs.Devices.{IsBeginning, WritesBeginning}
+use Rattle.words.proofs.Texts.{append-then, beginning-after, first_begins}
 use Rattle.cpu.specs.declared.output.Output.{Output}
 use Rattle.cpu.specs.State.{Scenario, State, FitsRun}
 use Rattle.cpu.specs.Next.{next}
@@ -12,6 +12,7 @@ use Rattle.cpu.proofs.RunLaws.{run-add-one, out-add-one, outs-zero, outs-add-one
 use Rattle.cpu.proofs.TakenLaws.{run-fits}
 use Rattle.cpu.specs.ChannelLines.{channel_line, channel_lines}
 use Rattle.workshop.specs.Runs.{BreaksOff, outputs_after}
+use Rattle.workshop.specs.Progress.{run_text}
 
 pub lines_of_none : channel_lines (option_to_list None) ≡ []
 unfolding channel_lines
@@ -115,3 +116,20 @@ pub stands_breaks_off : (told : Bool) (scenario now : Scenario) (steps n : ℕ) 
 stands_breaks_off told scenario now steps n s a b c k h same before is_told r =
     breaks_off scenario steps n s a b c h before.state (before.written is_told)
     (subst (λ (u : Scenario). WritesBeginning b c (channel_lines (outputs_after u s))) same r)
+
+-- the lines of a run with one step more begin with those without it
+pub run_text_grows : (scenario : Scenario) (k : ℕ) → IsBeginning (run_text scenario k) (run_text scenario (k + 1))
+run_text_grows scenario k = rw (lines_more scenario k) (first_begins _ _)
+
+-- where a write of the step after n has failed, the lines of n steps stand
+pub stands_whole : (told : Bool) (scenario : Scenario) (n : ℕ) (s : State) (a b c text : List ℕ) (k : ℕ) → Stands told scenario n s a b k → told ≡ true → WritesBeginning b c text
+    → IsBeginning (a ++ run_text scenario n) c
+stands_whole told scenario n s a b c text k before is_told r = record { rest = r.part; whole = r.appended ∙ ap (λ (t : List ℕ). t ++ r.part) (before.written is_told) }
+
+-- and a beginning of those with one step more
+pub stands_broken : (told : Bool) (scenario now : Scenario) (n : ℕ) (s : State) (a b c : List ℕ) (k : ℕ) → now ≡ scenario → Stands told scenario n s a b k
+    → told ≡ true → WritesBeginning b c (channel_lines (outputs_after now s)) → WritesBeginning a c (run_text scenario (n + 1))
+stands_broken told scenario now n s a b c k same before is_told r =
+    let of_scenario : WritesBeginning b c (channel_lines (outputs_after scenario s)) = subst (λ (u : Scenario). WritesBeginning b c (channel_lines (outputs_after u s))) same r in
+    let here : WritesBeginning b c (channel_lines (outputs_after scenario (run scenario n))) = subst (λ (u : State). WritesBeginning b c (channel_lines (outputs_after scenario u))) before.state of_scenario in
+    rw (lines_more scenario n) (beginning-after a b c _ _ (before.written is_told) here)

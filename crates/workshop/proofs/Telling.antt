@@ -1,11 +1,11 @@
 -- What a run has told, slice by slice.
-use Rattle.std.proofs.Common.{◌≡◌, ℕ, ◌+◌, ◌*◌, ◌/◌, ◌%◌, ◌^◌, ◌<◌, ◌≤◌, ◌==◌, Bool, true, false, ◌++◌, Result, Ok, Err, refl, sym, ap, ◌∙◌, arith, append-nil, add-one, subst}
+use Rattle.std.proofs.Common.{◌≡◌, ℕ, ◌+◌, ◌-◌, ◌*◌, ◌/◌, ◌%◌, ◌^◌, ◌<◌, ◌≤◌, ◌==◌, Bool, true, false, List, ◌++◌, Result, Ok, Err, refl, sym, ap, ◌∙◌, arith, append-nil, add-one, subst}
 use Rattle.std.proofs.lemmas.Bool.Decides.{nat_tests}
-use Rattle.words.specs.Devices.{failures_after}
+use Rattle.words.specs.Devices.{IsBeginning, WritesBeginning, failures_after}
 use Rattle.words.specs.declared.device.WriteFailed.{WriteFailed}
-use Rattle.words.proofs.Texts.{Writes-after, beginning-longer}
+use Rattle.words.proofs.Texts.{Writes-after, beginning-longer, begins_after, whole_begins}
 use Rattle.workshop.specs.Failures.{Writer}
-use Rattle.workshop.specs.Progress.{progress_line, progress_lines, progress_text, progress_at, TellsNext, Tells, TellsSome, TellsUntil}
+use Rattle.workshop.specs.Progress.{progress_line, progress_lines, progress_text, progress_at, TellsNext, Tells, TellsSome, TellsUntil, Telling, TellsMade}
 use Rattle.workshop.specs.declared.fault.WorkshopFault.{WorkshopFault}
 use Rattle.workshop.specs.declared.fault.WorkshopFault.TheVariants as fault
 
@@ -68,3 +68,28 @@ tells_none steps w (fault.Feed _) = refl
 tells_none steps w (fault.Rope _) = refl
 tells_none steps w (fault.Table _) = refl
 tells_none steps w fault.TooLong = refl
+
+-- in the midst of a slice as much is told as at its beginning
+tells_further : (done n : ℕ) (a b : Writer) (told : Result (Unit {0}) WriteFailed) → done % 2 ^ 20 ≡ 0 → done ≤ n → n < done + 2 ^ 20 → Tells done a b told → Tells n a b told
+tells_further done n a b told whole low high before =
+    let same : n / 2 ^ 20 ≡ done / 2 ^ 20 = omega (arith, whole, low, high) in
+    record { bytes = λ is_told. rw same (before.bytes is_told); failures = before.failures }
+
+-- a run is broken off in the step after n
+pub told_in_step : (text : ℕ → List ℕ) (steps done n : ℕ) (before after : Telling) (told : Result (Unit {0}) WriteFailed) → done % 2 ^ 20 ≡ 0 → done ≤ n → n < done + 2 ^ 20 → n < steps
+    → (before.out.told ≡ true → IsBeginning (before.out.written ++ text n) after.out.written)
+    → (before.out.told ≡ true → WritesBeginning before.out.written after.out.written (text (n + 1)))
+    → Tells done before.progress after.progress told → TellsMade text steps before after
+told_in_step text steps done n before after told is_whole low high within whole broken tells =
+    record { made = n; within = within; whole = whole; broken = broken; told = told; tells = tells_further done n _ _ told is_whole low high tells }
+
+-- its last step is n, whose lines could not be handed on
+pub told_after_step : (text : ℕ → List ℕ) (steps done n : ℕ) (before after : Telling) (told : Result (Unit {0}) WriteFailed) → done % 2 ^ 20 ≡ 0 → done < n → n ≤ done + 2 ^ 20 → n ≤ steps
+    → ((k : ℕ) → IsBeginning (text k) (text (k + 1))) → (before.out.told ≡ true → after.out.written ≡ before.out.written ++ text n)
+    → Tells done before.progress after.progress told → TellsMade text steps before after
+told_after_step text steps done n before after told is_whole low high within grows written tells =
+    let last : (n - 1) + 1 ≡ n = omega (arith, low) in
+    told_in_step text steps done (n - 1) before after told is_whole (omega (arith, low)) (omega (arith, low, high)) (omega (arith, low, within))
+    (λ is_told. rw (written is_told) (begins_after before.out.written (text (n - 1)) (text n) (subst (λ m. IsBeginning (text (n - 1)) (text m)) last (grows (n - 1)))))
+    (λ is_told. subst (λ m. WritesBeginning before.out.written after.out.written (text m)) (sym last) (record { part = text n; beginning = whole_begins (text n); appended = written is_told }))
+    tells

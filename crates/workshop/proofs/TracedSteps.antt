@@ -1,7 +1,7 @@
 -- A run that is traced, step by step.
-use Rattle.std.proofs.Common.{◌≡◌, ℕ, ◌+◌, ◌-◌, ◌<◌, ◌≤◌, Bool, true, List, ◌++◌, ◌∙◌, arith, subst}
-use Rattle.words.specs.Devices.{WritesBeginning}
-use Rattle.words.proofs.Texts.{append-then, beginning-after, beginning-whole}
+use Rattle.std.proofs.Common.{◌≡◌, ℕ, ◌+◌, ◌-◌, ◌<◌, ◌≤◌, Bool, true, List, ◌++◌, ◌∙◌, ap, arith, subst}
+use Rattle.words.specs.Devices.{IsBeginning, WritesBeginning}
+use Rattle.words.proofs.Texts.{append-then, beginning-after, beginning-whole, first_begins}
 use Rattle.cpu.specs.State.{Scenario, State}
 use Rattle.cpu.specs.Next.{next}
 use Rattle.cpu.specs.Run.{run}
@@ -45,3 +45,21 @@ pub breaks_off_after : (told : Bool) (symbols : SymbolTable) (scenario : Scenari
     → told ≡ true → c ≡ b → WritesBeginning a c (trace_lines symbols scenario first steps)
 breaks_off_after told symbols scenario first steps n s a b c h before is_told same =
     begins_longer symbols scenario first n (steps - n) steps a c (omega (arith, h)) (beginning-whole a c _ (same ∙ before.written is_told))
+
+-- the lines of a trace with one step more begin with those without it
+pub traced_grows : (symbols : SymbolTable) (scenario : Scenario) (first k : ℕ) → IsBeginning (trace_lines symbols scenario first k) (trace_lines symbols scenario first (k + 1))
+traced_grows symbols scenario first k = rw (lines_more symbols scenario first k) (first_begins _ _)
+
+-- where a write of the step after n has failed, the lines of n steps stand
+pub stands_whole : (told : Bool) (symbols : SymbolTable) (scenario : Scenario) (first n : ℕ) (s : State) (a b c text : List ℕ) → Stands told symbols scenario first n s a b → told ≡ true
+    → WritesBeginning b c text → IsBeginning (a ++ trace_lines symbols scenario first n) c
+stands_whole told symbols scenario first n s a b c text before is_told r = record { rest = r.part; whole = r.appended ∙ ap (λ (t : List ℕ). t ++ r.part) (before.written is_told) }
+
+-- and a beginning of those with one step more
+pub stands_broken : (told : Bool) (symbols : SymbolTable) (scenario now : Scenario) (first n : ℕ) (s : State) (a b c : List ℕ) → now ≡ scenario → Stands told symbols scenario first n s a b
+    → told ≡ true → WritesBeginning b c (line_from symbols now first (n + 1) s) → WritesBeginning a c (trace_lines symbols scenario first (n + 1))
+stands_broken told symbols scenario now first n s a b c same before is_told part =
+    let here : WritesBeginning b c (line_from symbols scenario first (n + 1) (run scenario n)) =
+    subst (λ (u : State). WritesBeginning b c (line_from symbols scenario first (n + 1) u)) before.state
+    (subst (λ (u : Scenario). WritesBeginning b c (line_from symbols u first (n + 1) s)) same part) in
+    rw (lines_more symbols scenario first n) (beginning-after a b c _ _ (before.written is_told) here)

@@ -1,10 +1,18 @@
 -- What a run tells while it goes: how many steps it has made.
-use Rattle.std.specs.Prelude.{◌≡◌, ℕ, zero, suc, ◌+◌, ◌*◌, ◌/◌, ◌%◌, ◌^◌, ◌≤◌, ◌==◌, true, List, [], ◌++◌, codes, decimal, Result, Ok, Err, if◌then◌else◌}
-use Rattle.words.specs.Devices.{Writes, failures_after}
+use Rattle.std.specs.Prelude.{◌≡◌, ℕ, zero, suc, ◌+◌, ◌*◌, ◌/◌, ◌%◌, ◌^◌, ◌≤◌, ◌<◌, ◌==◌, true, List, [], ◌++◌, codes, decimal, Result, Ok, Err, if◌then◌else◌}
+use Rattle.words.specs.Devices.{IsBeginning, Writes, WritesBeginning, failures_after}
 use Rattle.words.specs.declared.device.WriteFailed as device
+use Rattle.cpu.specs.ChannelLines.{channel_lines}
+use Rattle.cpu.specs.Run.{outs}
+use Rattle.cpu.specs.State.{Scenario}
+use Rattle.trace.specs.TraceLines.{trace_lines}
 use Rattle.workshop.specs.Failures.{Writer}
+use Rattle.workshop.specs.Inputs.{scenario_of}
+use Rattle.workshop.specs.Loading.{Files, Loads}
 use Rattle.workshop.specs.declared.fault.WorkshopFault.{WorkshopFault}
 use Rattle.workshop.specs.declared.fault.WorkshopFault.TheVariants.{WriteFailed}
+use Rattle.workshop.specs.declared.inputs.Loaded.{Loaded}
+use Rattle.workshop.specs.declared.origin.Origin.{Origin}
 
 -- after how many steps it is told
 abbrev pub steps_between : ℕ
@@ -59,3 +67,47 @@ TellsUntil steps before after _ = after ≡ before
 abbrev pub TellsRun : {T : Type 0} → ℕ → Writer → Writer → Result T WorkshopFault → Type 0
 TellsRun steps before after (Ok x) = TellsAll steps before after
 TellsRun steps before after (Err fault) = TellsUntil steps before after fault
+
+-- ## Of a run that writes while it goes
+-- where it writes, and where it tells its steps
+pub record Telling : Type 0 where
+  pub out : Writer
+  pub progress : Writer
+
+-- it is broken off in the step after those made: of a text that has so many steps, what is written has that of the steps made, and
+-- is a beginning of that with one more; and the steps made are told
+pub record TellsMade (text : ℕ → List ℕ) (steps : ℕ) (before after : Telling) : Type 0 where
+  pub made : ℕ
+  pub within : made < steps
+  pub whole : before.out.told ≡ true → IsBeginning (before.out.written ++ text made) after.out.written
+  pub broken : before.out.told ≡ true → WritesBeginning before.out.written after.out.written (text (made + 1))
+  pub told : Result (Unit {0}) device.WriteFailed
+  pub tells : Tells made before.progress after.progress told
+
+-- all steps are told, or where a write has failed those that were made
+abbrev pub TellsWritten : {T : Type 0} → (ℕ → List ℕ) → ℕ → Telling → Telling → Result T WorkshopFault → Type 0
+TellsWritten text steps before after (Ok x) = TellsAll steps before.progress after.progress
+TellsWritten text steps before after (Err WriteFailed) = TellsMade text steps before after
+TellsWritten text steps before after (Err _) = ⊥
+
+-- where a program and a feed were read the steps of their run are told, and after a fault nothing is
+abbrev pub TellsThen : {T : Type 0} → (Loaded → ℕ → List ℕ) → ℕ → Result Loaded WorkshopFault → Telling → Telling → Result T WorkshopFault → Type 0
+TellsThen text steps (Ok l) before after result = TellsWritten (text l) steps before after result
+TellsThen text steps (Err fault) before after result = after.progress ≡ before.progress
+
+-- a program and a feed are read, and what was read decides what is told
+pub record TellsLoaded {T : Type 0} (text : Loaded → ℕ → List ℕ) (from : Origin) (steps : ℕ) (old new : Files) (before after : Telling) (result : Result T WorkshopFault) : Type 0 where
+  pub loaded : Result Loaded WorkshopFault
+  pub loads : Loads from old new loaded
+  pub next : TellsThen text steps loaded before after result
+
+-- the lines of a run of so many steps
+abbrev pub run_text : Scenario → ℕ → List ℕ
+run_text scenario n = channel_lines (outs scenario n)
+
+abbrev pub loaded_text : Loaded → ℕ → List ℕ
+loaded_text l = run_text (scenario_of l)
+
+-- the lines of those of so many steps that stand from a first one on
+abbrev pub traced_text : ℕ → Loaded → ℕ → List ℕ
+traced_text first l = trace_lines l.symbols (scenario_of l) first

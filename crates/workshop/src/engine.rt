@@ -5,7 +5,7 @@ ghost use Rattle.std.specs.Bool.{OnTrue, OnFalse};
 ghost use Rattle.words.specs.Devices.{Writes, failures_after};
 ghost use Rattle.cpu.specs.ChannelLines.{channel_line, channel_lines};
 ghost use Rattle.workshop.specs.Failures.{reader, writer};
-ghost use Rattle.workshop.specs.Progress.{TellsRun};
+ghost use Rattle.workshop.specs.Progress.{TellsLoaded, TellsWritten, loaded_text, run_text};
 ghost use Rattle.workshop.specs.Runs.{Runs, Makes, outputs_after};
 ghost use Rattle.cpu.specs.Next.{next};
 ghost use Rattle.yayul.specs.declared.language.Language.TheVariants.{Standard};
@@ -127,7 +127,11 @@ pub fn run_and_tell<P: Read, F: Read, W: Write, T: Write>(
         (record { files = record { program = reader P.told P.left P.failures program.old; feed = reader F.told F.left F.failures feed.old }; out = writer W.told W.written W.failures out.old })
         (record { files = record { program = reader P.told P.left P.failures program.new; feed = reader F.told F.left F.failures feed.new }; out = writer W.told W.written W.failures out.new }) result }
     ensures handed_on { W.told ≡ true → 0 < steps → OnOk result (W.handed_on out.new ≡ W.written out.new) }
-    ensures progress { TellsRun steps (writer T.told T.written T.failures progress.old) (writer T.told T.written T.failures progress.new) result }
+    ensures progress { TellsLoaded loaded_text origin steps
+        (record { program = reader P.told P.left P.failures program.old; feed = reader F.told F.left F.failures feed.old })
+        (record { program = reader P.told P.left P.failures program.new; feed = reader F.told F.left F.failures feed.new })
+        (record { out = writer W.told W.written W.failures out.old; progress = writer T.told T.written T.failures progress.old })
+        (record { out = writer W.told W.written W.failures out.new; progress = writer T.told T.written T.failures progress.new }) result }
 {
     let loaded = load(alloc, origin, program, feed)?;
     let mut processor = Processor::new(loaded.rope, loaded.feed);
@@ -149,7 +153,9 @@ fn run<W: Write, T: Write>(
     ensures makes { Makes processor.old.scenario steps
         (writer W.told W.written W.failures out.old) (writer W.told W.written W.failures out.new) result }
     ensures handed_on { W.told ≡ true → 0 < steps → OnOk result (W.handed_on out.new ≡ W.written out.new) }
-    ensures progress { TellsRun steps (writer T.told T.written T.failures progress.old) (writer T.told T.written T.failures progress.new) result }
+    ensures progress { TellsWritten (run_text processor.old.scenario) steps
+        (record { out = writer W.told W.written W.failures out.old; progress = writer T.told T.written T.failures progress.old })
+        (record { out = writer W.told W.written W.failures out.new; progress = writer T.told T.written T.failures progress.new }) result }
 {
     let mut machine = Machine::start();
     let mut outputs = 0;

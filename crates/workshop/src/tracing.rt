@@ -6,7 +6,7 @@ ghost use Rattle.cpu.specs.Next.{next};
 ghost use Rattle.cpu.specs.State.{FitsRun};
 ghost use Rattle.trace.specs.TraceLines.{line_from, trace_lines};
 ghost use Rattle.workshop.specs.Failures.{reader, writer};
-ghost use Rattle.workshop.specs.Progress.{TellsRun};
+ghost use Rattle.workshop.specs.Progress.{TellsLoaded, TellsWritten, traced_text};
 ghost use Rattle.workshop.specs.Ropes.{WritesText};
 ghost use Rattle.workshop.specs.Traces.{Traces};
 
@@ -70,7 +70,11 @@ pub fn trace_and_tell<P: Read, F: Read, W: Write, T: Write>(
         (record { files = record { program = reader P.told P.left P.failures program.old; feed = reader F.told F.left F.failures feed.old }; out = writer W.told W.written W.failures out.old })
         (record { files = record { program = reader P.told P.left P.failures program.new; feed = reader F.told F.left F.failures feed.new }; out = writer W.told W.written W.failures out.new }) result }
     ensures handed_on { W.told ≡ true → 0 < steps → OnOk result (W.handed_on out.new ≡ W.written out.new) }
-    ensures progress { TellsRun steps (writer T.told T.written T.failures progress.old) (writer T.told T.written T.failures progress.new) result }
+    ensures progress { TellsLoaded (traced_text first) origin steps
+        (record { program = reader P.told P.left P.failures program.old; feed = reader F.told F.left F.failures feed.old })
+        (record { program = reader P.told P.left P.failures program.new; feed = reader F.told F.left F.failures feed.new })
+        (record { out = writer W.told W.written W.failures out.old; progress = writer T.told T.written T.failures progress.old })
+        (record { out = writer W.told W.written W.failures out.new; progress = writer T.told T.written T.failures progress.new }) result }
 {
     let loaded = load(alloc, origin, program, feed)?;
     let Ok(names) = PlaceNames::new(alloc, loaded.symbols) else {
@@ -93,7 +97,9 @@ fn trace<W: Write, T: Write>(
     ensures writes { WritesText (trace_lines names.now processor.old.scenario first steps)
         (writer W.told W.written W.failures out.old) (writer W.told W.written W.failures out.new) result }
     ensures handed_on { W.told ≡ true → 0 < steps → OnOk result (W.handed_on out.new ≡ W.written out.new) }
-    ensures progress { TellsRun steps (writer T.told T.written T.failures progress.old) (writer T.told T.written T.failures progress.new) result }
+    ensures progress { TellsWritten (trace_lines names.now processor.old.scenario first) steps
+        (record { out = writer W.told W.written W.failures out.old; progress = writer T.told T.written T.failures progress.old })
+        (record { out = writer W.told W.written W.failures out.new; progress = writer T.told T.written T.failures progress.new }) result }
 {
     let mut machine = Machine::start();
     let mut told = Ok(());

@@ -3,9 +3,9 @@ use Rattle.std.proofs.lemmas.Result.{err_from_is_err_and}
 use Rattle.cpu.proofs.RunLaws.{run-zero}
 use Rattle.words.specs.Devices.{WritesBeginning, one_more}
 use Rattle.trace.specs.TraceLines.{trace_lines}
-use Rattle.workshop.proofs.Telling.{tells_at_start, tells_more, tells_some}
+use Rattle.workshop.proofs.Telling.{tells_at_start, tells_more, told_after_step, told_in_step}
 use Rattle.workshop.proofs.RunSteps.{few_cycles, fits_after}
-use Rattle.workshop.proofs.TracedSteps.{stands_at_start, stands_after_step, breaks_off, breaks_off_after}
+use Rattle.workshop.proofs.TracedSteps.{stands_at_start, stands_after_step, stands_broken, stands_whole, breaks_off, breaks_off_after, traced_grows}
 use Rattle.workshop.proofs.tracing.trace.Goals as goal
 
 pub loop-done-init : goal.loop-done-init
@@ -72,12 +72,20 @@ returns-in_err-hand_on-clause-writes g c =
 pub returns-in_err-step_and_trace-clause-progress : goal.returns-in_err-step_and_trace-clause-progress
 returns-in_err-step_and_trace-clause-progress g c =
     let p = err_from_is_err_and c.from_residual.result c.from_residual.ensures.1 in
-    rw (p.1, p.2) (tells_some c.args.steps c.loop-done.done _ _ c.loop-done.told c.loop-done.invariant.within c.loop-done.invariant.tells)
+    let here = c.loop-done-2.invariant.stands _ _ c.loop-done.invariant.scenario c.loop-done.invariant.stands in
+    let whole = c.loop-done.invariant.whole c.loop-done-test.true in
+    rw (p.1, p.2) (told_in_step (trace_lines c.args.names.now c.args.processor.now.scenario c.args.first) c.args.steps c.loop-done.done c.loop-done-2.done _ _ c.loop-done.told whole (omega arith) (omega arith) (omega arith)
+    (λ told. stands_whole _ c.args.names.now c.args.processor.now.scenario c.args.first _ _ _ _ _ _ here told (c.in_err-step_and_trace.ensures.written told))
+    (λ told. stands_broken _ c.args.names.now c.args.processor.now.scenario _ c.args.first _ _ _ _ _ (c.loop-done-2.invariant.scenario ∙ c.loop-done.invariant.scenario) here told (c.in_err-step_and_trace.ensures.written told))
+    c.loop-done.invariant.tells)
 
 pub returns-in_err-hand_on-clause-progress : goal.returns-in_err-hand_on-clause-progress
 returns-in_err-hand_on-clause-progress g c =
     let p = err_from_is_err_and c.from_residual-in_err-hand_on.result c.from_residual-in_err-hand_on.ensures.1 in
-    rw (p.1, p.2) (tells_some c.args.steps c.loop-done.done _ _ c.loop-done.told c.loop-done.invariant.within c.loop-done.invariant.tells)
+    let here = c.loop-done-2.invariant.stands _ _ c.loop-done.invariant.scenario c.loop-done.invariant.stands in
+    let whole = c.loop-done.invariant.whole c.loop-done-test.true in
+    rw (p.1, p.2) (told_after_step (trace_lines c.args.names.now c.args.processor.now.scenario c.args.first) c.args.steps c.loop-done.done c.loop-done-2.done _ _ c.loop-done.told whole (omega arith) (omega arith) (omega arith)
+    (traced_grows c.args.names.now c.args.processor.now.scenario c.args.first) (λ told. c.in_err-hand_on.ensures.written told ∙ here.written told) c.loop-done.invariant.tells)
 
 pub loop-done-preserved : goal.loop-done-preserved
 loop-done-preserved g c =

@@ -2,9 +2,7 @@ use Rattle.std.proofs.Common.{Err, refl, subst}
 use Rattle.workshop.specs.Failures.{reader}
 use Rattle.workshop.specs.Loading.{Files, Loads}
 use Rattle.workshop.specs.declared.fault.WorkshopFault.TheVariants.{NoMemory}
-use Rattle.std.proofs.lemmas.Result.{err_from_is_err_and}
 use Rattle.workshop.proofs.Opening.{no_memory_left}
-use Rattle.workshop.proofs.Telling.{tells_none}
 use Rattle.workshop.proofs.tracing.trace_and_tell.Goals as goal
 
 pub returns-in_default-clause-traces : goal.returns-in_default-clause-traces
@@ -17,8 +15,12 @@ returns-in_default-clause-traces g c =
       next = (refl, refl);
     }
 
-pub returns-in_err-loaded-clause-progress : goal.returns-in_err-loaded-clause-progress
-returns-in_err-loaded-clause-progress g c = rw (err_from_is_err_and c.from_residual.result c.from_residual.ensures.1).1 (tells_none c.args.steps _ _)
-
 pub returns-in_default-clause-progress : goal.returns-in_default-clause-progress
-returns-in_default-clause-progress g c = refl
+returns-in_default-clause-progress g c =
+    let before : Files = record { program = reader g.P.Read.told g.P.Read.left g.P.Read.failures c.args.program.now; feed = reader g.F.Read.told g.F.Read.left g.F.Read.failures c.args.feed.now } in
+    let after : Files = record { program = reader g.P.Read.told g.P.Read.left g.P.Read.failures c.load.new.program; feed = reader g.F.Read.told g.F.Read.left g.F.Read.failures c.load.new.feed } in
+    record {
+      loaded = Err NoMemory;
+      loads = no_memory_left c.args.origin before after c.in_ok-loaded.loaded (subst (Loads c.args.origin before after) c.in_ok-loaded.was c.load.ensures);
+      next = refl;
+    }
