@@ -38,6 +38,7 @@ sys.dont_write_bytecode = True
 EXAMPLES = os.path.dirname(os.path.abspath(__file__))
 ROOT = os.path.dirname(EXAMPLES)
 sys.path.insert(0, f"{ROOT}/gate")
+from arguments import check_arguments
 from covers import check_cover
 from files import read, write
 from one_processor import second_makers
@@ -1113,6 +1114,7 @@ def main():
         check_form_sums(room)
         check_names_of_images(room)
         check_command_line()
+        check_arguments(PROGRAM, told, room)
         check_targets(room)
         check_whole_images(room)
         check_end(room)

@@ -1,7 +1,9 @@
 -- What is noted before a step, so that it is known which breakpoints hold after it. Only the contracts of the debugger's parts
 -- stand on this.
 use Rattle.std.specs.Prelude.{◌≡◌, ℕ, ◌<◌, ◌==◌, Bool, true, false, not, List, length, get_or, Option, None, Some}
+use Rattle.space.specs.Places.{same_place}
 use Rattle.cpu.specs.State.{State, Scenario}
+use Rattle.cpu.specs.Effects.{place_in, next_address}
 use Rattle.cpu.specs.Next.{next}
 use Rattle.commands.specs.declared.command.Breakpoint.{Breakpoint}
 use Rattle.commands.specs.declared.command.Breakpoint.TheVariants.{Place, Word, Channel, Bits, Cycles, Returned, Outside, Executed, Changed}
@@ -30,6 +32,18 @@ looked true scenario s = step_from scenario s
 -- the lowest breakpoint that holds after it, by what was looked at
 abbrev pub hit_by : List Breakpoint → Bool → Scenario → State → Option ℕ
 hit_by breakpoints looks scenario s = lowest_hit breakpoints (looked looks scenario s) (sight scenario.rope (next scenario s).0)
+
+-- what the step from a state did may matter to a breakpoint: the instruction at its place stands next, or it watches for a change
+abbrev pub may_matter : State → Breakpoint → Bool
+may_matter s (Place place) = false
+may_matter s (Word p w) = false
+may_matter s (Channel c w) = false
+may_matter s (Bits c w mask) = false
+may_matter s (Cycles cycles) = false
+may_matter s (Returned place inside) = false
+may_matter s Outside = false
+may_matter s (Executed place) = same_place (place_in s (next_address s)) place
+may_matter s (Changed subject) = true
 
 -- the word in a state that a breakpoint watches for a change, if it watches one
 abbrev pub watched_word : State → Breakpoint → Option ℕ

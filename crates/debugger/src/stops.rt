@@ -5,9 +5,9 @@ ghost use Rattle.std.specs.Option.{option_map};
 ghost use Rattle.std.specs.List.{list_any};
 ghost use Rattle.cpu.specs.State.{FitsRun};
 ghost use Rattle.cpu.specs.Next.{next};
-ghost use Rattle.debugger.specs.Stopping.{HoldsAlike, asks, looked};
+ghost use Rattle.debugger.specs.Stopping.{HoldsAlike, asks, looked, may_matter};
 
-use crate::breakpoints::lowest_hit;
+use crate::breakpoints::{lowest_hit, stands_at};
 use crate::noted::Noted;
 use commands::{Breakpoint, Breakpoints};
 use cpu::{Machine, Processor};
@@ -35,7 +35,7 @@ impl<'a> Stops<'a> {
     }
 }
 
-/// What some breakpoints ask of the next step, if any of them asks.
+/// What some breakpoints ask of the next step, if what it does may matter to any of them.
 #[inline(always)]
 pub(crate) fn look(
     looks: bool,
@@ -45,10 +45,32 @@ pub(crate) fn look(
 ) -> Option<Noted>
     ensures { FitsRun processor.now.scenario machine.now → HoldsAlike breakpoints.now result (next processor.now.scenario machine.now).0 (looked looks processor.now.scenario machine.now) }
 {
-    if !looks {
+    if !looks || !may_matter(breakpoints, machine) {
         return None;
     }
     Some(Noted::asked_by(breakpoints, processor, machine))
+}
+
+/// Whether what the next step does may matter to one of some breakpoints.
+fn may_matter(breakpoints: &Breakpoints, machine: &Machine) -> bool
+    ensures { result ≡ list_any (may_matter machine.now) breakpoints.now }
+{
+    breakpoints
+        .as_slice()
+        .iter()
+        .any(|breakpoint| may_matter_to(breakpoint, machine))
+}
+
+/// Whether what the next step does may matter to a breakpoint.
+#[inline(always)]
+fn may_matter_to(breakpoint: &Breakpoint, machine: &Machine) -> bool
+    ensures { result ≡ may_matter machine.now breakpoint.now }
+{
+    match breakpoint {
+        Breakpoint::Executed(place) => stands_at(machine, *place),
+        Breakpoint::Changed(_) => true,
+        _ => false,
+    }
 }
 
 /// The steps that tested ones lead to, where something was found of one.
