@@ -537,6 +537,32 @@ def check_debugger(room):
     compare("a session without a command", agcws("debug", source, empty), 0, b"")
 
 
+def check_inputs(room):
+    """What `inputs` tells makes the run again: added before the first step, and at the end of the feed."""
+    source, feed, both = f"{EXAMPLES}/lost_sum.agc", f"{EXAMPLES}/lost_sum.feed", f"{room}/both.feed"
+    kinds = ["TIME3 PINC", "TIME1 PINC", "PIPAX MINC", "RUPT 3", "RUPT 5", "CHAN 15 21"]
+    for seed in range(8):
+        draw = random.Random(seed)
+        adds = [f"add {draw.randrange(28, 300)} {draw.choice(kinds)}" for _ in range(8)]
+        made = [line for add in adds for line in (f"run {draw.randrange(1, 9)}", add)]
+        traced = ["goto 200", "trace 200"]
+        _, told_inputs, trace = replies_of(source, feed, made + ["run 200"], ["inputs"], traced)
+        lines = told_inputs.splitlines()[:-1]
+        added = replies_of(source, feed, [f"add {line}" for line in lines], ["run 200"], traced)
+        told(f"inputs {seed} are added", added[0] == "ADDED\n" * len(lines) and len(lines) > 2, added[0])
+        told(f"inputs {seed} make the run again", added[2] == trace != "")
+        write(both, read(feed) + "".join(f"{line}\n" for line in lines).encode())
+        told(f"inputs {seed} at the end of the feed", replies_of(source, both, ["run 200"], traced)[1] == trace)
+
+
+def replies_of(source, feed, *parts):
+    """Returns what an extended session replies to each of some lists of commands."""
+    commands = "".join(f"{it}\n" for part in parts for it in [*part, "echo ----"])
+    words = [PROGRAM, "debug", "--extended", source, feed]
+    ran = subprocess.run(words, input=commands.encode(), capture_output=True, timeout=WAIT)
+    return ran.stdout.decode().split("----\n")[:-1]
+
+
 def check_one_processor():
     """A session steps no processor but its own."""
     found = second_makers(f"{ROOT}/crates")
@@ -1105,6 +1131,7 @@ def main():
         check_long_texts(room)
         check_devices(room)
         check_debugger(room)
+        check_inputs(room)
         check_one_processor()
         check_upgrade(room)
         check_ropes(room)

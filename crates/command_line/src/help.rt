@@ -351,9 +351,9 @@ With --extended there are these besides, and after E50 COMMAND stands why:
                        input and an interrupt do not, nor a word that waited
   break change PLACE   where the step changed the word at PLACE, or on a channel
   where                WHERE, the next instruction's place as a listing has it,
-                       and the symbol at it or before it; its row, as list has
-                       it; and in an interrupt IN INTERRUPT K BY T, the step
-                       that entered it
+                       and the symbol at it or before it, or WHERE BRUPT, the
+                       word that waits; its row, as list has it; and in an
+                       interrupt IN INTERRUPT K BY T, the step that entered it
   list PLACE, .. K     16 rows of the listing from there on, or K, as LIST; of a
                        place on no line, as of an image, the word and the
                        instruction that it is, with names

@@ -1,5 +1,5 @@
 -- Extended sessions over a small program, replied by the definitions alone.
-use Rattle.std.proofs.Common.{◌≡◌, ℕ, Bool, List, [], ◌∷◌, ◌++◌, Some, true, false, ap, ◌∙◌, refl}
+use Rattle.std.proofs.Common.{◌≡◌, ℕ, Bool, List, [], ◌∷◌, ◌++◌, Some, None, true, false, ap, ◌∙◌, refl}
 use Rattle.std.specs.Prelude.{codes, decimal}
 use Rattle.std.specs.Fmt.{digits}
 use Rattle.agc_text.specs.Fields.{runs}
@@ -22,6 +22,7 @@ use Rattle.cpu.proofs.Held.{state, rope}
 use Rattle.cpu.specs.Codes.{basic_rows, extracode_rows, code_of}
 use Rattle.cpu.specs.Operands.{address_of}
 use Rattle.cpu.specs.Texts.{instruction_text}
+use Rattle.cpu.specs.Next.{instruction_word}
 use Rattle.audit.specs.WordLines.{extracode_at}
 use Rattle.names.specs.NamedLines.{named_line, named_instruction, named_text, place_told}
 use Rattle.cpu.specs.State.{State}
@@ -38,7 +39,7 @@ use Rattle.yayul.specs.PlaceRows.{no_source}
 use Rattle.yayul.specs.Program.{Source}
 use Rattle.yayul.specs.declared.language.Language.TheVariants.{Standard}
 use Rattle.trace.specs.TraceLines.{symbol_at}
-use Rattle.debugger.specs.Standing.{nearest_symbol, nearest_text, found_text, words_text, rows_text}
+use Rattle.debugger.specs.Standing.{nearest_symbol, nearest_text, place_line, where_line, found_text, words_text, rows_text}
 use Rattle.debugger.specs.Rows.{based_text, list_row, plain_row, numbers_text as numbers_row, row_text}
 use Rattle.debugger.specs.declared.rows.RowKind.TheVariants.{Instruction, Number}
 use Rattle.commands.specs.Commands.{forms}
@@ -216,6 +217,15 @@ words_there : words (history five) (linear.Fixed 2 3) 3 ++ words (history five) 
 unfolding words_text place_text window octal_text
 words_there =
     ap (λ h. words h (linear.Fixed 2 3) 3 ++ words h (linear.Fixed 2 0o1776) 9 ++ words h (linear.Erasable 0o3777) 2 ++ words h (linear.Erasable 0) 0) history-five ∙ refl
+
+-- the next instruction, by the symbol before its place, or as the word that waits
+by_place : place_line symbols (linear.Fixed 2 6) ≡ codes "WHERE 02,4006 FIVE +1\n"
+unfolding place_text window octal_text symbol_at
+by_place = refl
+
+by_word : where_line symbols (rope five_words) (record indexed { extra = false; waiting_sum = None; waiting_word = Some 4 }) ≡ codes "WHERE BRUPT 00004 INHINT\n"
+unfolding instruction_word code_of basic_rows instruction_text octal_text
+by_word = refl
 
 -- the row of a word is the line that it has with names: an instruction by the symbol of its place, an extracode where one is in
 -- force, and of erasable memory the word alone

@@ -2,15 +2,17 @@
 use Rattle.std.proofs.Common.{◌≡◌, ℕ, ◌*◌, length, arith, List, [], ◌∷◌, ◌++◌, cond, Result, Ok, Err, refl, ap, ◌∙◌}
 use Rattle.agc_text.specs.Lines.{ended_lines}
 use Rattle.symbols.specs.Values.{SymbolTable}
+use Rattle.replay.specs.View.{SessionView}
 use Rattle.debugger.specs.Terms.{Terms, terms_of}
+use Rattle.debugger.proofs.LineByLine.{WritesTo}
 use Rattle.yayul.specs.PlaceRows.{no_source}
 use Rattle.commands.specs.Commands.{parsed_line}
 use Rattle.debugger.specs.declared.manner.Manner.TheVariants as manner
 use Rattle.debugger.specs.ExtendedReplies.{extended_reply}
 use Rattle.debugger.specs.Replies.{Desk}
-use Rattle.debugger.specs.Transcript.{ends, line_reply, replies, first_desk, command_lines, lines_read, most_command_bytes}
-use Rattle.debugger.specs.Sessions.{Setting, Commands, WritesReplies, Debugs}
-use Rattle.debugger.specs.Conversation.{reading, conversation, efforts, lines_heard, lines_within, Talk, WritesTalk, Talks}
+use Rattle.debugger.specs.Transcript.{ends, line_reply, replies, first_desk, desk_at_end, command_lines, lines_read, most_command_bytes}
+use Rattle.debugger.specs.Sessions.{Setting, Commands, WritesReplies, StandsAt, replies_lead_to, DebugsTo}
+use Rattle.debugger.specs.Conversation.{reading, conversation, last_desk, efforts, lines_heard, lines_within, Talk, TalksTo}
 use Rattle.debugger.specs.declared.fault.DebugFault.{DebugFault}
 use Rattle.debugger.specs.declared.fault.DebugFault.TheVariants.{NoMemory, ReadFailed, WriteFailed}
 
@@ -20,6 +22,12 @@ same-replies terms symbols d [] = refl
 same-replies terms symbols d (line ∷ more) =
     let r = line_reply symbols d line in
     ap (λ (t : List ℕ). cond (ends (parsed_line symbols line)) [] (r.text ++ t)) (same-replies terms symbols r.desk more)
+
+same-desk : (terms : Terms) (symbols : SymbolTable) (d : Desk) (lines : List (List ℕ)) → last_desk terms (reading manner.Plain symbols) d lines ≡ desk_at_end symbols d lines
+unfolding reading extended_reply line_reply
+same-desk terms symbols d [] = refl
+same-desk terms symbols d (line ∷ more) =
+    ap (λ (e : Desk). cond (ends (parsed_line symbols line)) d e) (same-desk terms symbols (line_reply symbols d line).desk more)
 
 thrice : (symbols : SymbolTable) (lines : List (List ℕ)) → efforts (reading manner.Plain symbols) lines ≡ 3 * length lines
 unfolding reading
@@ -39,22 +47,32 @@ plain-efforts symbols lines = ap (efforts (reading manner.Plain symbols)) (same-
 abbrev plain : Setting → Talk
 plain s = record { may_refuse = s.may_refuse; symbols = s.symbols; source = no_source; read = reading manner.Plain s.symbols; most = most_command_bytes; scenario = s.scenario }
 
-writes : (s : Setting) (lines : List (List ℕ)) (old new : List ℕ) → WritesTalk (plain s) lines old new → WritesReplies s lines old new
-writes s lines old new w = record {
-  answers = w.answers;
-  additions = w.additions;
-  granted = w.granted;
-  written = w.written ∙ ap (λ (t : List ℕ). old ++ t) (same-replies (terms_of s.symbols no_source s.scenario) s.symbols (first_desk s.scenario w.answers w.additions) lines);
-}
+writes : (s : Setting) (lines : List (List ℕ)) (old new : List ℕ) (left : SessionView) → WritesTo (plain s) lines old new left
+    → (w : WritesReplies s lines old new) × StandsAt (replies_lead_to s w.answers w.additions lines) left
+writes s lines old new left (w, at) =
+    let first = first_desk s.scenario w.answers w.additions in (
+      record {
+        answers = w.answers;
+        additions = w.additions;
+        granted = w.granted;
+        written = w.written ∙ ap (λ (t : List ℕ). old ++ t) (same-replies (terms_of s.symbols no_source s.scenario) s.symbols first lines);
+      },
+      rw (← same-desk (terms_of s.symbols no_source s.scenario) s.symbols first lines) at,
+    )
 
-pub debugs : (s : Setting) (commands : Commands) (old new : List ℕ) (result : Result (Unit {0}) DebugFault) → Talks (plain s) commands old new result → Debugs s commands old new result
+pub debugs : (s : Setting) (commands : Commands) (old new : List ℕ) (result : Result (Unit {0}) DebugFault) (left : SessionView) → TalksTo (plain s) commands old new result left → DebugsTo s commands old new result left
 unfolding command_lines lines_within
-debugs s commands old new (Ok x) w = writes s (command_lines commands.before) old new w
-debugs s commands old new (Err NoMemory) same = same
-debugs s commands old new (Err ReadFailed) e = record { bytes = e.bytes; read = e.read; replied = writes s (ended_lines e.bytes) old new e.replied }
-debugs s commands old new (Err WriteFailed) b = record {
-  answers = b.answers;
-  additions = b.additions;
-  granted = b.granted;
-  part = rw (← same-replies (terms_of s.symbols no_source s.scenario) s.symbols (first_desk s.scenario b.answers b.additions) (command_lines commands.before)) b.part;
-}
+debugs s commands old new (Ok x) left w = writes s (command_lines commands.before) old new left w
+debugs s commands old new (Err NoMemory) left same = same
+debugs s commands old new (Err ReadFailed) left (e, at) =
+    let w = writes s (ended_lines e.bytes) old new left (e.replied, at) in
+    (record { bytes = e.bytes; read = e.read; replied = w.0 }, w.1)
+debugs s commands old new (Err WriteFailed) left (b, at) = (
+  record {
+    answers = b.answers;
+    additions = b.additions;
+    granted = b.granted;
+    part = rw (← same-replies (terms_of s.symbols no_source s.scenario) s.symbols (first_desk s.scenario b.answers b.additions) (command_lines commands.before)) b.part;
+  },
+  tt,
+)

@@ -1,14 +1,21 @@
 -- Routines, and steps to where they return to, by the definitions alone.
-use Rattle.std.proofs.Common.{◌≡◌, ℕ, Bool, true, false, List, [], ◌∷◌, ◌++◌, Some, None, map, ap, ◌∙◌, refl}
+use Rattle.std.proofs.Common.{◌≡◌, ℕ, ◌+◌, ◌%◌, Bool, true, false, ◌&&◌, List, [], ◌∷◌, ◌++◌, Option, Some, None, map, ap, ◌∙◌, refl, if◌then◌else◌}
+use Rattle.std.specs.FinSet as set
 use Rattle.std.specs.Prelude.{codes}
 use Rattle.std.specs.Fmt.{digits}
 use Rattle.words.specs.Numerals.{octal_text}
+use Rattle.space.specs.declared.place.Linear.{Linear}
 use Rattle.space.specs.declared.place.Linear.TheVariants.{Erasable, Fixed}
 use Rattle.space.specs.Places.{place, window}
 use Rattle.yayul.specs.Listing.{place_text}
 use Rattle.cpu.specs.ChannelLines.{channel_lines}
 use Rattle.cpu.specs.Codes.{code_of, basic_rows, extracode_rows}
+use Rattle.cpu.specs.State.{State}
+use Rattle.cpu.specs.Effects.{place_in}
 use Rattle.cpu.specs.declared.next_step.Fetched.{Fetched}
+use Rattle.cpu.specs.declared.next_step.NextStep.TheVariants.{Executes}
+use Rattle.cpu.proofs.Holding.{get-holding}
+use Rattle.cpu.proofs.Held.{Held, state, place_held, place_in-held}
 use Rattle.cpu.proofs.FiveRun.{five}
 use Rattle.commands.specs.declared.command.Breakpoint.{Breakpoint}
 use Rattle.commands.specs.declared.command.Breakpoint.TheVariants.{Returned, Outside, Cycles}
@@ -17,7 +24,7 @@ use Rattle.debugger.specs.Growth.{grow, lowest_hit}
 use Rattle.debugger.specs.Replies.{Desk, at_line}
 use Rattle.debugger.specs.Transcript.{first_desk}
 use Rattle.debugger.specs.ExtendedReplies.{further}
-use Rattle.debugger.specs.Routines.{is_tc, leads_on, without, with_routine, innermost, goes_to}
+use Rattle.debugger.specs.Routines.{is_tc, leads_on, entered_by, without, with_routine, innermost, goes_to}
 use Rattle.debugger.proofs.Scripts.{ended}
 use Rattle.debugger.proofs.FiveRows.{history-five}
 
@@ -36,6 +43,39 @@ under_extracode = refl
 -- to another place of fixed memory, and not by a word in Q or in erasable memory
 leads : leads_on (Fixed 2 0o10) (Fixed 3 0o10) ∷ leads_on (Fixed 2 0o10) (Fixed 2 0o10) ∷ leads_on (Fixed 2 0o10) (Erasable 2) ∷ leads_on (Erasable 2) (Fixed 2 0o10) ∷ [] ≡ true ∷ false ∷ false ∷ false ∷ []
 leads = refl
+
+-- TC whose word waits, as after RESUME, stood in the place before the one where Z leads, here 4001: to itself, to 4002 and 4005,
+-- and by Q
+abbrev waiting_cells : List (ℕ × ℕ)
+waiting_cells = (5, 0o4002) ∷ []
+
+abbrev held_there : Held
+held_there = record { cells = waiting_cells; extra = false; requests = set.empty; taken = 0; counts = []; cycles = 0 }
+
+abbrev waiting : ℕ → State
+waiting word = record (state held_there) { waiting_word = Some word }
+
+abbrev as_waited : ℕ → Fetched
+as_waited word = record { place = Fixed 2 2; word = word; extra = false; waited = true; added = None }
+
+abbrev by_waiting : ℕ → Option Linear
+by_waiting word = entered_by (waiting word) (Executes (as_waited word))
+
+abbrev between : ℕ → Linear → Linear → Linear → Option Linear
+between word from to back = if is_tc (as_waited word) && leads_on from to then Some back else None
+
+leads_there : (word k : ℕ) → place_in (waiting word) k ≡ place_held held_there k
+unfolding place_in
+leads_there word k = place_in-held held_there k
+
+from_before : (word : ℕ) → by_waiting word ≡ between word (place_held held_there 0o4001) (place_held held_there (word % 0o10000)) (place_held held_there 0o4002)
+from_before word =
+    ap (λ z. between word (place_in (waiting word) ((z + 0o7777) % 0o10000)) (place_in (waiting word) (word % 0o10000)) (place_in (waiting word) z)) (get-holding waiting_cells 5)
+    ∙ (λ i. between word (leads_there word 0o4001 i) (leads_there word (word % 0o10000) i) (leads_there word 0o4002 i))
+
+waited : by_waiting 0o4001 ∷ by_waiting 0o4002 ∷ by_waiting 0o4005 ∷ by_waiting 2 ∷ [] ≡ None ∷ Some (Fixed 2 2) ∷ Some (Fixed 2 2) ∷ None ∷ []
+unfolding code_of basic_rows place window
+waited = (λ i. from_before 0o4001 i ∷ from_before 0o4002 i ∷ from_before 0o4005 i ∷ from_before 2 i ∷ []) ∙ refl
 
 -- a routine that returns is over with all that it entered; one that is entered again is in progress once
 left : without (Fixed 2 0o20) (Fixed 2 0o10 ∷ Fixed 2 0o20 ∷ Erasable 0o101 ∷ []) ≡ Fixed 2 0o10 ∷ []

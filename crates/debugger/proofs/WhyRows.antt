@@ -22,7 +22,7 @@ use Rattle.rope.specs.Places.{Words, word_at}
 use Rattle.symbols.specs.declared.values.Value.TheVariants as value
 use Rattle.trace.specs.TraceLines.{symbol_at}
 use Rattle.yayul.specs.Listing.{place_text}
-use Rattle.debugger.specs.Whys.{entered_mark, mark_by, by_line, cells_part, reads_part, added_by, operand_spots, index_by}
+use Rattle.debugger.specs.Whys.{entered_mark, mark_by, by_line, reads_part, added_by, operand_spots, index_by}
 
 -- the interrupts of a run: step 18 enters one, which RESUME leaves as step 21, and step 30 another, which is served still
 abbrev inside : ℕ → Bool

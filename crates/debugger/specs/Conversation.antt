@@ -19,7 +19,8 @@ use Rattle.debugger.specs.Replies.{Desk, Reply}
 use Rattle.debugger.specs.Terms.{Terms, terms_of}
 use Rattle.debugger.specs.ExtendedReplies.{extended_reply}
 use Rattle.debugger.specs.Transcript.{ends, first_desk, most_command_bytes}
-use Rattle.debugger.specs.Sessions.{AllGranted, Commands}
+use Rattle.replay.specs.View.{SessionView}
+use Rattle.debugger.specs.Sessions.{AllGranted, Commands, StandsAt}
 use Rattle.debugger.specs.declared.fault.DebugFault.{DebugFault}
 use Rattle.debugger.specs.declared.fault.DebugFault.TheVariants.{NoMemory, ReadFailed, WriteFailed}
 
@@ -83,6 +84,13 @@ conversation terms read d (line ∷ more) =
     if is_end (read line) then []
     else (let r = to_asked terms (read line) d in r.text ++ conversation terms read r.desk more)
 
+-- where they lead to
+abbrev pub last_desk : Terms → Reading → Desk → List (List ℕ) → Desk
+last_desk terms read d [] = d
+last_desk terms read d (line ∷ more) =
+    if is_end (read line) then d
+    else last_desk terms read (to_asked terms (read line) d).desk more
+
 -- the lines that are read: those up to the end
 unfoldable pub lines_heard : Reading → List (List ℕ) → List (List ℕ)
 lines_heard read [] = []
@@ -119,6 +127,10 @@ pub record Talk : Type 0 where
 abbrev pub talk_in : Talk → List Bool → List (Option ℕ) → List (List ℕ) → List ℕ
 talk_in s answers additions lines = conversation (terms_of s.symbols s.source s.scenario) s.read (first_desk s.scenario answers additions) lines
 
+-- and where they lead to
+abbrev pub talk_leads_to : Talk → List Bool → List (Option ℕ) → List (List ℕ) → Desk
+talk_leads_to s answers additions lines = last_desk (terms_of s.symbols s.source s.scenario) s.read (first_desk s.scenario answers additions) lines
+
 -- the replies to lines were written, under some answers; where the keeper may not refuse, no call that makes a step was
 -- refused for memory
 pub record WritesTalk (s : Talk) (lines : List (List ℕ)) (old new : List ℕ) : Type 0 where
@@ -147,3 +159,15 @@ Talks s commands old new (Ok x) = WritesTalk s (lines_within s.most commands.bef
 Talks s commands old new (Err NoMemory) = new ≡ old
 Talks s commands old new (Err ReadFailed) = EndsTalk s commands old new
 Talks s commands old new (Err WriteFailed) = BeginsTalk s (lines_within s.most commands.before) old new
+
+-- the session that is left, under the answers by which the replies were written: it stands where its lines lead to; at the start
+-- where memory ran out; after a failed read where the whole lines before lead to. After a failed write nothing is said of it here
+abbrev pub LeavesTalk : (s : Talk) (commands : Commands) (old new : List ℕ) (result : Result (Unit {0}) DebugFault) → SessionView → Talks s commands old new result → Type 0
+LeavesTalk s commands old new (Ok x) left w = StandsAt (talk_leads_to s w.answers w.additions (lines_within s.most commands.before)) left
+LeavesTalk s commands old new (Err NoMemory) left same = StandsAt (first_desk s.scenario [] []) left
+LeavesTalk s commands old new (Err ReadFailed) left e = StandsAt (talk_leads_to s e.replied.answers e.replied.additions (ended_lines e.bytes)) left
+LeavesTalk s commands old new (Err WriteFailed) left b = Unit {0}
+
+-- both
+abbrev pub TalksTo : Talk → Commands → List ℕ → List ℕ → Result (Unit {0}) DebugFault → SessionView → Type 0
+TalksTo s commands old new result left = (w : Talks s commands old new result) × LeavesTalk s commands old new result left w

@@ -4,6 +4,7 @@ pub mod Growth
 pub mod Stopping
 pub mod Replies
 pub mod Positions
+pub mod Waiting
 pub mod Whys
 pub mod ToldLinks
 pub mod Moved

@@ -20,6 +20,7 @@ use Rattle.commands.specs.declared.command.Breakpoint.TheVariants.{Cycles, Retur
 use Rattle.replay.specs.LastHit.{first_hit}
 use Rattle.debugger.specs.History.{History}
 use Rattle.debugger.specs.Growth.{grow, holds}
+use Rattle.debugger.specs.Waiting.{standing_place}
 use Rattle.debugger.specs.Replies.{Desk, Reply, line, here, stands, refuses, last_of, after_text, after_growth}
 use Rattle.debugger.specs.declared.ending.Ending.{Ending}
 use Rattle.debugger.specs.declared.ending.Ending.TheVariants.{Reached, Hit, NoMemory, Limit}
@@ -39,7 +40,7 @@ abbrev pub leads_on : Linear → Linear → Bool
 leads_on from to = is_fixed from && is_fixed to && not (same_place to from)
 
 abbrev pub is_call : State → Fetched → Bool
-is_call s f = is_tc f && leads_on f.place (place_in s (f.word % 0o10000))
+is_call s f = is_tc f && leads_on (standing_place s) (place_in s (f.word % 0o10000))
 
 -- where Z leads once an instruction is fetched: a routine that it enters returns there
 abbrev pub address_after : State → ℕ

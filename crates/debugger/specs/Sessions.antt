@@ -4,7 +4,9 @@ use Rattle.agc_text.specs.Lines.{ended_lines}
 use Rattle.words.specs.Devices.{WritesBeginning}
 use Rattle.cpu.specs.State.{Scenario}
 use Rattle.symbols.specs.Values.{SymbolTable}
-use Rattle.debugger.specs.Transcript.{replies, first_desk, command_lines}
+use Rattle.replay.specs.View.{SessionView}
+use Rattle.debugger.specs.Replies.{Desk}
+use Rattle.debugger.specs.Transcript.{replies, first_desk, desk_at_end, command_lines}
 use Rattle.debugger.specs.declared.fault.DebugFault.{DebugFault}
 use Rattle.debugger.specs.declared.fault.DebugFault.TheVariants.{NoMemory, ReadFailed, WriteFailed}
 
@@ -22,6 +24,15 @@ pub record Setting : Type 0 where
 -- the replies to lines, where the calls that make steps and those that add inputs are answered so
 abbrev pub replies_in : Setting → List Bool → List (Option ℕ) → List (List ℕ) → List ℕ
 replies_in s answers additions lines = replies s.symbols (first_desk s.scenario answers additions) lines
+
+-- and where they lead to
+abbrev pub replies_lead_to : Setting → List Bool → List (Option ℕ) → List (List ℕ) → Desk
+replies_lead_to s answers additions lines = desk_at_end s.symbols (first_desk s.scenario answers additions) lines
+
+-- a session stands there: it runs what runs there, and has made as many steps
+pub record StandsAt (d : Desk) (left : SessionView) : Type 0 where
+  pub scenario : left.scenario ≡ d.scenario
+  pub steps : left.n ≡ d.steps
 
 -- the replies to lines were written, under some answers; where the keeper may not refuse, no call that makes a step was
 -- refused for memory
@@ -56,6 +67,18 @@ Debugs s commands old new (Ok x) = WritesReplies s (command_lines commands.befor
 Debugs s commands old new (Err NoMemory) = new ≡ old
 Debugs s commands old new (Err ReadFailed) = EndsReading s commands old new
 Debugs s commands old new (Err WriteFailed) = BeginsReplies s (command_lines commands.before) old new
+
+-- the session that is left, under the answers by which the replies were written: it stands where its lines lead to; at the start
+-- where memory ran out; after a failed read where the whole lines before lead to. After a failed write nothing is said of it here
+abbrev pub Leaves : (s : Setting) (commands : Commands) (old new : List ℕ) (result : Result (Unit {0}) DebugFault) → SessionView → Debugs s commands old new result → Type 0
+Leaves s commands old new (Ok x) left w = StandsAt (replies_lead_to s w.answers w.additions (command_lines commands.before)) left
+Leaves s commands old new (Err NoMemory) left same = StandsAt (first_desk s.scenario [] []) left
+Leaves s commands old new (Err ReadFailed) left e = StandsAt (replies_lead_to s e.replied.answers e.replied.additions (ended_lines e.bytes)) left
+Leaves s commands old new (Err WriteFailed) left b = Unit {0}
+
+-- both
+abbrev pub DebugsTo : Setting → Commands → List ℕ → List ℕ → Result (Unit {0}) DebugFault → SessionView → Type 0
+DebugsTo s commands old new result left = (w : Debugs s commands old new result) × Leaves s commands old new result left w
 
 -- the fault of a failed read, and that of a failed write
 abbrev pub has_read_failed : {T : Type 0} → Result T DebugFault → Bool

@@ -1,5 +1,5 @@
 -- Where the next instruction stands; symbols by the beginnings of their names; and words one after another.
-use Rattle.std.specs.Prelude.{ℕ, zero, suc, ◌+◌, ◌-◌, Bool, List, [], ◌∷◌, ◌++◌, length, take, min, Option, None, Some, codes, decimal, if◌then◌else◌}
+use Rattle.std.specs.Prelude.{ℕ, zero, suc, ◌+◌, ◌-◌, Bool, List, [], ◌∷◌, ◌++◌, length, take, min, Option, None, Some, is_some, codes, decimal, if◌then◌else◌}
 use Rattle.std.specs.List.{flat_map, range_with_len}
 use Rattle.std.specs.Option.{option_map, option_or}
 use Rattle.agc_text.specs.Tables.{same_name}
@@ -12,13 +12,14 @@ use Rattle.symbols.specs.Values.{SymbolTable, value_text}
 use Rattle.yayul.specs.Listing.{place_text}
 use Rattle.yayul.specs.Program.{Source}
 use Rattle.cpu.specs.State.{State, Scenario}
-use Rattle.cpu.specs.Effects.{next_address, place_in}
+use Rattle.cpu.specs.Next.{instruction_word}
 use Rattle.cpu.specs.Run.{run}
-use Rattle.trace.specs.TraceLines.{symbol_at, short_octal}
+use Rattle.trace.specs.TraceLines.{symbol_at, short_octal, word_text}
 use Rattle.debugger.specs.declared.rows.RowKind.{RowKind}
 use Rattle.debugger.specs.History.{Sight, History, history, sight}
 use Rattle.debugger.specs.Replies.{line, memory_word}
 use Rattle.debugger.specs.Rows.{list_row, row_text}
+use Rattle.debugger.specs.Waiting.{standing_place}
 use Rattle.debugger.specs.Whys.{kind_part, last_outside}
 
 -- how many places stand before a place, in its bank or in erasable memory; and the place so many before it
@@ -47,9 +48,19 @@ abbrev pub nearest_text : Option (List ℕ × ℕ) → List ℕ
 nearest_text None = []
 nearest_text (Some symbol) = codes " " ++ symbol.0 ++ distance_text symbol.1
 
--- the line of the next instruction's place: as a listing has it, and by a symbol
-abbrev pub where_line : SymbolTable → State → List ℕ
-where_line symbols s = let place = place_in s (next_address s) in line (codes "WHERE " ++ place_text place ++ nearest_text (nearest_symbol symbols place))
+-- the line of a place: as a listing has it, and by a symbol
+abbrev pub place_line : SymbolTable → Linear → List ℕ
+place_line symbols place = line (codes "WHERE " ++ place_text place ++ nearest_text (nearest_symbol symbols place))
+
+-- the line of a word that waits in BRUPT, with the instruction that it is
+abbrev pub waiting_line : SymbolTable → Words → State → List ℕ
+waiting_line symbols rope s =
+    let word = instruction_word rope s in
+    line (codes "WHERE BRUPT " ++ octal_text 5 word ++ codes " " ++ word_text symbols s s.extra word)
+
+-- the line of the next instruction
+abbrev pub where_line : SymbolTable → Words → State → List ℕ
+where_line symbols rope s = if is_some s.waiting_word then waiting_line symbols rope s else place_line symbols (standing_place s)
 
 -- the line of the interrupt that is served, and of the step that entered it: the one after that step
 abbrev pub entered_line : SymbolTable → Scenario → ℕ → List ℕ
@@ -62,13 +73,13 @@ entered_text symbols scenario (Some t) = entered_line symbols scenario t
 abbrev pub inside_text : SymbolTable → Scenario → ℕ → List ℕ
 inside_text symbols scenario p = if (run scenario p).inside then entered_text symbols scenario (last_outside scenario p) else []
 
--- the row of the next instruction's place
+-- the row of the place where the next instruction stands, or stood before it waited
 abbrev pub next_row : SymbolTable → Source → Scenario → State → List ℕ
-next_row symbols source scenario s = list_row symbols source scenario.rope (history scenario) (sight scenario.rope s) (place_in s (next_address s))
+next_row symbols source scenario s = list_row symbols source scenario.rope (history scenario) (sight scenario.rope s) (standing_place s)
 
 -- both
 abbrev pub standing_text : SymbolTable → Source → Scenario → State → List ℕ
-standing_text symbols source scenario s = where_line symbols s ++ next_row symbols source scenario s
+standing_text symbols source scenario s = where_line symbols scenario.rope s ++ next_row symbols source scenario s
 
 -- where the next instruction stands after p steps, and the interrupt that is served, if any
 unfoldable pub where_text : SymbolTable → Source → Scenario → ℕ → List ℕ

@@ -30,6 +30,13 @@ replies symbols d (line ∷ more) =
     if ends (parsed_line symbols line) then []
     else (let r = line_reply symbols d line in r.text ++ replies symbols r.desk more)
 
+-- where they lead to
+abbrev pub desk_at_end : SymbolTable → Desk → List (List ℕ) → Desk
+desk_at_end symbols d [] = d
+desk_at_end symbols d (line ∷ more) =
+    if ends (parsed_line symbols line) then d
+    else desk_at_end symbols (line_reply symbols d line).desk more
+
 -- where a session begins
 abbrev pub first_desk : Scenario → List Bool → List (Option ℕ) → Desk
 first_desk scenario answers additions =

@@ -5,6 +5,7 @@ ghost use Rattle.std.specs.List.{position_or_len};
 ghost use Rattle.space.specs.Places.{same_place};
 ghost use Rattle.cpu.specs.State.{FitsRun};
 ghost use Rattle.cpu.specs.Effects.{place_in};
+ghost use Rattle.debugger.specs.Waiting.{standing_place};
 ghost use Rattle.debugger.specs.Routines.{is_tc, is_fixed, leads_on, is_call, return_place, entered_by, enters, without, with_routine, innermost, stepped};
 
 use arrayvec::ArrayVec;
@@ -143,7 +144,7 @@ fn is_call(machine: &Machine, fetched: &Fetched) -> bool
     ensures { result ≡ is_call machine.now fetched.now }
 {
     let to = place_at(machine, Addr12::of_low_bits(fetched.word.to_u16()));
-    is_tc(fetched) && leads_on(&fetched.place, &to)
+    is_tc(fetched) && leads_on(&standing_place(machine), &to)
 }
 
 /// Whether an instruction is TC.
@@ -167,6 +168,17 @@ fn is_fixed(place: &Linear) -> bool
     match place {
         Linear::Erasable(_) => false,
         Linear::Fixed(..) => true,
+    }
+}
+
+/// Where the next instruction stands, or stood before it waited.
+pub(crate) fn standing_place(machine: &Machine) -> Linear
+    ensures { result ≡ standing_place machine.now }
+{
+    let next = machine.store().next_address();
+    match machine.waiting_word() {
+        Some(_) => place_at(machine, Addr12::of_low_bits(next.number() + 0o7777)),
+        None => place_at(machine, next),
     }
 }
 

@@ -1,13 +1,13 @@
 //! A session of commands.
 
-ghost use Rattle.std.specs.Prelude.{List, ℕ, ◌≡◌, ◌+◌, ◌*◌, ◌≤◌, true, length, OnOk, if◌then◌else◌};
+ghost use Rattle.std.specs.Prelude.{List, ℕ, ◌≡◌, ◌+◌, ◌*◌, ◌≤◌, true, length, if◌then◌else◌};
 ghost use Rattle.words.specs.Devices.{one_more};
 ghost use Rattle.words.specs.Readings.{TakesAtMost};
 ghost use Rattle.debugger.specs.Transcript.{command_lines, lines_read, most_command_bytes};
 ghost use Rattle.commands.specs.Lines.{kept_line};
 ghost use Rattle.commands.specs.Extended.{extended_line};
-ghost use Rattle.debugger.specs.Conversation.{Talks, efforts, reading, is_end, lines_heard, lines_within, most_bytes, most_extended_bytes};
-ghost use Rattle.debugger.specs.Sessions.{Debugs, has_read_failed, has_write_failed};
+ghost use Rattle.debugger.specs.Conversation.{TalksTo, efforts, reading, is_end, lines_heard, lines_within, most_bytes, most_extended_bytes};
+ghost use Rattle.debugger.specs.Sessions.{DebugsTo, has_read_failed, has_write_failed};
 
 use crate::desk::Desk;
 use crate::fault::DebugFault;
@@ -44,11 +44,11 @@ pub fn debug_session<K: Keeper, R: Read, W: Write>(
 ) -> Result<(), DebugFault>
     requires { session.old.n ≡ 0 }
     ensures answer { R.told ≡ true → W.told ≡ true →
-        Debugs (record { may_refuse = K.may_refuse; symbols = symbols.now; scenario = session.old.scenario }) (record { before = R.left commands.old; left = R.left commands.new }) (W.written out.old) (W.written out.new) result }
+        DebugsTo (record { may_refuse = K.may_refuse; symbols = symbols.now; scenario = session.old.scenario }) (record { before = R.left commands.old; left = R.left commands.new }) (W.written out.old) (W.written out.new) result session.new }
 
     // For each line that is read at most three times as many steps are executed as there are, besides those that are made.
-    ensures cost { R.told ≡ true → OnOk result
-        (session.new.meter ≤ session.old.meter + (3 * length (lines_read symbols.now (command_lines (R.left commands.old))) + 1) * session.new.n) }
+    ensures cost { R.told ≡ true →
+        session.new.meter ≤ session.old.meter + (3 * length (lines_read symbols.now (command_lines (R.left commands.old))) + 1) * session.new.n }
 
     // E6 only where the reader has failed, E7 only where the writer has.
     ensures reader { R.failures commands.new ≡ (if has_read_failed result then one_more (R.failures commands.old) else R.failures commands.old) }
@@ -73,12 +73,12 @@ pub fn extended_session<K: Keeper, R: Read, W: Write>(
 ) -> Result<(), DebugFault>
     requires { session.old.n ≡ 0 }
     ensures answer { R.told ≡ true → W.told ≡ true →
-        Talks (record { may_refuse = K.may_refuse; symbols = symbols.now; source = rows.now; read = extended_line symbols.now; most = most_extended_bytes; scenario = session.old.scenario }) (record { before = R.left commands.old; left = R.left commands.new }) (W.written out.old) (W.written out.new) result }
+        TalksTo (record { may_refuse = K.may_refuse; symbols = symbols.now; source = rows.now; read = extended_line symbols.now; most = most_extended_bytes; scenario = session.old.scenario }) (record { before = R.left commands.old; left = R.left commands.new }) (W.written out.old) (W.written out.new) result session.new }
 
     // For each line that is read at most so many times the steps that there are are executed, besides those that are made: three
     // times, for `where` and `out` four times, and for `why` six times a link, with `index` nine, and once for its last search.
-    ensures cost { R.told ≡ true → OnOk result
-        (session.new.meter ≤ session.old.meter + (efforts (extended_line symbols.now) (lines_heard (extended_line symbols.now) (lines_within most_extended_bytes (R.left commands.old))) + 1) * session.new.n) }
+    ensures cost { R.told ≡ true →
+        session.new.meter ≤ session.old.meter + (efforts (extended_line symbols.now) (lines_heard (extended_line symbols.now) (lines_within most_extended_bytes (R.left commands.old))) + 1) * session.new.n }
 
     // E6 only where the reader has failed, E7 only where the writer has.
     ensures reader { R.failures commands.new ≡ (if has_read_failed result then one_more (R.failures commands.old) else R.failures commands.old) }
@@ -110,9 +110,9 @@ fn converse<K: Keeper, R: Read, W: Write>(
 ) -> Result<(), DebugFault>
     requires { session.old.n ≡ 0 }
     ensures answer { R.told ≡ true → W.told ≡ true →
-        Talks (record { may_refuse = K.may_refuse; symbols = symbols.now; source = rows.now; read = reading manner symbols.now; most = most_bytes manner; scenario = session.old.scenario }) (record { before = R.left commands.old; left = R.left commands.new }) (W.written out.old) (W.written out.new) result }
-    ensures cost { R.told ≡ true → OnOk result
-        (session.new.meter ≤ session.old.meter + (efforts (reading manner symbols.now) (lines_heard (reading manner symbols.now) (lines_within (most_bytes manner) (R.left commands.old))) + 1) * session.new.n) }
+        TalksTo (record { may_refuse = K.may_refuse; symbols = symbols.now; source = rows.now; read = reading manner symbols.now; most = most_bytes manner; scenario = session.old.scenario }) (record { before = R.left commands.old; left = R.left commands.new }) (W.written out.old) (W.written out.new) result session.new }
+    ensures cost { R.told ≡ true →
+        session.new.meter ≤ session.old.meter + (efforts (reading manner symbols.now) (lines_heard (reading manner symbols.now) (lines_within (most_bytes manner) (R.left commands.old))) + 1) * session.new.n }
     ensures reader { R.failures commands.new ≡ (if has_read_failed result then one_more (R.failures commands.old) else R.failures commands.old) }
     ensures writer { W.failures out.new ≡ (if has_write_failed result then one_more (W.failures out.old) else W.failures out.old) }
     ensures read { R.told ≡ true → TakesAtMost (most_bytes manner) (R.left commands.old) (R.left commands.new) }

@@ -8,21 +8,22 @@ ghost use Rattle.trace.specs.TraceLines.{octal_digits};
 ghost use Rattle.debugger.specs.History.{history, sight};
 ghost use Rattle.debugger.specs.Replies.{memory_word};
 ghost use Rattle.debugger.specs.Whys.{kind_part, last_outside};
-ghost use Rattle.debugger.specs.Standing.{places_before, place_before, nearest_symbol, distance_text, nearest_text, where_line, entered_line, entered_text, inside_text, where_text, begins_with, found_line, found_text, places_from, place_after, word_there, words_from, words_text, standing_text, rows_text};
+ghost use Rattle.debugger.specs.Standing.{places_before, place_before, nearest_symbol, distance_text, nearest_text, place_line, waiting_line, where_line, entered_line, entered_text, inside_text, where_text, begins_with, found_line, found_text, places_from, place_after, word_there, words_from, words_text, standing_text, rows_text};
 ghost use Rattle.debugger.specs.Executions.{HasLooked};
 
 use crate::desk::Desk;
 use crate::link_texts::{Piece, kind_part};
+use crate::routines::standing_place;
 use crate::rows::{RowKind, write_list_row, write_row};
 use crate::short::word_at;
 use crate::texts::{Text, number_line};
 use arrayvec::ArrayVec;
-use cpu::{Machine, Processor};
+use cpu::{Fetched, Machine, Processor};
 use replay::{Keeper, Session};
 use space::place::Linear;
 use space::{Eras, Offset};
 use symbols::{Symbols, Value, value_text};
-use trace::{Names, place_text};
+use trace::{Names, fetched_text, place_text};
 use words::{Write, WriteFailed, push_all, push_decimal, push_octal, write_all};
 use yayul::SourceRows;
 
@@ -150,15 +151,9 @@ fn write_standing<W: Write>(
     ensures writes { W.told ≡ true → Writes (W.written out.old) (W.written out.new) (standing_text symbols.now rows.now processor.now.scenario machine.now) result }
     ensures failures { W.failures out.new ≡ failures_after (W.failures out.old) result }
 {
-    write_all(out, where_line(symbols, machine).as_slice())?;
-    write_list_row(
-        symbols,
-        rows,
-        machine,
-        processor,
-        &machine.next_place(),
-        out,
-    )
+    let place = standing_place(machine);
+    write_all(out, where_line(symbols, processor, machine).as_slice())?;
+    write_list_row(symbols, rows, machine, processor, &place, out)
 }
 
 /// Writes the rows of so many places from one on.
@@ -215,15 +210,46 @@ fn kind_at<K: Keeper>(session: &mut Session<K>, symbols: &Symbols, step: u64) ->
     }
 }
 
-/// The line of the next instruction's place.
-fn where_line(symbols: &Symbols, machine: &Machine) -> Text
-    ensures items { result.items ≡ where_line symbols.now machine.now }
-    ensures short { array_vec_len result ≤ 40 }
+/// The line of the next instruction.
+fn where_line(symbols: &Symbols, processor: &Processor, machine: &Machine) -> Text
+    ensures { result.items ≡ where_line symbols.now processor.now.scenario.rope machine.now }
+{
+    match machine.waiting_word() {
+        Some(_) => waiting_line(symbols, processor, machine),
+        None => place_line(symbols, &machine.next_place()),
+    }
+}
+
+/// The line of a word that waits, with the instruction that it is.
+fn waiting_line(symbols: &Symbols, processor: &Processor, machine: &Machine) -> Text
+    ensures { result.items ≡ waiting_line symbols.now processor.now.scenario.rope machine.now }
+{
+    let (word, extra) = processor.next_word(machine);
+    let fetched = Fetched {
+        place: machine.next_place(),
+        word,
+        extra,
+        waited: true,
+        added: None,
+    };
+    let instruction = fetched_text(symbols, processor, machine, &fetched);
+    let mut text = ArrayVec::new();
+    push_all(&mut text, b"WHERE BRUPT ");
+    push_octal(&mut text, 5, word.to_u16());
+    push_all(&mut text, b" ");
+    push_all(&mut text, instruction.as_slice());
+    push_all(&mut text, b"\n");
+    text
+}
+
+/// The line of a place.
+fn place_line(symbols: &Symbols, place: &Linear) -> Text
+    ensures { result.items ≡ place_line symbols.now place.now }
 {
     let mut text = ArrayVec::new();
     push_all(&mut text, b"WHERE ");
-    push_all(&mut text, place_text(machine.next_place()).as_slice());
-    push_nearest(&mut text, symbols, &machine.next_place());
+    push_all(&mut text, place_text(*place).as_slice());
+    push_nearest(&mut text, symbols, place);
     push_all(&mut text, b"\n");
     text
 }

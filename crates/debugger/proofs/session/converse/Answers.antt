@@ -3,7 +3,7 @@ use Rattle.cpu.specs.Run.{outs}
 use Rattle.cpu.proofs.RunLaws.{outs-zero}
 use Rattle.debugger.specs.Replies.{last_of, tail_length}
 use Rattle.debugger.specs.Conversation.{reading, is_end, effort, efforts, lines_within, most_bytes}
-use Rattle.debugger.proofs.LineByLine.{taken-none, answered-none, taken-more, answered-more, writes-end, writes-quit, writes-read, writes-flush, writes-part, count-end, count-quit, efforts-push, cost-more, cost-same, reads-more, reads-none, takes-most}
+use Rattle.debugger.proofs.LineByLine.{taken-none, answered-none, taken-more, answered-more, answered-kept, writes-end, writes-quit, writes-read, writes-flush, writes-part, count-end, count-quit, count-before, count-line, efforts-push, cost-more, cost-same, cost-within, reads-more, reads-none, takes-most}
 use Rattle.debugger.proofs.session.converse.Goals as goal
 
 pub commands-init : goal.commands-init
@@ -20,7 +20,7 @@ pub returns-in-Err-ReadFailed-clause-answer : goal.returns-in-Err-ReadFailed-cla
 returns-in-Err-ReadFailed-clause-answer g c = λ rt wt.
     let t = c.commands.invariant.lines rt in
     let failed = c.in-Err-ReadFailed.ensures in
-    rw (failed.written wt) (writes-read _ _ _ _ _ _ _ _ t.0 (t.2 wt) _ failed.asked (failed.failed rt))
+    writes-read _ _ _ _ _ _ _ _ t.0 (answered-kept _ (t.2 wt) (failed.written wt)) _ (record { scenario = refl; steps = refl }) _ failed.asked (failed.failed rt)
 
 pub returns-in-Err-ReadFailed-clause-read : goal.returns-in-Err-ReadFailed-clause-read
 returns-in-Err-ReadFailed-clause-read g c = λ rt. takes-most _ _ _ _ (reads-more _ _ _ _ _ _ (c.commands.invariant.reads rt) (c.in-Err-ReadFailed.ensures.reads rt))
@@ -29,7 +29,7 @@ pub returns-in-Err-WriteFailed-clause-answer : goal.returns-in-Err-WriteFailed-c
 unfolding lines_within
 returns-in-Err-WriteFailed-clause-answer g c = λ rt wt.
     let t = c.commands.invariant.lines rt in
-    rw (c.in-Err-WriteFailed.ensures.written wt) (writes-flush _ _ _ _ _ _ _ _ t.0 (t.2 wt))
+    (writes-flush _ _ _ _ _ _ _ _ t.0 (answered-kept _ (t.2 wt) (c.in-Err-WriteFailed.ensures.written wt)), tt)
 
 pub returns-in-Err-WriteFailed-clause-read : goal.returns-in-Err-WriteFailed-clause-read
 returns-in-Err-WriteFailed-clause-read g c = λ rt. takes-most _ _ _ _ (reads-more _ _ _ _ _ _ (c.commands.invariant.reads rt) (c.in-Err-WriteFailed.ensures.reads rt))
@@ -39,7 +39,7 @@ unfolding lines_within
 returns-then-not-some-clause-answer g c = λ rt wt.
     let t = c.commands.invariant.lines rt in
     let s : c.in-Ok-next_line.some ≡ false = search rules in
-    rw (c.in-Ok-next_line.ensures.written wt) (writes-end _ _ _ _ _ _ _ _ t.0 (t.2 wt) (c.in-Ok-next_line.ensures.end rt (ap Ok s)))
+    writes-end _ _ _ _ _ _ _ _ t.0 (answered-kept _ (t.2 wt) (c.in-Ok-next_line.ensures.written wt)) _ (record { scenario = refl; steps = refl }) (c.in-Ok-next_line.ensures.end rt (ap Ok s))
 
 pub returns-then-not-some-clause-cost : goal.returns-then-not-some-clause-cost
 unfolding lines_within
@@ -59,7 +59,7 @@ returns-then-is_end-clause-answer g c = λ rt wt.
     let l = c.in-Ok-next_line.ensures.line rt (ap Ok s) in
     let asked = c.asked-request.ensures l.bytes l.kept_of in
     let quit : is_end (reading c.args.manner c.args.symbols.now l.bytes) ≡ true = ap is_end (sym asked) ∙ sym c.if-is_end.ensures in
-    rw (c.in-Ok-next_line.ensures.written wt) (writes-quit _ _ _ _ _ _ _ _ t.0 (t.2 wt) l.bytes _ _ l.taken quit)
+    writes-quit _ _ _ _ _ _ _ _ t.0 (answered-kept _ (t.2 wt) (c.in-Ok-next_line.ensures.written wt)) _ (record { scenario = refl; steps = refl }) l.bytes _ _ l.taken quit
 
 pub returns-then-is_end-clause-cost : goal.returns-then-is_end-clause-cost
 unfolding lines_within
@@ -82,7 +82,7 @@ returns-in-Err-answer_asked-clause-answer g c = λ rt wt.
     let l = c.in-Ok-next_line.ensures.line rt (ap Ok s) in
     let asked = c.asked-request.ensures l.bytes l.kept_of in
     let on : is_end (reading c.args.manner c.args.symbols.now l.bytes) ≡ false = ap is_end (sym asked) ∙ sym c.if-is_end.ensures in
-    writes-part _ _ _ _ _ _ _ _ t.0 (t.2 wt) l.bytes _ _ _ l.taken on (rw (asked, c.in-Ok-next_line.ensures.written wt, c.first_added-first.ensures) at (c.in-Err-answer_asked.ensures.executes wt))
+    (writes-part _ _ _ _ _ _ _ _ t.0 (t.2 wt) l.bytes _ _ _ l.taken on (rw (asked, c.in-Ok-next_line.ensures.written wt, c.first_added-first.ensures) at (c.in-Err-answer_asked.ensures.executes wt)), tt)
 
 pub returns-in-Err-answer_asked-clause-read : goal.returns-in-Err-answer_asked-clause-read
 returns-in-Err-answer_asked-clause-read g c = λ rt. takes-most _ _ _ _ (reads-more _ _ _ _ _ _ (c.commands.invariant.reads rt) (c.in-Ok-next_line.ensures.reads rt))
@@ -108,3 +108,25 @@ commands-preserved g c = record {
         λ wt. answered-more _ _ l.bytes (t.2 wt) on (rw (asked, c.in-Ok-next_line.ensures.written wt, c.first_added-first.ensures) at (c.in-Ok-answer_asked.ensures.executes wt)),
       );
 }
+
+pub returns-in-Err-ReadFailed-clause-cost : goal.returns-in-Err-ReadFailed-clause-cost
+unfolding lines_within
+returns-in-Err-ReadFailed-clause-cost g c = λ rt. let t = c.commands.invariant.lines rt in cost-within _ _ _ _ _ t.1 (count-before t.0)
+
+pub returns-in-Err-WriteFailed-clause-cost : goal.returns-in-Err-WriteFailed-clause-cost
+unfolding lines_within
+returns-in-Err-WriteFailed-clause-cost g c = λ rt. let t = c.commands.invariant.lines rt in cost-within _ _ _ _ _ t.1 (count-before t.0)
+
+pub returns-in-Err-answer_asked-clause-cost : goal.returns-in-Err-answer_asked-clause-cost
+unfolding lines_within
+returns-in-Err-answer_asked-clause-cost g c = λ rt.
+    let t = c.commands.invariant.lines rt in
+    let s : c.in-Ok-next_line.some ≡ true = search rules in
+    let l = c.in-Ok-next_line.ensures.line rt (ap Ok s) in
+    let asked = c.asked-request.ensures l.bytes l.kept_of in
+    let on : is_end (reading c.args.manner c.args.symbols.now l.bytes) ≡ false = ap is_end (sym asked) ∙ sym c.if-is_end.ensures in
+    let session = c.in-Err-answer_asked.ensures.session in
+    cost-within _ _ _ _ _ (cost-more _ _ _ _ _ _ _ t.1 session.forward (rw asked at session.cost)) (count-line t.0 l.bytes _ _ l.taken on)
+
+pub returns-in-Err-clause-answer : goal.returns-in-Err-clause-answer
+returns-in-Err-clause-answer g c = λ rt wt. (refl, record { scenario = refl; steps = c.requires })

@@ -18,10 +18,10 @@ returns-in_err-extended_session g c =
     let p = err_from_is_err_and c.from_residual-in_err-extended_session.result c.from_residual-in_err-extended_session.ensures.1 in
     let e = c.in_err-extended_session.ensures in
     rw (p.1, p.2) (debugs_listed c.args.origin c.in_ok-loaded.loaded c.in_ok-begun.begun c.in_ok-begun.rows _ _ _ c.in_ok-loaded.ensures c.in_ok-begun.ensures
-    (answers_extended c.in_ok-begun.rows c.in_ok-begun.begun _ _ (Err c.in_err-extended_session.field-0.0) e.answer e.reader e.writer e.read))
+    (answers_extended c.in_ok-begun.rows c.in_ok-begun.begun _ _ (Err c.in_err-extended_session.field-0.0) (λ rt wt. (e.answer rt wt).0) e.reader e.writer e.read))
 
 pub returns : goal.returns
 returns g c =
     let e = c.in_ok-extended_session.ensures in
     debugs_listed c.args.origin c.in_ok-loaded.loaded c.in_ok-begun.begun c.in_ok-begun.rows _ _ _ c.in_ok-loaded.ensures c.in_ok-begun.ensures
-    (answers_extended c.in_ok-begun.rows c.in_ok-begun.begun _ _ (Ok tt) e.answer e.reader e.writer e.read)
+    (answers_extended c.in_ok-begun.rows c.in_ok-begun.begun _ _ (Ok tt) (λ rt wt. (e.answer rt wt).0) e.reader e.writer e.read)
