@@ -126,7 +126,13 @@ impl Keeper for SlotKeeper {
 }
 
 /// Takes a keeper apart. No field is left out, so no machine stands beside its slots.
-fn all_fields(keeper: &SlotKeeper) -> (&Vec<Machine>, &ArrayVec<(u64, usize), 79>, &ArrayVec<usize, 79>) {
+fn all_fields(
+    keeper: &SlotKeeper,
+) -> (
+    &Vec<Machine>,
+    &ArrayVec<(u64, usize), 79>,
+    &ArrayVec<usize, 79>,
+) {
     let SlotKeeper {
         slots,
         entries,
