@@ -1,7 +1,7 @@
 """The record of wrong edits that were refused, gate/refused.json, and whose turn it is to be tried though it is on record.
 
 An edit is on record with a sum of all on which its refusal rests: the edit and harmless.edit, its crate's files, all that can be cited of the crates below
-(gate/passed.py), the toolchain's logic, and the files that judge (JUDGES). Where one of them changes, it is off the record, and is tried.
+(gate/passed.py), the toolchain's logic, and what judges (JUDGES, CHECKING, SUMMING). Where one of them changes, it is off the record, and is tried.
 The row says too when, at which commit and under which kit it was refused. What the record shows is that the prover refused this edit, as it stands, then and
 there; not that it does now. So each run tries the edits of one of ten groups of crates besides, by the day, and `./check --all` tries all and writes the record.
 A refusal under one kit counts under another one of the same logic. A proof never does: nothing is taken for proved by a record.
@@ -19,8 +19,10 @@ import toolchain
 
 FILE = "gate/refused.json"
 HERE = os.path.dirname(os.path.realpath(__file__))
-# What judges, beside the two functions of toolchain.py by which a crate with edits is checked.
-JUDGES = [f"{HERE}/{it}" for it in ("trial.py", "copies.py", "passed.py")]
+# What judges: two files, the functions by which a crate with edits is checked, and those by which texts are summed.
+JUDGES = [f"{HERE}/{it}" for it in ("trial.py", "copies.py")]
+CHECKING = (toolchain.checked, toolchain.has_stale)
+SUMMING = (passed.sum_of, passed.without_bodies, passed.Sums.texts_of, passed.Sums.stated, passed.Sums.refusal)
 # Groups of crates whose edits take about as long as each other's.
 TURNS = [
     ["workshop"],
@@ -45,8 +47,7 @@ def whose_turn(today=None):
 
 def judges():
     """Returns the texts of all that judges."""
-    functions = [inspect.getsource(it) for it in (toolchain.checked, toolchain.has_stale)]
-    return [*map(passed.content_of, JUDGES), *functions]
+    return [*map(passed.content_of, JUDGES), *map(inspect.getsource, CHECKING + SUMMING)]
 
 
 def sums_of(trial):

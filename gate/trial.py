@@ -1,6 +1,6 @@
 """Tries wrong edits of a crate, many in one check, and judges them by what the check says: the very function that each changes must be refused.
 
-This file judges, with copies.py and passed.py: a change of one of the three has every edit tried anew (gate/refusals.py), so nothing else stands in it.
+This file judges, with copies.py: a change of one of them has every edit tried anew (gate/refusals.py), so nothing else stands in them.
 
 An edit has the form of those in must-fail: 'file: src/lib.rt', and then pairs 'old: TEXT', 'new: TEXT', each TEXT once in that file.
 A check tries many edits. Where it can be, an edit stands in a copy of its function under another name, beside a copy of the function as it is, which has to be
