@@ -194,7 +194,7 @@ class Records(unittest.TestCase):
         given = mock.Mock(all=False, words=words, record=False)
         with contextlib.chdir(self.room), mock.patch.object(refusals, "TURNS", list(turns) or [[]]), mock.patch.dict(os.environ, GATE_TURN="0"):
             (crate,) = toolchain.crates_below(os.getcwd())
-            found = runner.Chosen(crate, set(), given)
+            found = runner.Chosen(crate, set(), given, runner.AtWork(1))
         return [it.name for it in found.to_try()], sorted(found.left), found.again
 
     def test_what_is_refused_is_on_record_and_nothing_else(self):
@@ -232,6 +232,14 @@ class Records(unittest.TestCase):
         for module, name in ((refusals, "judges"), (toolchain, "logic")):
             with mock.patch.object(module, name, lambda: "another"):
                 self.assertEqual(self.chosen()[1], [], name)
+
+    def test_the_last_crates_at_work_get_all_processors(self):
+        at_work = runner.AtWork(4)
+        with at_work, at_work:
+            self.assertEqual(at_work.jobs(), 2)
+            with at_work:
+                self.assertEqual(at_work.jobs(), 1)
+        self.assertEqual(at_work.jobs(), 4)
 
     def test_each_crate_with_edits_has_a_turn(self):
         root = os.path.dirname(os.path.dirname(RUNNER))

@@ -219,8 +219,8 @@ def edits_of(crate):
 class Trial:
     """The edits of a crate, and the folder in which its checks keep their work."""
 
-    def __init__(self, crate, names, kept):
-        self.crate, self.kept, self.checks = crate, kept, 0
+    def __init__(self, crate, names, kept, jobs=lambda: 1):
+        self.crate, self.kept, self.checks, self.jobs = crate, kept, 0, jobs
         self.pristine = {}
         for file in toolchain.files_of(crate.folder):
             with open(file, encoding="utf-8") as it:
@@ -264,7 +264,7 @@ class Trial:
         """Checks these functions, or all, with these texts in place of the crate's own. Returns what it says of each function, or else its first error."""
         self.checks += 1
         only = [] if OUTSIDE in functions else [f"--only={it.partition('::')[2]}" for it in sorted(functions)]
-        ran = toolchain.checked(self.crate, texts, ["--jobs", "1", *only], self.kept)
+        ran = toolchain.checked(self.crate, texts, ["--jobs", str(self.jobs()), *only], self.kept)
         lines = ran.stdout.rstrip("\n").split("\n")
         errors = [it for it in lines if toolchain.is_unread(it, texts)]
         if ran.returncode < 0:
