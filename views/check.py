@@ -20,6 +20,7 @@ EXAMPLES = f"{ROOT}/examples"
 # (`check` is that of examples/)
 sys.path[:1] = [EXAMPLES, f"{ROOT}/gate", VIEWS]
 import check as examples
+import check_dap as adapter
 import pipe
 from files import write
 from tally import end, is_built, told, tried
@@ -28,8 +29,8 @@ from terminal import CTRL_C, Terminal
 EMPTY = f"{EXAMPLES}/empty.feed"
 LOST = [f"{EXAMPLES}/lost_sum.agc", f"{EXAMPLES}/lost_sum.feed"]
 UNITS_PER_CYCLE = 1_171_875
-# What a part takes, at most, and that of the editor, which waits where a wrong program has no end.
-MOST_SECONDS, MOST_OF_EDITOR = 120, 40
+# What a part takes, at most, and each of those of the debug adapter, which wait where a wrong program has no end.
+MOST_SECONDS, MOST_OF_EDITOR = 120, 60
 
 
 def same(label, got, wanted):
@@ -255,161 +256,6 @@ def check_ctrl_c(room):
     pipe.answer("asm", loop, rope)
     shown = talk(["step 3", "list"], "--image", rope, EMPTY)
     same("an image", (shown[1][-1], len(shown[2])), (">       02,4003 14003  TCF 4003", 11))
-
-
-class Client:
-    """An editor that speaks the Debug Adapter Protocol."""
-
-    def __init__(self):
-        self.ran = subprocess.Popen([f"{VIEWS}/dap"], stdin=subprocess.PIPE, stdout=subprocess.PIPE)
-        self.number, self.events = 0, []
-
-    def message(self):
-        head = self.ran.stdout.readline(), self.ran.stdout.readline()
-        return json.loads(self.ran.stdout.read(int(head[0].split(b":")[1]))) if head[1] == b"\r\n" else None
-
-    def ask(self, command, **arguments):
-        """The body of the response to a request, or the words of its refusal."""
-        self.number += 1
-        text = json.dumps({"seq": self.number, "type": "request", "command": command, "arguments": arguments}).encode()
-        self.ran.stdin.write(b"Content-Length: %d\r\n\r\n%s" % (len(text), text))
-        self.ran.stdin.flush()
-        while message := self.message():
-            if message["type"] == "response":
-                is_right = (message["request_seq"], message["command"]) == (self.number, command)
-                return (message["body"] if message["success"] else message["message"]) if is_right else message
-            self.events.append(message)
-        return None
-
-    def until(self, name):
-        """The body of the next event of a name. Others are kept."""
-        while True:
-            for i, it in enumerate(self.events):
-                if it["event"] == name:
-                    return self.events.pop(i)["body"]
-            self.events.append(self.message())
-
-    def go(self, command, **arguments):
-        """A move: why it has ended, and the line and the name of what comes next."""
-        self.ask(command, threadId=1, **arguments)
-        return self.stop()
-
-    def stop(self):
-        reason = self.until("stopped")["reason"]
-        [frame] = self.ask("stackTrace", threadId=1)["stackFrames"]
-        return reason, frame["line"], frame["name"]
-
-    def launch(self, lines=(), **arguments):
-        """Launches a program with breakpoints on lines of it."""
-        told("what an adapter can do", self.ask("initialize", adapterID="agcws")["supportsStepBack"])
-        answer = self.ask("launch", **arguments)
-        if isinstance(answer, str):
-            return answer
-        self.until("initialized")
-        verified = self.ask("setBreakpoints", source={"path": arguments["program"]}, breakpoints=[{"line": it} for it in lines])["breakpoints"]
-        self.ask("configurationDone")
-        return [it.get("line") for it in verified]
-
-    def words(self, reference):
-        """Variables and the words that they are."""
-        return {it["name"]: it["value"].split(" ")[0] for it in self.ask("variables", variablesReference=reference)["variables"]}
-
-    def evaluate(self, text, context="repl"):
-        answer = self.ask("evaluate", expression=text, context=context)
-        return answer if isinstance(answer, str) else answer["result"]
-
-    def end(self):
-        answer = self.ask("disconnect")
-        self.ran.stdin.close()
-        rest = self.ran.stdout.read()
-        same("the end of an adapter", (answer, self.ran.wait(), rest), ({}, 0, b""))
-        self.ran.stdout.close()
-
-
-def check_dap(room):
-    """The search of section 7 of the manual by an editor: the interrupt's first word takes A for itself."""
-    client = Client()
-    same("breakpoints on lines", client.launch([16, 20, 99], program=LOST[0], feed=LOST[1]), [16, 21, None])
-    same("the entry", client.stop(), ("entry", 13, "02,4000"))
-    same("a breakpoint in front", client.go("continue"), ("breakpoint", 21, "START"))
-    client.ask("setBreakpoints", source={"path": LOST[0]}, breakpoints=[{"line": 34}, {"line": 35}])
-    same("on to the next", client.go("continue")[:2], ("breakpoint", 34))
-    same("on to the end", client.go("continue"), ("breakpoint", 35, "DONE"))
-    same("what is put out", client.until("output"), {"category": "stdout", "output": "87 CH 012 00075\n"})
-    same("symbols", client.words(2), {"COUNT": "00000", "SUM": "00075", "TICKS": "00001"})
-    same("channels", client.words(3)["CH012"], "00075")
-    data = client.ask("dataBreakpointInfo", name="SUM")["dataId"]
-    same("a watched place", client.ask("setDataBreakpoints", breakpoints=[{"dataId": data}]), {"breakpoints": [{"verified": True}]})
-    client.ask("setBreakpoints", source={"path": LOST[0]}, breakpoints=[])
-    sums = []
-    while len(sums) < 9 and client.go("reverseContinue")[0] == "data breakpoint":
-        sums.append(client.words(2)["SUM"])
-    same("the sum's words, backwards", sums, ["00075", "00063", "00037", "00001", "77715"])
-    same("a command of the console", client.evaluate("goto 22"), "AT 22 41 02,4111")
-    same("where the sum goes wrong", client.stop(), ("goto", 30, "LOOP +5"))
-    same("a step back", client.go("stepBack")[0], "step")
-    same("A is wrong already", (client.words(1)["A"], client.words(2)["SUM"]), ("000001", "77715"))
-    client.ask("setBreakpoints", source={"path": LOST[0]}, breakpoints=[{"line": 16}])
-    same("the interrupt", client.go("reverseContinue"), ("breakpoint", 16, "02,4014"))
-    same("A was right", client.words(1)["A"], "177765")
-    same("a step on", client.go("next"), ("step", 17, "02,4015"))
-    same("the register is clobbered", client.words(1)["A"], "000001")
-    client.evaluate("goto 17")
-    same("an entry that comes next", client.stop(), ("goto", 16, "02,4014, after ENTRY T3RUPT"))
-    check_console(client)
-    client.end()
-    check_moves(room)
-    check_launches(room)
-
-
-def check_console(client):
-    """The console hands commands to the program, and knows sums."""
-    for text, context, wanted in [
-        ("mem SUMM", "repl", "E50 COMMAND no symbol SUMM"),
-        ("breaks", "repl", "BREAK 1 at 02,4014\nCOUNT 1"),
-        ("why TICKS", "repl", "START TICKS 00000"),
-        ("p ONE", "repl", "00001 = 1 = +0.00006 = 000 000 000 000 001"),
-        ("ONE +7", "watch", "10 = 8"),
-        ("NONE", "hover", "no place NONE"),
-    ]:
-        same(f"{text} in the console", client.evaluate(text, context), wanted)
-    same("a request that is not there", client.ask("stepOut"), "stepOut is not there")
-
-
-def check_moves(room):
-    """A move without an end is paused; the words of an image, with breakpoints on them."""
-    loop = write(f"{room}/loop.agc", b" SETLOC 4000\n CAF FIVE\n EXTEND\n WRITE 10\nLOOP TCF LOOP\nFIVE OCT 5\n")
-    client = Client()
-    client.launch(program=loop, stopOnEntry=False)
-    same("an output while it runs", client.until("output")["output"], "5 CH 010 00005\n")
-    same("a request while it runs", client.ask("threads"), {"threads": [{"id": 1, "name": "the machine"}]})
-    same("a pause", client.go("pause"), ("pause", 5, "LOOP"))
-    same("back from there", client.go("reverseContinue"), ("entry", 2, "02,4000"))
-    shown = client.ask("disassemble", memoryReference=client.ask("stackTrace")["stackFrames"][0]["instructionPointerReference"], instructionCount=4)["instructions"]
-    same("words of a source", [(it["instruction"], it["line"]) for it in shown], [("02,4000 CA 4004", 2), ("02,4001 EXTEND", 3), ("02,4002 WRITE 010", 4), ("02,4003 TCF 4003", 5)])
-    client.end()
-    rope = f"{room}/adapted.rope"
-    pipe.answer("asm", loop, rope)
-    client = Client()
-    client.launch(program=rope, image=True)
-    same("an image", client.stop(), ("entry", 0, "02,4000"))
-    at = client.ask("stackTrace")["stackFrames"][0]["instructionPointerReference"]
-    same("a breakpoint on a word", client.ask("setInstructionBreakpoints", breakpoints=[{"instructionReference": at, "offset": 3}]), {"breakpoints": [{"verified": True}]})
-    same("up to it", client.go("continue"), ("breakpoint", 0, "02,4003"))
-    shown = client.ask("disassemble", memoryReference="0", instructionOffset=-1, instructionCount=2)["instructions"]
-    same("words of an image", [it.get("presentationHint", it["instruction"][:7]) for it in shown], ["invalid", "00,2000"])
-    client.end()
-
-
-def check_launches(room):
-    """What is refused, and what is no message."""
-    client = Client()
-    answer = client.launch(program=write(f"{room}/wrong.agc", b" FROB 1\n"))
-    same("a refused source", str(answer).splitlines()[:1], ["agcws: E15 LINE 1"])
-    same("a request without a program", client.ask("threads"), "threads is not there")
-    client.end()
-    ran = subprocess.run([f"{VIEWS}/dap"], input=b"Content-Length: 3\r\n\r\n???", capture_output=True, timeout=60, check=False)
-    same("no message", (ran.returncode, ran.stdout, ran.stderr), (0, b"", b""))
 
 
 def check_shake(room):
@@ -1002,7 +848,7 @@ def check_readme(room):
     text = examples.text_of("views/README.md")
     for target in re.findall(r"\]\(([^)#]+)\)", text):
         told(f"views/README.md links to {target}", os.path.exists(f"{VIEWS}/{target}"))
-    for name in sorted({*os.listdir(VIEWS)} - {"README.md", "check.py"}):
+    for name in sorted({*os.listdir(VIEWS)} - {"README.md", "check.py", "check_dap.py"}):
         told(f"views/README.md names {name}", f"]({name}" in text or f"](#{name}" in text)
 
 
@@ -1016,7 +862,9 @@ def main():
             check_calls,
             check_talk,
             check_watches,
-            check_dap,
+            adapter.check_dap,
+            adapter.check_hostile,
+            adapter.check_emacs,
             check_shake,
             check_chain,
             check_wave,
@@ -1028,7 +876,7 @@ def main():
             check_faults,
             check_readme,
         ):
-            tried(part, room, most_seconds=MOST_OF_EDITOR if part is check_dap else MOST_SECONDS)
+            tried(part, room, most_seconds=MOST_OF_EDITOR if part.__module__ == adapter.__name__ else MOST_SECONDS)
     for part in (check_dsky, check_grammar, check_package):
         tried(part, most_seconds=MOST_SECONDS)
     return end()

@@ -1,4 +1,6 @@
 """A session as people use it: where it stands in the listing, long moves in parts, places that are watched, values. `talk` and `dap` use this module."""
+import bisect
+import functools
 import itertools
 import os
 import re
@@ -41,10 +43,13 @@ class Desk:
             self.commands = [line.split()[1] for line in self.session.ask("help")]
             is_image = "--image" in words
             self.rows, self.symbols = (pipe.words_of(words[-1], *words[1:-1]), {}) if is_image else pipe.listing_of(*words)
+            # (where Z leads, as a listing has it)
+            self.place = self.session.ask("goto 0")[-1].split()[3]
         except pipe.Refused:
             self.session.end()
             raise
-        self.at = {row.place: row for row in self.rows if row.word}
+        self.worded = [row for row in self.rows if row.word]
+        self.at = {row.place: row for row in self.worded}
         self.position, self.cycles, self.made = 0, 0, 0
         self.kept, self.outputs, self.watched, self.part = [], set(), {}, 1 << 12
         self.display_words = []
@@ -54,6 +59,7 @@ class Desk:
         self.session.end()
         if self.added:
             os.remove(self.added.name)
+            self.added = None
 
     def ask(self, command):
         """Returns the lines of the reply to a command. What it has changed is kept in mind."""
@@ -63,7 +69,7 @@ class Desk:
             first, *rest = line.split() or [""]
             changes |= first in ("AT", "BREAK", "CLEAR", "ADDED")
             if first == "AT":
-                self.position, self.cycles = int(rest[0]), int(rest[1])
+                self.position, self.cycles, self.place = int(rest[0]), int(rest[1]), rest[2]
                 self.made = max(self.made, self.position)
             elif output := pipe.output_of(line):
                 self.outputs.add(output.channel)
@@ -230,8 +236,8 @@ class Desk:
         if place not in self.symbols:
             if channel:
                 return self.one_word(f"chan {channel[1]}")
-            if not place[:1].isdigit():
-                return self.registers().get(place)
+            if place.isalpha():
+                return self.registers().get(place) or self.one_word(f"mem {place}")
         return self.one_word(f"mem {place}")
 
     def one_word(self, command):
@@ -241,7 +247,23 @@ class Desk:
 
     def place_of_line(self, line):
         """The first row from a line on that has a word, or None."""
-        return next((it for it in self.rows if it.line >= line and it.word), None)
+        at = bisect.bisect_left(self.worded, line, key=lambda row: row.line)
+        return self.worded[at] if at < len(self.worded) else None
+
+    def arrays(self):
+        """The symbols to which ERASE +n gives several words, each with their number."""
+        found = {}
+        for row in self.rows:
+            words = re.match(r"(\S+)\s+ERASE\s+\+(?:([0-7]+)|([0-9]+)D)(?![^\s#])", row.text)
+            if words and (count := int(words[2], 8) if words[2] else int(words[3])) and self.symbols.get(words[1], [""])[0] == "ERASABLE":
+                found[words[1]] = count + 1
+        return found
+
+    @functools.cached_property
+    def name_form(self):
+        """The form of a name in an expression."""
+        names = "|".join(sorted(map(re.escape, self.symbols), key=len, reverse=True))
+        return re.compile(rf"\s*({names + '|' if names else ''}[A-Z][A-Z0-9]*)(?![^\s\]()*&|^~<>=!+-])")
 
     def breakpoints(self):
         """What each breakpoint is, by its number."""
@@ -276,14 +298,13 @@ def forms_of(word):
 
 
 class Expression:
-    """Sums of words and numbers, several with blanks between them, as `SUM`, `A L`, `SUM +3` or `[100] & 77`. Numbers are octal, or decimal with D behind."""
+    """Sums of words and numbers, several with blanks between them, as `SUM`, `A L`, `SUM +3`, `[100] & 77` or `SUM < 0`, which is 1 or 0. Numbers are octal, or
+    decimal with D behind."""
 
-    TOKEN = re.compile(r"\s*(?:(\[[^\]]*\])|([0-7]+|[0-9]+D)(?![0-9A-Za-z])|([-+*&|^~()]))")
+    TOKEN = re.compile(r"\s*(?:(\[[^\]]*\])|([0-7]+|[0-9]+D)(?![0-9A-Za-z])|([-+*&|^~()]|[<>=!]=|[<>=]))")
 
     def __init__(self, desk, text):
         self.desk, self.text, self.start, self.tokens = desk, text, 0, []
-        names = "|".join(sorted(map(re.escape, desk.symbols), key=len, reverse=True))
-        self.name = re.compile(rf"\s*({names + '|' if names else ''}[A-Z][A-Z0-9]*)(?![^\s\]()*&|^~<>+-])")
 
     def results(self):
         """Each expression with the word that it is where it is one place, or its value. Raises ValueError with words."""
@@ -302,7 +323,7 @@ class Expression:
 
     def take(self):
         """The next token."""
-        found = self.name.match(self.text, self.start)
+        found = self.desk.name_form.match(self.text, self.start)
         if found:
             self.start = found.end()
             return "place", found[1]
@@ -316,16 +337,17 @@ class Expression:
     def result(self, part):
         if len(part) == 1 and part[0][0] == "place":
             return self.word(part[0][1])
-        code = "".join(self.term(kind, token) for kind, token, _, _ in part)
+        # (with blanks, since two operators are none)
+        code = " ".join(self.term(kind, token) for kind, token, _, _ in part)
         try:
             # (numbers and operators alone stand in it)
-            return eval(code, {"__builtins__": {}})
-        except (SyntaxError, TypeError, ValueError, OverflowError, MemoryError):
+            return int(eval(code, {"__builtins__": {}}))
+        except (SyntaxError, TypeError, ValueError, OverflowError, MemoryError, RecursionError):
             raise ValueError(f"{self.text.strip()} is no expression") from None
 
     def term(self, kind, token):
         if kind == "operator":
-            return token
+            return "==" if token == "=" else token
         if kind == "place":
             return f"({value_of(self.word(token))})"
         return token[:-1].lstrip("0") or "0" if token.endswith("D") else f"0o{token}"

@@ -174,15 +174,19 @@ class Session:
             lines.append(line.rstrip("\n"))
         return lines[:-2]
 
-    def end(self):
-        """Ends the session."""
+    def end(self, most_seconds=2):
+        """Ends the session: at once, or where a command takes longer, after some seconds."""
         try:
             self.process.stdin.close()
         except BrokenPipeError:
             pass
         self.process.stdout.close()
         self.process.stderr.close()
-        self.process.wait()
+        try:
+            self.process.wait(most_seconds)
+        except subprocess.TimeoutExpired:
+            self.process.kill()
+            self.process.wait()
 
     def __enter__(self):
         return self
