@@ -785,7 +785,7 @@ def check_emacs(room):
         print(f"dap-mode of Emacs: skipped, since it is not there: {APT}")
         return
     env = {**os.environ, "HOME": room, "AGCWS": pipe.program(), "VIEWS": VIEWS}
-    ran = subprocess.run(["emacs", "--batch", "-Q", "-l", script], cwd=room, env=env, capture_output=True, text=True, errors="replace", timeout=60, check=False, stdin=subprocess.DEVNULL)
+    ran = subprocess.run(["emacs", "--batch", "-l", script], cwd=room, env=env, capture_output=True, text=True, errors="replace", timeout=60, check=False, stdin=subprocess.DEVNULL)
     shown = [it.removeprefix("## ") for it in ran.stderr.splitlines() if it.startswith("## ")]
     wanted = []
     with open(script, encoding="utf-8") as file:

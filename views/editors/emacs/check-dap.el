@@ -7,7 +7,7 @@
 ;;; Code:
 
 (package-initialize)
-(setq user-emacs-directory "emacs/" dap-breakpoints-file "breakpoints" lsp-session-file "lsp-session" lsp-message-project-root-warning nil)
+(setq user-emacs-directory (expand-file-name "emacs/") dap-breakpoints-file (expand-file-name "breakpoints") lsp-session-file (expand-file-name "lsp-session") lsp-message-project-root-warning nil)
 (require 'cl-lib)
 (require 'dap-mode)
 (setq dap-auto-show-output nil dap-print-io nil)
@@ -71,9 +71,9 @@
 ;;=> step out: LOOP +6, line 31
 (say "evaluate: %s" (gethash "result" (asked "evaluate" :expression "SUM" :context "hover" :frameId 1)))
 ;;=> evaluate: 00001 = 1 = +0.00006 = 000 000 000 000 001 | BY 22 TS SUM : SUM 00001 FROM A 000001
-(say "why: %s" (gethash "text" (aref (gethash "steps" (asked "why" :expression "SUM")) 1)))
+(say "why: %s" (gethash "text" (elt (gethash "steps" (asked "why" :expression "SUM")) 1)))
 ;;=> why: BY 20 ADS TICKS : A 000001 FROM A 000001 TICKS 00000 IN STEP 18
-(say "data: %s" (gethash "verified" (aref (gethash "breakpoints" (asked "setDataBreakpoints" :breakpoints (vector (list :dataId "SUM")))) 0)))
+(say "data: %s" (gethash "verified" (elt (gethash "breakpoints" (asked "setDataBreakpoints" :breakpoints (vector (list :dataId "SUM")))) 0)))
 ;;=> data: t
 (dap-breakpoint-delete-all)
 (move "continue to a change" (lambda () (dap-continue (session) 1)))
