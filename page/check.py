@@ -44,7 +44,7 @@ import tally
 from files import read, write
 from tally import told
 
-PROGRAM = f"{ROOT}/crates/agcws/out/agcws"
+PROGRAM = os.environ.get("AGCWS", f"{ROOT}/crates/agcws/out/agcws")
 COMMAND = f"{HERE}/module/command.js"
 # Of what a module is made beside its bitcode.
 SCRIPTS = [f"{HERE}/module/{it}" for it in ("build.py", "layer.c", "retarget.py")]
