@@ -56,6 +56,14 @@ SAID = [
     (" CA =5", [(1, 5, "E17: no line defines =5", "a constant has a line of its own, whose label is the operand")]),
     (" LDA X| JMP X|X OCT 1", [(1, 2, "E15: LDA is no operator of this assembler", "CA loads A"), (2, 2, "E15: JMP is no operator of this assembler", "TCF goes on in fixed memory, TC anywhere")]),
     ("X OCT 1|X OCT 2", [(2, 1, "E14: line 1 has the label X already", "")]),
+    # a label beside an operator that takes none defines nothing
+    ("X SETLOC 4000| SETLOC 4000|X OCT 1| TS X", [
+        (1, 1, "E13: SETLOC takes no label", "put X on the next line"),
+        (4, 5, "E25: TS writes to erasable memory, and X, of line 3, is not there", "reserve the word there: SETLOC and a place below 4000, and ERASE")]),
+    ("X BANK 5| SETLOC 4000|X OCT 1|X OCT 2", [(1, 1, "E13: BANK takes no label", "put X on the next line"), (4, 1, "E14: line 3 has the label X already", "")]),
+    (" SETLOC X|X EBANK= 100|X OCT 1", [
+        (1, 9, "E18: SETLOC needs the value of X here, and line 3 defines it, which is below", ""), (2, 1, "E13: EBANK= takes no label", "put X on the next line")]),
+    (" SETLOC SUX|SUX BANK 5", [(1, 9, "E18: SETLOC needs the value of SUX here, and no earlier line defines it", ""), (2, 1, "E13: BANK takes no label", "put SUX on the next line")]),
     (" BANK 18| OCT 1", [(1, 7, "E16: banks are octal, and 18 has a digit 8 or 9", "BANK 18D takes it as decimal")]),
     (" SETLOC 100|X ERASE| CA X", [(3, 2, "E22: words stand in fixed memory, and the location is in erasable memory", "SETLOC and a fixed place, or BANK, before it")]),
     (" CCS FIVE|FIVE OCT 5", [(1, 6, "E25: CCS takes a word of erasable memory, and FIVE, of line 2, is not there", "copy the word to erasable memory first")]),

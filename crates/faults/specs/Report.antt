@@ -10,7 +10,7 @@ use Rattle.yayul.specs.declared.language.Language.{Language}
 use Rattle.yayul.specs.declared.language.Language.TheVariants.{Flight, Standard}
 use Rattle.yayul.specs.Flight.{is_count}
 use Rattle.yayul.specs.Forms.{is_digits}
-use Rattle.faults.specs.Causes.{Cause, below_cause, filled, holds, near_label, text_of, warning_cause}
+use Rattle.faults.specs.Causes.{Cause, below_cause, filled, holds, label_refusers, near_label, text_of, warning_cause}
 use Rattle.faults.specs.Kinds.{kind_of_source}
 use Rattle.faults.specs.Refusals.{meaning}
 use Rattle.faults.specs.FlightCauses.{equalities, told_cause}
@@ -79,9 +79,13 @@ caused_text name text parts label severity f c = place_text name text f ++ messa
 abbrev pub finding_text : Language → List ℕ → List ℕ → Parts → Option (List ℕ) → Severity → Finding → List ℕ
 finding_text language name text parts near severity f = caused_text name text parts (unwrap_or near []) severity f (cause_of language severity (is_some near) text parts f)
 
+-- a line may have a label: its operator, if any, takes one
+abbrev pub takes_label : Parts → Bool
+takes_label parts = not (has_operator label_refusers parts)
+
 -- a line has a label
 abbrev pub has_label : Language → List ℕ → List ℕ → Bool
-has_label language label text = same_name (text_of (parts_for language text).label) label
+has_label language label text = same_name (text_of (parts_for language text).label) label && takes_label (parts_for language text)
 
 -- the number of the first line that has a label
 abbrev pub first_line : Language → List (List ℕ) → List ℕ → ℕ
@@ -135,9 +139,9 @@ shown_finding language name labels texts f = shown_line language name labels tex
 abbrev pub may_be_label : List ℕ → Bool
 may_be_label text = not (is_digits text) && not (is_count text) && not (holds 0o44 text)
 
--- some names, and the label of a line, where that may have the form of one
+-- some names, and the label of a line, where the line may have one and that may have the form of one
 abbrev pub with_label : List (List ℕ) → Parts → List (List ℕ)
-with_label labels parts = if may_be_label (text_of parts.label) then with_field labels parts.label else labels
+with_label labels parts = if may_be_label (text_of parts.label) && takes_label parts then with_field labels parts.label else labels
 
 -- the labels of some lines, each once
 abbrev pub labels_of : Language → List (List ℕ) → List (List ℕ)
