@@ -11,6 +11,7 @@ import hashlib
 import importlib.machinery
 import importlib.util
 import os
+import shlex
 import shutil
 import subprocess
 import sys
@@ -22,7 +23,14 @@ NAMES = "KIT checked edited edits_of free in_lanes processors rtlib unread".spli
 # Of rt, where checkouts share what is proved.
 SHARING_NAMES = "linked share_work work_for".split()
 LIBRARY_NAMES = "PARTS STALE crates_below files_of fmt guarded kit_sources lock".split()
-CRATE_NAMES = "below build_and_run build_rlib check count has_tests is_built makes_rlib run sources_below".split()
+CRATE_NAMES = "below build_and_run build_rlib call check count has_tests is_built makes_rlib run sources_below".split()
+# Stands for clang where a program is built, and keeps the bitcode that it is given to compile.
+KEEPING = """#!/bin/sh
+for it in "$@"; do
+    case $it in *.bc) cp -- "$it" {kept} ;; esac
+done
+exec {clang} "$@"
+"""
 
 
 def stop(why):
@@ -106,9 +114,80 @@ def prove(crate, jobs):
     return said_by(crate, lambda it: it.build_rlib(flags, anew=False) if it.makes_rlib() else it.check(flags))
 
 
+def clang():
+    """Returns the kit's clang, which compiles bitcode too."""
+    return f"{rt.KIT}/toolchain/bin/clang"
+
+
+def wasm_linker(room):
+    """Returns the kit's linker for WebAssembly: one program is all that clang and the linkers are, by the name that it is called by."""
+    os.symlink(clang(), f"{room}/wasm-ld")
+    return f"{room}/wasm-ld"
+
+
+def tools_with(room, script, **paths):
+    """Makes a toolchain of links in a folder, but for its clang, which is a script; in that the names stand for paths, and clang for the kit's. Returns it."""
+    made, tools = f"{room}/toolchain", os.path.dirname(clang())
+    os.makedirs(f"{made}/bin")
+    os.symlink(f"{rt.KIT}/toolchain/lib", f"{made}/lib")
+    for it in os.listdir(tools):
+        if it != "clang":
+            os.symlink(f"{tools}/{it}", f"{made}/bin/{it}")
+    with open(f"{made}/bin/clang", "w", encoding="utf-8") as it:
+        it.write(script.format(clang=shlex.quote(clang()), **{name: shlex.quote(path) for name, path in paths.items()}))
+    os.chmod(f"{made}/bin/clang", 0o755)
+    return made
+
+
 def build(crate, jobs):
-    """Proves and builds a program over what is kept, and has it run with the word --version. Returns whether it is built, and what was said."""
-    return said_by(crate, lambda it: it.build_and_run(["--jobs", str(jobs)], ["--version"], False))
+    """Proves and builds a program over what is kept, has it run with the word --version, and keeps the bitcode of which it was compiled. Returns whether it is
+    built, and what was said."""
+    with tempfile.TemporaryDirectory(prefix="toolchain-") as room:
+        kept, own = f"{room}/program.bc", f"{rt.KIT}/toolchain"
+        made = tools_with(room, KEEPING, kept=kept)
+
+        def work(it):
+            call = it.call
+            it.call = lambda *words: call(*(made if words[1] == "build" and word == own else word for word in words))
+            return it.build_and_run(["--jobs", str(jobs)], ["--version"], False)
+
+        is_built, said = said_by(crate, work)
+        # (a program that has not changed is not compiled again)
+        if is_built and os.path.isfile(kept):
+            keep_bitcode(crate, kept)
+        return is_built, said
+
+
+def sum_of_program(crate):
+    """Returns a sum of a program's object and of the bitcode that is kept of it."""
+    sums = []
+    for path in (f"{crate.folder}/out/{crate.name}.o", f"{crate.folder}/out/{crate.name}.bc"):
+        with open(path, "rb") as it:
+            sums.append(hashlib.sha256(it.read()).hexdigest())
+    return " ".join(sums)
+
+
+def keep_bitcode(crate, made):
+    """Keeps the bitcode of a program that is built, and of which object it is."""
+    to = f"{crate.folder}/out/{crate.name}.bc"
+    shutil.copyfile(made, f"{to}.new")
+    os.replace(f"{to}.new", to)
+    with open(f"{to}.of", "w", encoding="utf-8") as it:
+        it.write(sum_of_program(crate))
+
+
+def bitcode(crate):
+    """Returns the file of the bitcode of which a proved program was compiled as it stands built, or None where that is not kept."""
+    path = f"{crate.folder}/out/{crate.name}.bc"
+    with contextlib.suppress(FileNotFoundError), open(f"{path}.of", encoding="utf-8") as it:
+        return path if it.read() == sum_of_program(crate) else None
+    return None
+
+
+def forget_build(crate):
+    """Has a program compiled again when it is built next, though nothing has changed."""
+    with contextlib.suppress(FileNotFoundError):
+        os.remove(f"{crate.folder}/out/{crate.name}.stamp")
 
 
 def test(crate, jobs):

@@ -1,0 +1,72 @@
+"""Makes the program's module of WebAssembly of its bitcode, by the toolchain's clang and linker and binaryen's wasm-opt. The same bitcode comes to the same bytes."""
+import json
+import os
+import shutil
+import subprocess
+import tempfile
+
+from files import read, write
+from retarget import TRIPLE, retargeted
+import toolchain
+
+HERE = os.path.dirname(os.path.realpath(__file__))
+# The memory with which it begins: its stack, which lies lowest, so that what goes beyond it is refused by the engine, and its data.
+STACK_BYTES, FIRST_PAGES, PAGE_BYTES = 1 << 20, 32, 65536
+TARGET = [f"--target={TRIPLE}", "-O2"]
+LAYER = "-ffreestanding -nostdlib -std=c17 -Wall -Wextra -Wno-unused-parameter -Werror".split()
+# Of C's main alone something is called from outside, and memory comes from there, so that each run has a bound of its own.
+LINKED = f"""-mwasm64 -O2 -s --gc-sections --no-entry --export=main --import-memory --initial-memory={FIRST_PAGES * PAGE_BYTES} --max-memory={1 << 32}
+    --stack-first -z stack-size={STACK_BYTES}""".split()
+# What LLVM's target for WebAssembly takes as there, and the pass that makes addresses of 32 bits.
+FEATURES = "--enable-memory64 --enable-bulk-memory --enable-sign-ext --enable-mutable-globals --enable-nontrapping-float-to-int".split()
+# The section that says which program this is.
+NAME = b"agcws"
+
+
+def missing():
+    """Returns what is not there that this needs, and how it is had, or nothing."""
+    return None if shutil.which("wasm-opt") else "wasm-opt is not there: apt-get install binaryen"
+
+
+def run(*words):
+    """Runs a command. What it says where it fails ends the script."""
+    ran = subprocess.run(words, stdin=subprocess.DEVNULL, stdout=subprocess.PIPE, stderr=subprocess.STDOUT, text=True, errors="replace", check=False)
+    if ran.returncode:
+        toolchain.stop(f"{os.path.basename(words[0])} has ended with status {ran.returncode}:\n{ran.stdout.strip()[-4000:]}")
+
+
+def number(value):
+    """Returns a whole number as WebAssembly has it: 7 bits a byte, the lowest first."""
+    made = bytearray()
+    while value >= 128:
+        made.append(value & 127 | 128)
+        value >>= 7
+    return bytes([*made, value])
+
+
+def section(name, content):
+    """Returns a section that engines leave to others."""
+    body = number(len(name)) + name + content
+    return b"\0" + number(len(body)) + body
+
+
+def said(version, is_proved):
+    """Returns the section that says which program this is."""
+    return section(NAME, json.dumps({"version": version, "proved": is_proved, "pages": FIRST_PAGES}, separators=(",", ":")).encode())
+
+
+def module_of(bitcode, version, is_proved):
+    """Returns the bytes of the module of a file of bitcode."""
+    clang = toolchain.clang()
+    with tempfile.TemporaryDirectory(prefix="module-") as room:
+        # (the text is what every tool of LLVM of this version reads alike; no pass is run on the way)
+        run(clang, "-x", "ir", "-S", "-emit-llvm", "-Xclang", "-disable-llvm-passes", "-O1", "-o", f"{room}/program.ll", bitcode)
+        try:
+            write(f"{room}/module.ll", retargeted(read(f"{room}/program.ll").decode()).encode())
+        except ValueError as error:
+            toolchain.stop(f"the bitcode cannot be retargeted: {error}")
+        run(clang, *TARGET, "-x", "ir", "-c", "-o", f"{room}/program.o", f"{room}/module.ll")
+        run(clang, *TARGET, *LAYER, "-c", "-o", f"{room}/layer.o", f"{HERE}/layer.c")
+        run(toolchain.wasm_linker(room), *LINKED, "-o", f"{room}/wide.wasm", f"{room}/program.o", f"{room}/layer.o")
+        run("wasm-opt", *FEATURES, "--memory64-lowering", "-o", f"{room}/agcws.wasm", f"{room}/wide.wasm")
+        return read(f"{room}/agcws.wasm") + said(version, is_proved)
