@@ -5,7 +5,7 @@ import { T } from './texts.js';
 import { engine } from './transport.js';
 import { Session } from './session.js';
 import { Editor } from './editor.js';
-import { Timeline } from './timeline.js';
+import { Axis } from './axis.js';
 import { codeOf, Machine, Names, sentenceOf } from './machine.js';
 import { Why } from './why.js';
 import { Dsky } from './dsky.js';
@@ -16,7 +16,7 @@ import { handoutOf, svgOf } from './export.js';
 import { bindKeys, showSheet } from './keys.js';
 
 const TABS = ["steps", "dsky", "output", "memory", "tests", "console"], MOST_FILE = 32 << 20, KEY_CYCLES = 853;
-const examples = JSON.parse($("examples").textContent);
+const examples = JSON.parse($("examples")?.textContent || "[]");
 // What stands on the page: the program, the picture of the machine and the one before it.
 const S = { name: "", flight: false, isBuilt: false, builtFeed: "", names: new Names(), picture: null, old: null, tab: "steps", chosen: null, presses: [], results: [], isMoving: false, isPacing: false, testFeed: "" };
 
@@ -42,7 +42,7 @@ function busy(percent) {
 // The rooms.
 
 const session = new Session(engine, {
-  progress({ p, n, cycles, goal }) { timeline.stand(p, Math.max(n, S.picture?.n || 0)); setPosition(p, n, cycles); busy(goal ? (100 * p) / goal : 0); },
+  progress({ p, n, cycles, goal }) { axis.stand(p, Math.max(n, S.picture?.n || 0)); setPosition(p, n, cycles); busy(goal ? (100 * p) / goal : 0); },
   paced(picture) { take(picture, { isLight: true }); },
   display(display, cycles, n) { dsky.show(display); setPosition(n, n, cycles); },
 });
@@ -51,15 +51,15 @@ const storage = new Storage({
   kept() { $("banner").hidden = true; say(T.keptAgain); },
   split() { banner(T.split); keep(); },
 });
-const timeline = new Timeline($("timeline"), { seek, windowed: () => soon("survey", 120, loadSurvey) });
+const axis = new Axis($("axis"), { seek, windowed: () => soon("survey", 120, loadSurvey) });
 const hovering = { line: (line) => toggleBreak(line), fault: explain, note: (note) => seek(note.step), word: (text) => { if (S.names.kinds.has(text)) why(text); }, hover: tip, ghost };
 const editor = new Editor($("editor"), "source", { edited, ...hovering });
 const feed = new Editor($("feed"), "feed", { edited, fault: explain });
-const tests = new Editor($("tests"), "tests", { edited() { keepSoon(); soon("tests", 400, readTests); } });
+const tests = new Editor($("tests"), "tests", { edited() { S.isOwn = true; keepSoon(); soon("tests", 400, readTests); } });
 const machine = new Machine($("state"), { why, seek, curve: chooseCell, lineText: (line) => editor.lines[editor.shownLine(line) - 1] });
 const chain = new Why($("why"), {
   seek, nameOf: (cell) => S.names.of(cell), isRope: (cell) => S.names.isRope(cell), more: () => why(S.chosen ?? "", (chain.asked?.count || 16) * 4),
-  point(t) { timeline.pointed = t; timeline.draw(); editor.mark({ pointed: chain.asked?.steps[t]?.line || 0 }); },
+  point(t) { axis.pointed = t; axis.draw(); editor.mark({ pointed: chain.asked?.steps[t]?.line || 0 }); },
 });
 const dsky = new Dsky($("tab-dsky"), { press, undo: undoKey });
 const panes = { steps: new Steps($("tab-steps"), { seek, why }), output: new Put($("tab-output"), { until: (cycles) => move("until", cycles), why }), memory: new Memory($("tab-memory"), { why, nameAt: (at) => S.names.byPlace.get(at) }), console: new Console($("tab-console"), { command }) };
@@ -72,8 +72,8 @@ function take(picture, { isLight = false } = {}) {
   const before = S.picture, isNew = !before || before.number !== picture.number, isMoved = isNew || before.p !== picture.p || before.n !== picture.n, isGrown = isNew || picture.n !== before.n;
   if (isMoved) S.old = isNew ? null : before;
   S.picture = picture;
-  timeline.stand(picture.p, picture.n);
-  timeline.follow();
+  axis.stand(picture.p, picture.n);
+  axis.follow();
   setPosition(picture.p, picture.n, picture.cycles);
   machine.chosen = S.chosen;
   machine.show(picture, S.old, S.names);
@@ -87,7 +87,7 @@ function take(picture, { isLight = false } = {}) {
   if (isLight) return;
   if (S.tab === "steps") showSteps();
   soon("cover", picture.n > 2_000_000 ? 700 : 90, loadCover);
-  if (isGrown || !timeline.survey) { soon("survey", picture.n > 400_000 ? 350 : 40, loadSurvey); soon("notes", picture.n > 400_000 ? 1500 : 250, loadNotes); }
+  if (isGrown || !axis.survey) { soon("survey", picture.n > 400_000 ? 350 : 40, loadSurvey); soon("notes", picture.n > 400_000 ? 1500 : 250, loadNotes); }
 }
 const lineOfBreak = (text) => { const found = /^(?:at|exec) (\S+)$/.exec(text); return found ? S.names.lineOf.get(found[1]) : 0; };
 function setPosition(p, n, cycles) {
@@ -129,8 +129,8 @@ async function seek(step) {
   if (!S.isBuilt) return;
   step = Math.max(0, step);
   if (step > S.picture.n) { await move("step", step - S.picture.p); return; }
-  timeline.stand(step, S.picture.n);
-  setPosition(step, S.picture.n, timeline.cyclesAt(step) ?? S.picture.cycles);
+  axis.stand(step, S.picture.n);
+  setPosition(step, S.picture.n, axis.cyclesAt(step) ?? S.picture.cycles);
   sought.goal = step;
   if (sought.isBusy) return;
   sought.isBusy = true;
@@ -142,6 +142,8 @@ async function run() {
   if ((isEdited() || S.testFeed) && !(await build())) return;
   if (!S.isBuilt) { if (!(await build())) return; }
   await move("run", steps);
+  // (what was asked before the source was changed is asked again)
+  if (S.again) { const again = S.again; S.again = null; if (machine.wordOf(again) !== null) await why(again); }
   keepSoon();
 }
 const go = {
@@ -176,7 +178,7 @@ async function press(text, name) {
   S.presses.push({ ...made, name });
   setFeed(made.feed);
   dsky.tell(S.presses);
-  if (isPast) { timeline.survey = null; S.picture = { ...S.picture, n: -1 }; take(await during(() => session.look())); say(T.keyPast(name, group(p))); } else if (!wasPacing) await move("until", session.end + KEY_CYCLES);
+  if (isPast) { axis.survey = null; S.picture = { ...S.picture, n: -1 }; take(await during(() => session.look())); say(T.keyPast(name, group(p))); } else if (!wasPacing) await move("until", session.end + KEY_CYCLES);
 }
 async function undoKey(press) {
   const lines = session.feed.split("\n"), at = lines.findIndex((it) => it === `${press.cycle} ${press.text}` || it === `EVERY ${press.cycle} 1 1 1 ${press.text}`);
@@ -185,10 +187,10 @@ async function undoKey(press) {
   S.presses = S.presses.filter((it) => it !== press);
   setFeed(lines.join("\n"));
   dsky.tell(S.presses);
-  timeline.survey = null;
+  axis.survey = null;
   take(await during(async () => { await session.refeed(feed.text); S.picture = { ...S.picture, n: -1 }; return session.look(); }));
 }
-function setFeed(text) { feed.text = text; feed.built(); S.builtFeed = text; showEdited(); keepSoon(); }
+function setFeed(text) { S.isOwn = true; feed.text = text; feed.built(); S.builtFeed = text; showEdited(); keepSoon(); }
 
 // The source.
 
@@ -198,7 +200,7 @@ function showEdited() {
   $("edited").hidden = !is; $("edited").textContent = T.edited;
   $("run").textContent = is ? T.build : T.run;
 }
-function edited() { showEdited(); keepSoon(); soon("check", editor.lines.length > 20_000 ? 700 : 180, check); }
+function edited() { S.isOwn = true; showEdited(); keepSoon(); soon("check", editor.lines.length > 20_000 ? 700 : 180, check); }
 async function check() { const faults = await session.check(editor.text, feed.text, S.flight); if (faults) showFaults(faults); }
 let allFaults = [];
 function showFaults(faults) {
@@ -222,18 +224,18 @@ function nextFault() {
   say(`${it.number} ${it.text}${it.cure ? `: ${it.cure}` : ""}`, it.kind === "error");
 }
 async function build() {
-  const source = editor.text, breaks = [...editor.breaks].map((it) => editor.shownLine(it)).filter(Boolean), others = (S.picture?.breaks || []).filter((it) => !lineOfBreak(it)), wasBuilt = S.isBuilt, before = timeline.survey, chosen = S.chosen;
+  const source = editor.text, breaks = [...editor.breaks].map((it) => editor.shownLine(it)).filter(Boolean), others = (S.picture?.breaks || []).filter((it) => !lineOfBreak(it)), wasBuilt = S.isBuilt, before = axis.survey, chosen = S.chosen;
   const opened = await during(() => session.open({ source, feed: feed.text, flight: S.flight }));
   showFaults(opened.faults);
   if (!opened.rows) { say(T.hasFaults, true); showEdited(); const bad = opened.faults.find((it) => it.kind === "error"); if (bad) { showFile(bad.file); (bad.file === "feed" ? feed : editor).showLine(bad.line); } return false; }
   // The curve of the run before stays to be compared.
-  timeline.ghost = wasBuilt && before?.kind === "exact" && before.from === 0 ? before : null;
+  axis.ghost = wasBuilt && before?.kind === "exact" && before.from === 0 ? before : null;
   Object.assign(S, { isBuilt: true, builtFeed: feed.text, names: new Names(opened.rows, opened.symbols), old: null, chosen: null, presses: [], testFeed: "" });
   if (editor.text === source) editor.built();
   listCells();
   editor.mark({ places: S.names.rows, counts: new Map(), links: new Map(), breaks: new Set(), notes: new Map() });
-  Object.assign(timeline, { chain: [], notes: [], window: null, survey: null });
-  timeline.whole.hidden = true;
+  Object.assign(axis, { chain: [], notes: [], window: null, survey: null });
+  axis.whole.hidden = true;
   chain.empty(); dsky.tell([]);
   for (const line of breaks.slice(0, 16)) await setBreak(line);
   for (const text of others) await session.breakpoint(text);
@@ -293,8 +295,8 @@ async function why(place, count = 16) {
   const links = new Map();
   for (const it of Object.values(asked.steps)) if (it.line) links.set(it.line, it.t);
   editor.mark({ links });
-  timeline.chain = chain.links.map((it) => ({ t: it.t, text: it.text }));
-  timeline.draw();
+  axis.chain = chain.links.map((it) => ({ t: it.t, text: it.text }));
+  axis.draw();
   if (place && place !== cell() && S.names.erasable.some((it) => it.name === place)) chooseCell(place);
   document.body.dataset.room = "why";
 }
@@ -322,8 +324,8 @@ async function loadCover() {
 }
 async function loadSurvey() {
   if (!S.isBuilt || S.isPacing || !session.n) return;
-  const shown = (it) => { timeline.survey = it; timeline.draw(); $("sampled").hidden = it.kind !== "sampled"; $("sampled").textContent = T.sampled; $("sampled").title = T.sampledTitle(group(it.every || 1)); };
-  const asked = { from: timeline.from, to: Math.max(timeline.window ? timeline.to : session.n, 1), cell: cell(), buckets: Math.max(100, $("timeline").clientWidth) };
+  const shown = (it) => { axis.survey = it; axis.draw(); $("sampled").hidden = it.kind !== "sampled"; $("sampled").textContent = T.sampled; $("sampled").title = T.sampledTitle(group(it.every || 1)); };
+  const asked = { from: axis.from, to: Math.max(axis.window ? axis.to : session.n, 1), cell: cell(), buckets: Math.max(100, $("axis").clientWidth) };
   const found = await session.survey(asked, (part) => { if (part.cell === cell()) shown(part); });
   if (found && found.cell === cell()) shown(found);
 }
@@ -332,8 +334,8 @@ async function loadNotes() {
   const notes = await session.notes();
   if (!notes) return;
   editor.mark({ notes: grouped(notes.filter((it) => it.line)) });
-  timeline.notes = notes;
-  timeline.draw();
+  axis.notes = notes;
+  axis.draw();
 }
 
 // Tests.
@@ -403,7 +405,7 @@ async function command(text) {
 // Files and links.
 
 const document_ = () => ({ name: S.name, source: editor.text, feed: feed.text, tests: tests.text, flight: S.flight, steps: S.isBuilt ? session.n : stepsOf($("count").value) || 0, count: $("count").value, position: S.isBuilt ? session.p : undefined, breaks: S.picture?.breaks || [], cell: cell(), why: S.chosen || "" });
-function keep() { if (S.isOpen) { $("name").classList.toggle("unkept", !storage.keep(document_())); } }
+function keep() { if (S.isOpen && S.isOwn) { $("name").classList.toggle("unkept", !storage.keep(document_())); } }
 const keepSoon = () => soon("keep", 400, keep);
 async function openDoc(doc, { id = null, isExample = false } = {}) {
   if (S.isOpen && !storage.isKept && isEdited() && !confirm(T.leave)) return;
@@ -411,6 +413,7 @@ async function openDoc(doc, { id = null, isExample = false } = {}) {
   S.isOpen = false;
   Object.assign(S, { name: name || T.unnamed, flight, isBuilt: false, chosen: null, picture: null, old: null });
   storage.begin(id);
+  S.isOwn = !isExample;
   $("name").textContent = S.name;
   document.title = `${S.name} · agcws`;
   for (const it of [editor, feed, tests]) Object.assign(it, { breaks: new Set(), base: null, counts: new Map(), notes: new Map(), links: new Map(), now: 0, faults: new Map() });
@@ -429,7 +432,7 @@ async function openDoc(doc, { id = null, isExample = false } = {}) {
     if (asked) await why(asked);
     document.body.dataset.room = "source";
   }
-  if (!isExample) keep();
+  keep();
 }
 async function openPicked(files) {
   const some = [...files].slice(0, 4);
@@ -510,15 +513,15 @@ function showMore() {
   const theme = document.documentElement.dataset.theme;
   openMenu("more-menu", $("more"), [
     { name: T.more[theme === "dark" ? "light" : "dark"], note: "D", work: () => setTheme(theme === "dark" ? "light" : "dark") }, { name: T.more.lecture, note: "L", isOn: document.documentElement.classList.contains("lecture"), work: lecture }, { name: T.more.notes, isOn: setting.get("notes") !== "off", work: toggleNotes }, "-",
-    { name: T.more.page, note: `${base()}.html`, work: saveHandout }, { name: T.more.png, work: () => timeline.picture().toBlob((it) => download(`${base()}-time.png`, it)) }, { name: T.more.svg, work: () => { const text = svgOf(chain); if (text) download(`${base()}-${T.chainFile}.svg`, text, "image/svg+xml"); else say(T.noChain); } }, { name: T.more.print, note: "Ctrl P", work: () => print() }, "-",
+    { name: T.more.page, note: `${base()}.html`, work: saveHandout }, { name: T.more.png, work: () => axis.picture().toBlob((it) => download(`${base()}-time.png`, it)) }, { name: T.more.svg, work: () => { const text = svgOf(chain); if (text) download(`${base()}-${T.chainFile}.svg`, text, "image/svg+xml"); else say(T.noChain); } }, { name: T.more.print, note: "Ctrl P", work: () => print() }, "-",
     { name: T.more.about, work: async () => showDialog("agcws", el("p", {}, T.about(await engine.about))) },
   ]);
 }
-function toggleNotes() { const isOff = setting.get("notes") === "off"; setting.set("notes", isOff ? "on" : "off"); if (isOff) loadNotes(); else { editor.mark({ notes: new Map() }); timeline.notes = []; timeline.draw(); } }
+function toggleNotes() { const isOff = setting.get("notes") === "off"; setting.set("notes", isOff ? "on" : "off"); if (isOff) loadNotes(); else { editor.mark({ notes: new Map() }); axis.notes = []; axis.draw(); } }
 async function saveHandout() { if (S.isBuilt) download(`${base()}.html`, await handoutOf({ session, names: S.names, name: S.name, source: editor.lines, cell: cell(), why: S.chosen, picture: S.picture, say }), "text/html"); }
-function setTheme(name, isKept = true) { document.documentElement.dataset.theme = name; timeline.draw(); if (isKept) setting.set("theme", name); }
+function setTheme(name, isKept = true) { document.documentElement.dataset.theme = name; axis.draw(); if (isKept) setting.set("theme", name); }
 function lecture() { const is = document.documentElement.classList.toggle("lecture"); setting.set("lecture", is ? "on" : "off"); scaled(); }
-function scaled() { for (const it of [editor, feed, tests]) it.scaled(); timeline.draw(); if (chain.asked) chain.show(chain.asked); if (S.tab === "steps") showSteps(); }
+function scaled() { for (const it of [editor, feed, tests]) it.scaled(); axis.draw(); if (chain.asked) chain.show(chain.asked); if (S.tab === "steps") showSteps(); }
 
 // What is clicked.
 
@@ -529,11 +532,11 @@ function label() {
   for (const it of document.querySelectorAll("[data-go]")) { it.append(icon(it.dataset.go)); it.title = T.tips[it.dataset.go]; it.setAttribute("aria-label", it.title); }
   for (const it of document.querySelectorAll("[data-tab]")) it.textContent = T.tabs[it.dataset.tab];
   for (const it of document.querySelectorAll("[data-file]")) it.textContent = T.files[it.dataset.file];
-  for (const it of document.querySelectorAll("[data-room]")) if (it.closest("nav")) it.textContent = { source: T.files.source, state: T.registers, why: "Why", dock: T.tabs.steps }[it.dataset.room];
+  for (const it of document.querySelectorAll("[data-room]")) if (it.closest("nav")) it.textContent = T.rooms[it.dataset.room];
   for (const id of ["run", "stop", "pace", "more", "keys", "position"]) $(id).title = T.tips[id];
   $("more").append(icon("more")); $("more").setAttribute("aria-label", T.tips.more); $("keys").setAttribute("aria-label", T.tips.keys);
   $("curve").prepend(icon("curve"));
-  timeline.whole.textContent = T.tips.whole.split(" (")[0].toLowerCase().replace("the ", ""); timeline.whole.title = T.tips.whole;
+  axis.whole.textContent = T.tips.whole.split(" (")[0].toLowerCase().replace("the ", ""); axis.whole.title = T.tips.whole;
   $("faults").setAttribute("aria-description", T.toFault);
 }
 function bind() {
@@ -556,7 +559,7 @@ function bind() {
       next.focus(); work(next.dataset[key]); next.focus();
     });
   }
-  $("rooms").addEventListener("click", (event) => { const it = event.target.closest("[data-room]"); if (it) { document.body.dataset.room = it.dataset.room; for (const one of [editor, feed, tests]) one.measure(); showTab(S.tab); timeline.draw(); } });
+  $("rooms").addEventListener("click", (event) => { const it = event.target.closest("[data-room]"); if (it) { document.body.dataset.room = it.dataset.room; for (const one of [editor, feed, tests]) one.measure(); showTab(S.tab); axis.draw(); } });
   document.addEventListener("click", (event) => { if (!event.target.closest(".file")) closeMenus(); });
   const dock = (height) => { const most = innerHeight - 330, now = Math.max(90, Math.min(most, height)); document.body.style.setProperty("--dock", `${now}px`); $("split").setAttribute("aria-valuenow", Math.round(now)); editor.measure(); };
   $("split").addEventListener("pointerdown", (event) => { $("split").setPointerCapture(event.pointerId); $("split").onpointermove = (moved) => dock(innerHeight - moved.clientY - 4); $("split").onpointerup = () => { $("split").onpointermove = null; }; });
@@ -577,14 +580,16 @@ async function begin() {
   document.fonts?.ready.then(scaled);
   say(T.starting);
   engine.about.then((about) => { $("unproved").hidden = about.proved; }, (failed) => banner(`${T.failed}: ${failed.message}`));
+  const given = (await engine.about.catch(() => null))?.given?.source ? (await engine.about).given : null;
   if (!(await openLink())) {
-    const mine = storage.mine();
-    if (mine) await openDoc(mine, { id: mine.id });
-    else { const first = examples.find((it) => it.name === "lost_sum.agc") || examples[0]; await openDoc(first, { isExample: true }); }
+    const mine = given ? null : storage.mine();
+    if (given) await openDoc({ name: given.source.name, source: given.source.text, feed: given.feed?.text || "" });
+    else if (mine) await openDoc(mine, { id: mine.id });
+    else { const first = examples.find((it) => it.name === "lost_sum.agc") || examples[0] || { source: "        SETLOC  4000\n\n" }; await openDoc(first, { isExample: true }); }
   }
   if ($("said").textContent === T.starting) say("");
   document.body.dataset.ready = String(Math.round(performance.now()));
 }
 // (for the tests of the page)
-window.workbench = { S, session, engine, editor, feed, tests, timeline, chain, go, seek, move, why, openDoc, openPicked, cell, storage };
+window.workbench = { S, session, engine, editor, feed, tests, axis, chain, go, seek, move, why, openDoc, openPicked, cell, storage };
 begin();

@@ -3,13 +3,15 @@ import { $, el, reachable, roving } from './dom.js';
 import { COUNTERS, channelName, decimalOf, erasableOf, formsOf, group, INTERRUPTS, isFixedPlace, isWord, placeOf } from './words.js';
 import { T } from './texts.js';
 
+// An erasable place as the table of symbols tells it, as a number: 0101 or E3,1400.
+const numberOfPlace = (value) => (/^[0-7]+$/.test(value) ? parseInt(value, 8) : erasableOf(value));
 const REGISTERS = ["A", "L", "Q", "Z", "EB", "FB", "BB"], MOST_ROWS = 300;
 
 // The names of the program: which place each has, and what a place is called.
 export class Names {
   constructor(rows = [], symbols = []) {
     this.kinds = new Map(symbols.map((it) => [it.name, it]));
-    this.erasable = symbols.filter((it) => it.kind === "ERASABLE" || (it.kind === "NUM" && COUNTERS.has(parseInt(it.value, 8)))).map((it) => ({ name: it.name, at: parseInt(it.value, 8) }));
+    this.erasable = symbols.filter((it) => it.kind === "ERASABLE" || (it.kind === "NUM" && COUNTERS.has(parseInt(it.value, 8)))).map((it) => ({ name: it.name, at: numberOfPlace(it.value) })).filter((it) => it.at !== null);
     this.byPlace = new Map();
     for (const { name, at } of this.erasable) if (!this.byPlace.has(at)) this.byPlace.set(at, name);
     this.fixed = symbols.filter((it) => it.kind === "FIXED").map((it) => { const [bank, offset] = it.value.split(","); return { name: it.name, bank, offset: parseInt(offset, 8) }; });
@@ -31,7 +33,7 @@ export class Names {
   // The number of an erasable word by its name, or null.
   erasableNumber(name) {
     const [symbol, by] = name.split(" +"), kind = this.kinds.get(symbol);
-    const at = kind && (kind.kind === "ERASABLE" || kind.kind === "NUM") && /^[0-7]+$/.test(kind.value) ? parseInt(kind.value, 8) : erasableOf(symbol) ?? [...COUNTERS].find(([, it]) => it === symbol)?.[0] ?? null;
+    const at = kind && (kind.kind === "ERASABLE" || kind.kind === "NUM") ? numberOfPlace(kind.value) : erasableOf(symbol) ?? [...COUNTERS].find(([, it]) => it === symbol)?.[0] ?? null;
     return at === null || at > 0o3777 ? null : at + (by ? parseInt(by, 8) : 0);
   }
 }
@@ -61,7 +63,7 @@ export class Machine {
     if (!picture) return null;
     const channel = /^CH([0-7]{3})$/.exec(name);
     if (channel) return picture.chans.get(parseInt(channel[1], 8)) ?? "00000";
-    if (picture.regs[name] !== undefined && !this.names.kinds.has(name)) return picture.regs[name];
+    if (REGISTERS.includes(name) && !["ERASABLE", "FIXED"].includes(this.names.kinds.get(name)?.kind)) return picture.regs[name];
     const at = this.names.erasableNumber(name);
     return at === null ? null : picture.words[at] ?? null;
   }

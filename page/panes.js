@@ -37,8 +37,10 @@ export class Steps {
       body.append(el("tr", { class: kinds, "data-t": it.t, tabindex: -1, "aria-current": it.t === p ? "step" : null }, el("td", {}, group(it.t)), el("td", {}, group(it.cycles)), el("td", {}, it.place), el("td", {}, it.word), el("td", {}, it.text), el("td", {}, ...written), el("td", { class: "out" }, it.output ? `CH ${octal(it.output.channel, 3)} ${it.output.word}` : ""), el("td", { class: "said" }, commentOf(it.line))));
       if (/^RESUME/.test(it.text)) isInside = false;
     }
+    const wasFocused = root.contains(document.activeElement) && document.activeElement.matches("tr");
     root.replaceChildren(made);
     reachable(root, "tbody tr", ".at");
+    if (wasFocused) body.querySelector(".at")?.focus({ preventScroll: true });
     made.style.marginBottom = `${root.clientHeight / 2}px`;
     centre(root, body.querySelector(".at") || body.firstChild);
   }

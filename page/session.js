@@ -3,6 +3,7 @@
 // A session tells of a step far before its last one by executing steps again, once for each command.
 // So a picture of the machine is asked of a session that ends shortly beyond the position: the run's own, or one of a few others over the same run ("views").
 import { Outputs } from './outputs.js';
+import { INTERRUPTS } from './words.js';
 
 const SOURCE = "source.agc", FEED = "inputs.feed", MARK = "--";
 // The length of a part of a long move, by the clock and by what it writes; the steps of a part at first.
@@ -147,9 +148,11 @@ export class Session {
     if (faults.some((it) => it.kind === "error")) return { faults };
     const told = await this.engine.call(["asm", ...(flight ? ["--flight"] : []), SOURCE, "out.rope"], { [SOURCE]: source }, "");
     if (told.status) return { faults: [...faults, { file: "source", line: Number(/LINE (\d+)/.exec(told.errors)?.[1] || 1), column: 1, length: 1, kind: "error", number: /E\d+/.exec(told.errors)?.[0] || "", text: told.errors.trim() || told.failed, cure: "" }] };
+    this.isClosing = true;
+    this.main?.end();
     return this.alone(async () => {
       this.close();
-      Object.assign(this, { source, feed, flight, rope: told.files["out.rope"], ...listingOf(told.output) });
+      Object.assign(this, { isClosing: false, source, feed, flight, rope: told.files["out.rope"], ...listingOf(told.output) });
       this.clear();
       this.number += 1;
       this.at = new Map();
@@ -177,7 +180,7 @@ export class Session {
   async guarded(work) {
     try { return await work(); } catch (failed) {
       if (!(failed instanceof Ended) || !this.main) throw failed;
-      await this.remake();
+      if (!this.isClosing) await this.remake();
       return "stopped";
     }
   }
@@ -231,7 +234,7 @@ export class Session {
     return rest.find((it) => /^(HIT|NONE|TOOK|E\d)/.test(it)) || "";
   }
   async parts(kind, count, mine) {
-    const line = await this.atPosition(), goal = kind === "until" ? 0 : this.p + count;
+    const line = await this.atPosition(), goal = kind === "until" ? 0 : (kind === "run" ? this.n : this.p) + count;
     let left = count, told = performance.now();
     while (kind === "until" ? this.cycles !== count : left > 0) {
       const size = Math.min(this.part, kind === "until" ? Math.max(0, count - this.cycles) : left), began = performance.now();
@@ -369,7 +372,7 @@ export class Session {
       else if (ask === "where") Object.assign(where, this.standing(replies[i]));
       else if (ask.startsWith("mem ")) for (const it of linesOf(replies[i])) words.push(it.slice(it.lastIndexOf(" ") + 1));
       else if (ask === "chans") for (const it of linesOf(replies[i])) { const told = /^CHAN ([0-7]+) ([0-7]{5})$/.exec(it); if (told) chans.set(parseInt(told[1], 8), told[2]); }
-      else if (ask.startsWith("chan ")) chans.set(parseInt(ask.slice(5), 8), replies[i].split(" ")[1].trim());
+      else if (ask.startsWith("chan ")) chans.set(parseInt(ask.slice(5), 8), /^CHAN ([0-7]{5})/.exec(replies[i])?.[1] ?? "00000");
     }
     this.cycles = Number(regs.CYCLES) || 0;
     const { p, n, cycles, end, breaks, outputs, number } = this;
@@ -556,7 +559,7 @@ export class Session {
       const goal = from + Math.floor(((to - from) * i) / buckets);
       if (this.vectors.length) {
         const [reply] = await line.ask(`on ${goal - at}`), hit = atOf(reply);
-        if (/^HIT/m.test(reply)) interrupts.push([hit.p, hit.p, this.at.get(hit.place)?.name || hit.place]);
+        if (/^HIT/m.test(reply)) interrupts.push([hit.p, hit.p, INTERRUPTS[(parseInt(hit.place.slice(3), 8) - 0o4000) / 4] || hit.place]);
         at = hit.p;
         least = this.firstOutput(reply, at, outputs, least);
       }

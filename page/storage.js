@@ -57,8 +57,14 @@ export class Storage {
 // A whole task in a link: JSON, packed, as letters that an address may have.
 const lettersOf = (bytes) => { let text = ""; for (let i = 0; i < bytes.length; i += 8192) text += String.fromCharCode(...bytes.subarray(i, i + 8192)); return btoa(text).replace(/\+/g, "-").replace(/\//g, "_").replace(/=+$/, ""); };
 const bytesOf = (text) => Uint8Array.from(atob(text.replace(/-/g, "+").replace(/_/g, "/")), (it) => it.charCodeAt(0));
-const through = async (bytes, stream) => new Uint8Array(await new Response(new Blob([bytes]).stream().pipeThrough(stream)).arrayBuffer());
 const MOST_LINKED = 4_000_000;
+// Packs or unpacks; what would become too long is refused before it is.
+async function through(bytes, stream) {
+  const reader = new Blob([bytes]).stream().pipeThrough(stream).getReader(), parts = [];
+  let size = 0;
+  for (let part; !(part = await reader.read()).done; parts.push(part.value)) { size += part.value.length; if (size > MOST_LINKED) { reader.cancel(); throw new Error("too long"); } }
+  return new Uint8Array(await new Blob(parts).arrayBuffer());
+}
 
 export async function linkOf(task) { return `#task=${lettersOf(await through(new TextEncoder().encode(JSON.stringify(task)), new CompressionStream("deflate-raw")))}`; }
 // The task of an address: null where there is none; throws where it is spoilt.
@@ -66,7 +72,6 @@ export async function taskOf(hash) {
   const found = /^#task=(.*)$/.exec(hash);
   if (!found) return null;
   const bytes = await through(bytesOf(found[1]), new DecompressionStream("deflate-raw"));
-  if (bytes.length > MOST_LINKED) throw new Error("too long");
   const task = JSON.parse(new TextDecoder("utf-8", { fatal: true }).decode(bytes));
   if (typeof task?.source !== "string") throw new Error("no source");
   const text = (name) => (typeof task[name] === "string" ? task[name] : ""), number = (name, most) => (Number.isSafeInteger(task[name]) && task[name] >= 0 ? Math.min(task[name], most) : 0);

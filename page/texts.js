@@ -25,6 +25,7 @@ export const T = {
   next: "next", nextAt: "next, at", nextWaits: "next: the word that RESUME brought back", waits: "waiting", nothingThere: "nothing", itsPlace: "its place",
   inSince: (name, t) => `in ${name} since step ${t}`, toEntry: "To the step that entered it", nothingDone: "Nothing has been executed.", came: "came from", cameInput: "came from the input", cameEntry: "came from the interrupt", whyDid: "What this step did",
   flags: { EXT: "extracode: the next instruction is of the second set", INH: "interrupts are inhibited", INT: "an interrupt is served" }, askedFor: "Interrupts that are asked for", asked: (list) => `asked ${list}`,
+  rooms: { source: "Source", state: "Machine", why: "Why", dock: "Views" },
   registers: "Registers", words: "Words", channels: "Channels", noNames: "no names in erasable memory", noChannels: "all are zero",
   forms: { octal: "octal", decimal: "decimal", fraction: "as a fraction", binary: "binary" }, before: (word) => `before: ${word}`, clickWhy: "Click: why? Double click: its curve",
   cellLabel: (name, word, decimal, was) => `${name} ${word}${decimal ? `, ${decimal}` : ""}${was ? `, was ${was}` : ""}. Why?`,

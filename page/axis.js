@@ -1,16 +1,16 @@
 // The line of time: steps from left to right; interrupts, inputs and words put out above the words of a cell; and where the run stands.
-import { soon, unit } from './dom.js';
+import { unit } from './dom.js';
 import { decimalOf, group, numberOf, octal, timeOf } from './words.js';
 import { T } from './texts.js';
 
 // Heights, in tenths of a rem: the marks of interrupts, inputs, words put out; where the curve begins.
 const RUPT = 7, IN = 17.5, OUT = 28.5, TOP = 40, FOOT = 20;
 
-export class Timeline {
+export class Axis {
   constructor(root, heard) {
-    Object.assign(this, { root, heard, canvas: root.querySelector("canvas"), tip: root.querySelector(".tip"), whole: root.querySelector(".chip"), n: 0, p: 0, window: null, survey: null, chain: [], notes: [], hover: null, ghost: null });
+    Object.assign(this, { root, heard, canvas: root.querySelector("canvas"), tip: root.querySelector(".tip"), whole: root.parentNode.querySelector(".chip"), n: 0, p: 0, window: null, survey: null, chain: [], notes: [], hover: null, ghost: null });
     new ResizeObserver(() => this.draw()).observe(root);
-    root.addEventListener("pointerdown", (event) => { if (event.target === this.whole) return; root.setPointerCapture(event.pointerId); root.focus({ preventScroll: true }); this.isDragged = true; this.seek(event); });
+    root.addEventListener("pointerdown", (event) => { root.setPointerCapture(event.pointerId); root.focus({ preventScroll: true }); this.isDragged = true; this.seek(event); });
     root.addEventListener("pointermove", (event) => { this.point(event); if (this.isDragged) this.seek(event); });
     for (const name of ["pointerup", "pointercancel"]) root.addEventListener(name, () => { this.isDragged = false; });
     root.addEventListener("pointerleave", () => { this.hover = null; this.tip.hidden = true; this.draw(); });
@@ -248,5 +248,4 @@ export class Timeline {
     c.drawImage(canvas, 0, 0);
     return under;
   }
-  refresh() { soon("timeline", 30, () => this.draw()); }
 }
