@@ -70,3 +70,12 @@ def module_of(bitcode, version, is_proved):
         run(toolchain.wasm_linker(room), *LINKED, "-o", f"{room}/wide.wasm", f"{room}/program.o", f"{room}/layer.o")
         run("wasm-opt", *FEATURES, "--memory64-lowering", "-o", f"{room}/agcws.wasm", f"{room}/wide.wasm")
         return read(f"{room}/agcws.wasm") + said(version, is_proved)
+
+
+def layer_alone(to, names):
+    """Makes a module of the layer alone, for tests, with some of its functions to be called."""
+    with tempfile.TemporaryDirectory(prefix="module-") as room:
+        run(toolchain.clang(), *TARGET, *LAYER, "-c", "-o", f"{room}/layer.o", f"{HERE}/layer.c")
+        words = ["-mwasm64", "--no-entry", "--stack-first", "-z", f"stack-size={PAGE_BYTES}", *(f"--export={it}" for it in names)]
+        run(toolchain.wasm_linker(room), *words, "-o", f"{room}/wide.wasm", f"{room}/layer.o")
+        run("wasm-opt", *FEATURES, "--memory64-lowering", "-o", to, f"{room}/wide.wasm")
