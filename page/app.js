@@ -171,6 +171,7 @@ async function pace() {
 
 async function press(text, name) {
   if (!S.isBuilt) return;
+  if (!/^(CHAN 15|PRO) /.test(text) && !(await session.isInput(text))) { say(T.noInput, true); return; }
   const { p, n } = S.picture, isPast = p < n && !S.isPacing, wasPacing = S.isPacing;
   const made = await during(() => session.input(text));
   if (!made || made === "stopped") return;

@@ -9,6 +9,7 @@ const KEYS = [
   ["7", "07", 3, 1, "7"], ["4", "04", 3, 3, "4"], ["1", "01", 3, 5, "1"], ["8", "10", 4, 1, "8"], ["5", "05", 4, 3, "5"], ["2", "02", 4, 5, "2"],
   ["9", "11", 5, 1, "9"], ["6", "06", 5, 3, "6"], ["3", "03", 5, 5, "3"], ["CLR", "36", 6, 1, "c"], ["PRO", null, 6, 3, "p"], ["KEY REL", "31", 6, 5, "k"], ["ENTR", "34", 7, 2, "Enter"], ["RSET", "22", 7, 4, "r"],
 ];
+const PULSES = ["TIME1 PINC", "TIME3 PINC", "TIME4 PINC", "TIME5 PINC", "TIME6 DINC", "CDUX PCDU", "CDUX MCDU", "PIPAX PINC", "PIPAX MINC", "INLINK SHINC", "INLINK SHANC", "RUPT 3", "RUPT 4", "RUPT 5", "RUPT 7", "CHAN 15 21", "CHAN 30 77777", "CHAN 33 77777"];
 const STROKES = { a: "M2 1h9l-1.6 2.2H4z", b: "M12 1.8v8.4l-2.2-1.6V4z", c: "M11.4 11.8v8.4L9.2 18v-4.6z", d: "M1 21h9l-2.4-2.2H2.4z", e: "M.2 20.2v-8.4l2.2 1.6V18z", f: "M1 10.2V1.8L3.2 4v4.6z", g: "M1.8 11l1.4-1.2h6.4L11 11l-1.4 1.2H3.2z" };
 const LIT = { 0: "abcdef", 1: "bc", 2: "abged", 3: "abgcd", 4: "fgbc", 5: "afgcd", 6: "afgedc", 7: "abc", 8: "abcdefg", 9: "abcdfg", "?": "agd" };
 
@@ -41,9 +42,14 @@ export class Dsky {
       }
       this.pad.append(key);
     }
-    this.list = el("div", { class: "presses" });
+    this.list = el("div");
+    // Any other input, as a line of a feed has it after its cycle.
+    const other = el("input", { list: "inputs", "aria-label": T.otherInput, placeholder: "TIME3 PINC", maxlength: 30, spellcheck: "false", autocomplete: "off" });
+    const form = el("form", {}, other, el("datalist", { id: "inputs" }, ...PULSES.map((it) => el("option", { value: it }))), el("button", { class: "small" }, T.putIn));
+    form.addEventListener("submit", (event) => { event.preventDefault(); const text = other.value.trim().toUpperCase().replace(/\s+/g, " "); if (text) heard.press(text, text); });
+    this.side = el("div", { class: "presses" }, this.list, form);
     this.face = el("div", { class: "dsky" });
-    root.append(this.face, this.list);
+    root.append(this.face, this.side);
     this.show(null);
     this.tell([]);
   }

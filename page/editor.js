@@ -52,31 +52,34 @@ export class Editor {
   get text() { return this.lines.join("\n"); }
   set text(value) {
     this.lines = value.split("\n");
-    this.first = 0;
+    Object.assign(this, { first: 0, size: 0 });
+    this.area.value = "";
     this.fill();
     this.longest = this.lines.reduce((most, it) => Math.max(most, it.length), 20);
     this.compare();
     this.measure();
     this.root.scrollTop = 0;
   }
-  // Puts the window's lines into the area.
-  fill() {
-    this.size = this.isLong ? Math.min(this.lines.length - this.first, AROUND * 2) : this.lines.length;
-    this.area.value = this.lines.slice(this.first, this.first + this.size).join("\n");
+  // Puts the window's lines into the area; the caret stays where it stood, or goes to a line that is seen.
+  fill(seen = 0) {
+    const line = this.caretLine() - 1, column = this.area.selectionStart - (this.area.value.lastIndexOf("\n", this.area.selectionStart - 1) + 1);
+    this.first = this.isLong ? Math.max(0, Math.min(this.lines.length - 2 * AROUND, seen - AROUND)) : 0;
+    this.size = this.isLong ? Math.min(this.lines.length - this.first, 2 * AROUND) : this.lines.length;
+    const part = this.lines.slice(this.first, this.first + this.size), at = line >= this.first && line < this.first + this.size ? line : seen, before = part.slice(0, at - this.first).reduce((sum, it) => sum + it.length + 1, 0);
+    this.area.value = part.join("\n");
+    this.area.setSelectionRange(before + (at === line ? column : 0), before + (at === line ? column : 0));
   }
   // The window follows what is seen.
   shift() {
-    if (!this.isLong) return;
+    if (!this.first && this.size >= this.lines.length) return;
     const top = Math.floor(this.root.scrollTop / this.rowHeight), seen = Math.ceil(this.root.clientHeight / this.rowHeight);
     if ((top >= this.first || !this.first) && (top + seen <= this.first + this.size || this.first + this.size >= this.lines.length)) return;
-    this.first = Math.max(0, Math.min(this.lines.length - AROUND * 2, top - AROUND));
-    this.fill();
+    this.fill(top);
     this.place();
   }
   typed() {
     const part = this.area.value.split("\n");
-    if (this.isLong) this.lines = [...this.lines.slice(0, this.first), ...part, ...this.lines.slice(this.first + this.size)];
-    else this.lines = part;
+    this.lines = [...this.lines.slice(0, this.first), ...part, ...this.lines.slice(this.first + this.size)];
     this.size = part.length;
     for (const it of part) if (it.length > this.longest) this.longest = it.length;
     this.compare();

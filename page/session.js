@@ -285,6 +285,8 @@ export class Session {
 
   // Inputs.
 
+  // Whether a line of a feed is one, without its cycle.
+  async isInput(text) { return /^[A-Z0-9]{1,8}( [A-Z0-9]{1,8}){1,2}$/.test(text) && (/^PRO /.test(text) || !(await this.check(this.source, `1 ${text}\n`, this.flight))?.some((it) => it.file === "feed")); }
   // An input in the cycle after the position. At the end of the run it comes in at once; before it, the run is made anew with it.
   input(text) {
     if (this.isPaced) return new Promise((done) => { (this.keys ||= []).push({ text, done }); this.wake?.(); });

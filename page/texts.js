@@ -43,6 +43,7 @@ export const T = {
   // The DSKY.
   keypad: "Keys of the DSKY", lamps: (list) => (list ? `Lamps lit: ${list}` : "No lamp is lit"), blank: "blank", keysHead: "Each key is an input", keysMade: "Keys, as lines of the feed",
   keysText: "At the end of the run a key comes in on channel 015, and the run goes on for 10 ms; in real time at once. At a step of the past it becomes an input there, and the run is made anew. On the keyboard: digits, + \u2212, V, N, Enter, C, R, K.",
+  otherInput: "Another input", putIn: "Put in", noInput: "This is no input: a channel with a word (CHAN 15 21), a pulse (TIME3 PINC), or an interrupt (RUPT 3).",
   undoKey: (name, cycle) => `Take back ${name} at cycle ${cycle}`, keyPast: (name, t) => `${name} comes in after step ${t} now; the run was made anew.`,
   // Tests.
   test: "test", testFirst: "a test begins with a line: test NAME", testLine: "this is none of: steps N, in CYCLE INPUT, feed none, out CHANNEL WORD, mem PLACE WORD, notes none", refused: "the source is refused",
