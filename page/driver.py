@@ -52,6 +52,7 @@ class Browser:
                 time.sleep(0.05)
         self.session = made["sessionId"]
         self.ask("POST", "/timeouts", {"script": 60_000, "pageLoad": 60_000})
+        self.size(width, height, scale)
 
     def ask(self, method, path, body=None):
         where = f"http://127.0.0.1:{self.port}" + (f"/session/{self.session}" if self.session else "") + path

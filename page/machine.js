@@ -73,7 +73,7 @@ export class Machine {
     this.showNext();
     const { regs } = picture, was = old?.regs || {};
     $("flags").replaceChildren(...Object.entries(T.flags).map(([name, title]) => el("span", { class: regs[name] === "1" ? "on" : "", title }, name)), ...(regs.ASKED && regs.ASKED !== "NONE" ? [el("span", { class: "on", title: T.askedFor }, T.asked(regs.ASKED))] : []));
-    $("regs").replaceChildren(...REGISTERS.filter((it) => regs[it] !== undefined).map((it) => this.row(it, regs[it], was[it])));
+    $("regs").replaceChildren(...REGISTERS.slice(0, 3).map((it) => this.row(it, regs[it], was[it])), el("div", { class: "few" }, ...REGISTERS.slice(3).filter((it) => regs[it] !== undefined).map((it) => this.row(it, regs[it], was[it], "", true))));
     const words = names.erasable.slice(0, MOST_ROWS).map(({ name, at }) => this.row(name, picture.words[at], old?.words[at], placeOf(at)));
     $("words").replaceChildren(...(words.length ? words : [el("p", { class: "none" }, T.noNames)]));
     this.used ||= new Set();
@@ -84,20 +84,21 @@ export class Machine {
     reachable(this.root, "button.cell", ".chosen");
     if (focused) this.root.querySelector(`button.cell[data-cell="${CSS.escape(focused)}"]`)?.focus({ preventScroll: true });
   }
-  row(name, word, was, title) {
+  row(name, word, was, title, isShort) {
     const isChanged = was !== undefined && was !== word, isNumber = isWord(word);
     const made = el("button", { class: ["cell", isChanged && "changed", this.chosen === name && "chosen"].filter(Boolean).join(" "), "data-cell": name, tabindex: -1, title: [title, formsOf(word, T.forms), isChanged ? T.before(was) : "", T.clickWhy].filter(Boolean).join("\n"), "aria-label": T.cellLabel(name, word, isNumber ? decimalOf(word) : "", isChanged ? was : "") });
-    made.append(el("span", {}, name), el("span", {}, word), el("span", {}, isChanged && isNumber && isWord(was) ? el("s", {}, decimalOf(was)) : "", isNumber ? decimalOf(word) : ""));
+    made.append(el("span", {}, name), el("span", {}, word), isShort ? "" : el("span", {}, isChanged && isNumber && isWord(was) ? el("s", {}, decimalOf(was)) : "", isNumber ? decimalOf(word) : ""));
     return made;
   }
   showNext() {
     const { picture, names, heard } = this, { where } = picture, parts = where.text ? codeOf(where.line ? this.heard.lineText(where.line) || where.text : ` ${where.text}`) : [];
     const code = where.waits ? where.symbol.split(" ").slice(1).join(" ") : parts.join(" ");
-    const next = el("div", { class: "what" }, el("span", {}, code || T.nothingThere), el("small", {}, where.waits ? T.waits : `${where.place} ${where.word}`));
-    const at = el("div", { class: "line" }, where.waits ? T.nextWaits : where.symbol ? [T.nextAt, " ", el("code", {}, where.symbol)].reduce((box, it) => { box.append(it); return box; }, el("span")) : T.next);
-    if (where.interrupt) at.append(" ", el("button", { class: "badge", title: T.toEntry, onclick: () => heard.seek(where.interrupt.step) }, T.inSince(INTERRUPTS[where.interrupt.number] || where.interrupt.number, group(where.interrupt.step))));
+    const next = el("div", { class: "what" }, el("span", {}, code || T.nothingThere), el("small", { title: `${where.place} ${where.word}` }, where.waits ? T.waits : where.symbol ? `${T.at} ${where.symbol}` : `${where.place} ${where.word}`));
+    const lines = [next];
+    if (where.interrupt) lines.push(el("button", { class: "badge", title: T.toEntry, onclick: () => heard.seek(where.interrupt.step) }, T.inSince(INTERRUPTS[where.interrupt.number] || where.interrupt.number, group(where.interrupt.step))));
+    if (where.waits) lines.push(el("div", { class: "line" }, T.nextWaits));
     const says = sentenceOf(where.waits ? code.split(" ") : parts, (name) => this.wordOf(name) ?? null);
-    const lines = [next, at, el("p", { class: "says" }, says)];
+    lines.push(el("p", { class: "says" }, says));
     const did = picture.steps.find((it) => it.t === picture.p);
     if (picture.p === 0) lines.push(el("div", { class: "line" }, T.nothingDone));
     else if (did) {

@@ -118,7 +118,7 @@ export class Why {
   item(it) {
     const { heard } = this, name = (cell) => heard.nameOf(cell);
     if (it.kind === "within") return el("div", { class: "within", role: "listitem" }, el("span", {}, T.within(this.asked.steps[it.step]?.text || ""), " ", el("button", { onclick: () => heard.seek(it.step) }, group(it.step))));
-    if (it.kind === "index") return el("div", { class: "indexed", role: "listitem" }, el("button", { title: T.indexTitle(it.link.index.t), onclick: () => heard.seek(it.link.index.t - 1) }, `${T.index} ${it.link.index.text}`));
+    if (it.kind === "index") return el("div", { class: "indexed", role: "listitem" }, el("button", { title: T.indexTitle(it.link.index.t), onclick: () => heard.seek(it.link.index.t - 1) }, `${it.link.index.text.split(" : ")[0]}  ${it.link.index.sum}`));
     if (it.kind === "end") return el("div", { class: "link end", role: "listitem" }, el("span"), el("span", { class: "s" }), el("span", { class: "w" }, name(it.cell), el("em", {}, T.atStart)), el("span", { class: "v" }, `${it.word}  `, el("b", {}, decimalOf(it.word))));
     const { link } = it, [cell, word] = link.written[0] || ["", null], lit = (t) => () => heard.point(t), say = (pairs) => pairs.map((pair) => pair.join(" ")).join(", ") || T.nothing;
     const button = el("button", { class: `link${link.within ? " rupt" : ""}`, "data-t": link.t, title: T.linkTitle(link.t, link.text, say(link.written), say(link.read)), onclick: () => heard.seek(link.t), onmouseenter: lit(link.t), onmouseleave: lit(null), onfocus: lit(link.t), onblur: lit(null) });
