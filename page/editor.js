@@ -97,7 +97,13 @@ export class Editor {
       event.preventDefault();
       area.setSelectionRange(begin + Math.floor((at - begin - 1) / 8) * 8, at);
       document.execCommand("delete");
-    } else if (event.key === "Escape") { event.stopPropagation(); area.blur(); this.root.focus(); }
+    } else if (event.key === "Escape") {
+      // (Tab then goes on, and not into the text again)
+      event.stopPropagation();
+      area.tabIndex = -1;
+      this.root.focus();
+      this.root.addEventListener("blur", () => { area.tabIndex = 0; }, { once: true });
+    }
   }
   wordAt(at) {
     const text = this.area.value, from = text.slice(0, at).search(/\S*$/);
