@@ -5,7 +5,7 @@ import os
 import re
 
 IMPORT = re.compile(r"^import \{([^}]*)\} from '([^']+)';\n", re.M)
-EXPORT = re.compile(r"^export (?=(?:async )?(?:function\*?|class|const|let) (\w+))", re.M)
+EXPORT = re.compile(r"^export (?=(?:async )?(?:function\*?|class|const|let) ([\w$]+))", re.M)
 
 
 def script(paths):

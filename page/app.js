@@ -1,0 +1,596 @@
+// The workbench: what is asked of the session, what it tells, and in which room that is shown.
+import { $, el, icon, soon } from './dom.js';
+import { decimalOf, group, stepsOf, timeOf } from './words.js';
+import { T } from './texts.js';
+import { engine } from './transport.js';
+import { Session } from './session.js';
+import { Editor } from './editor.js';
+import { Axis } from './axis.js';
+import { codeOf, Machine, Names, sentenceOf } from './machine.js';
+import { Why } from './why.js';
+import { Dsky } from './dsky.js';
+import { Console, Memory, Put, Steps } from './panes.js';
+import { feedOf, judge, Tests, testsOf } from './tests.js';
+import { download, linkOf, setting, Storage, taskOf } from './storage.js';
+import { handoutOf, svgOf } from './export.js';
+import { bindKeys, showSheet } from './keys.js';
+
+const TABS = ["steps", "dsky", "output", "memory", "tests", "console"], MOST_FILE = 32 << 20, KEY_CYCLES = 853;
+const examples = JSON.parse($("examples")?.textContent || "[]");
+// What stands on the page: the program, the picture of the machine and the one before it.
+const S = { name: "", flight: false, isBuilt: false, builtFeed: "", names: new Names(), picture: null, old: null, tab: "steps", chosen: null, presses: [], results: [], isMoving: false, isPacing: false, testFeed: "" };
+
+// What is said below.
+
+function say(text, isBad) {
+  $("said").textContent = text || "";
+  $("said").title = text || "";
+  $("said").classList.toggle("bad", Boolean(isBad));
+  if (text) soon("said", 9000, () => { $("said").textContent = ""; });
+}
+function banner(text, ...buttons) {
+  $("banner").replaceChildren(el("span", {}, text), ...buttons.map(([name, work]) => el("button", { onclick: () => { $("banner").hidden = true; work(); } }, name)), el("button", { onclick: () => { $("banner").hidden = true; } }, T.dismiss));
+  $("banner").hidden = false;
+}
+function busy(percent) {
+  $("progress").hidden = percent === null;
+  if (percent === null) return;
+  $("progress").classList.toggle("unknown", !percent);
+  $("progress").firstElementChild.style.width = `${percent || 30}%`;
+}
+
+// The rooms.
+
+const session = new Session(engine, {
+  progress({ p, n, cycles, goal }) { axis.stand(p, Math.max(n, S.picture?.n || 0)); setPosition(p, n, cycles); busy(goal ? (100 * p) / goal : 0); },
+  paced(picture) { take(picture, { isLight: true }); },
+  display(display, cycles, n) { dsky.show(display); setPosition(n, n, cycles); },
+});
+const storage = new Storage({
+  full(isFull) { banner(isFull ? T.full : T.refusedStore, [T.saveNow, saveAll]); },
+  kept() { $("banner").hidden = true; say(T.keptAgain); },
+  split() { banner(T.split); keep(); },
+});
+const axis = new Axis($("axis"), { seek, windowed: () => soon("survey", 120, loadSurvey) });
+const hovering = { line: (line) => toggleBreak(line), fault: explain, note: (note) => seek(note.step), word: (text) => { if (S.names.kinds.has(text)) why(text); }, hover: tip, ghost };
+const editor = new Editor($("editor"), "source", { edited, ...hovering });
+const feed = new Editor($("feed"), "feed", { edited, fault: explain });
+const tests = new Editor($("tests"), "tests", { edited() { S.isOwn = true; keepSoon(); soon("tests", 400, readTests); } });
+const machine = new Machine($("state"), { why, seek, curve: chooseCell, lineText: (line) => editor.lines[editor.shownLine(line) - 1] });
+const chain = new Why($("why"), {
+  seek, nameOf: (cell) => S.names.of(cell), isRope: (cell) => S.names.isRope(cell), more: () => why(S.chosen ?? "", (chain.asked?.count || 16) * 4),
+  point(t) { axis.pointed = t; axis.draw(); editor.mark({ pointed: chain.asked?.steps[t]?.line || 0 }); },
+});
+const dsky = new Dsky($("tab-dsky"), { press, undo: undoKey });
+const panes = { steps: new Steps($("tab-steps"), { seek, why }), output: new Put($("tab-output"), { until: (cycles) => move("until", cycles), why }), memory: new Memory($("tab-memory"), { why, nameAt: (at) => S.names.byPlace.get(at) }), console: new Console($("tab-console"), { command }) };
+const testPane = new Tests($("tab-tests"), { run: runTests, open: openTest, write: () => { showFile("tests"); if (!tests.text.trim()) { tests.text = `${T.testExample}\n`; readTests(); } tests.area.focus(); }, counted(text, isBad) { const tab = document.querySelector('[data-tab="tests"]'); tab.replaceChildren(T.tabs.tests, text ? el("i", { class: isBad ? "bad" : "good" }, text) : ""); } });
+
+// What the session tells of the position.
+
+function take(picture, { isLight = false } = {}) {
+  if (!picture || picture === "stopped") return;
+  const before = S.picture, isNew = !before || before.number !== picture.number, isMoved = isNew || before.p !== picture.p || before.n !== picture.n, isGrown = isNew || picture.n !== before.n;
+  if (isMoved) S.old = isNew ? null : before;
+  S.picture = picture;
+  axis.stand(picture.p, picture.n);
+  axis.follow();
+  setPosition(picture.p, picture.n, picture.cycles);
+  machine.chosen = S.chosen;
+  machine.show(picture, S.old, S.names);
+  dsky.show(picture.display);
+  const isTyping = document.activeElement === editor.area;
+  editor.breaks = new Set(picture.breaks.map(lineOfBreak).filter(Boolean));
+  editor.stand(picture.where.line || 0, !isTyping);
+  chain.stand(picture.p);
+  if (S.tab === "output" && isMoved) panes.output.show(session.outputs, picture.cycles);
+  if (S.tab === "memory") panes.memory.show(picture, S.old, S.names);
+  if (isLight) return;
+  if (S.tab === "steps") showSteps();
+  soon("cover", picture.n > 2_000_000 ? 700 : 90, loadCover);
+  if (isGrown || !axis.survey) { soon("survey", picture.n > 400_000 ? 350 : 40, loadSurvey); soon("notes", picture.n > 400_000 ? 1500 : 250, loadNotes); }
+}
+const lineOfBreak = (text) => { const found = /^(?:at|exec) (\S+)$/.exec(text); return found ? S.names.lineOf.get(found[1]) : 0; };
+function setPosition(p, n, cycles) {
+  if (document.activeElement !== $("position")) $("position").value = group(p);
+  const size = String(p).length;
+  $("position").className = size > 11 ? "longest" : size > 8 ? "longer" : size > 5 ? "long" : "";
+  $("made").textContent = group(n);
+  $("clock").replaceChildren(el("span", {}, T.cycle(group(cycles))), " · ", el("span", {}, timeOf(cycles)));
+}
+const showSteps = () => { if (S.picture) panes.steps.show(S.picture, S.names, (line) => (/#.*/.exec(line ? editor.lines[editor.shownLine(line) - 1] || "" : "") || [""])[0].slice(0, 100)); };
+
+// Moves.
+
+let moves = 0;
+function moving(is) {
+  moves += is ? 1 : -1;
+  S.isMoving = moves > 0;
+  if (S.isMoving) soon("busy", 180, () => { if (S.isMoving) { busy(0); $("stop").hidden = false; } });
+  else { busy(null); if (!S.isPacing) $("stop").hidden = true; }
+}
+async function during(work) { moving(true); try { return await work(); } finally { moving(false); } }
+async function move(kind, count) {
+  if (!S.isBuilt) return "";
+  const why = await during(async () => { const told = await session.go(kind, count); take(await session.look()); return told; });
+  tell(why);
+  return why;
+}
+function tell(why) {
+  const hit = /^HIT (\d+)/.exec(why);
+  if (hit) say(T.hit(hit[1], S.picture.breaks[hit[1] - 1] || ""));
+  else if (why === "NONE") say(T.none);
+  else if (why?.startsWith("TOOK")) say(T.took(group(why.slice(5))));
+  else if (why?.startsWith("E40")) say(T.last, true);
+  else if (why === "stopped" && session.isStopped) say(T.stopped);
+}
+// Of many positions that are asked for while one is sought, the last counts.
+const sought = { goal: null, isBusy: false };
+async function seek(step) {
+  if (!S.isBuilt) return;
+  step = Math.max(0, step);
+  if (step > S.picture.n) { await move("step", step - S.picture.p); return; }
+  axis.stand(step, S.picture.n);
+  setPosition(step, S.picture.n, axis.cyclesAt(step) ?? S.picture.cycles);
+  sought.goal = step;
+  if (sought.isBusy) return;
+  sought.isBusy = true;
+  try { while (sought.goal !== null) { const { goal } = sought; sought.goal = null; await move("goto", goal); } } finally { sought.isBusy = false; }
+}
+async function run() {
+  const steps = stepsOf($("count").value);
+  if (steps === null) { $("count").focus(); say(T.howMany, true); return; }
+  if ((isEdited() || S.testFeed) && !(await build())) return;
+  if (!S.isBuilt) { if (!(await build())) return; }
+  await move("run", steps);
+  // (what was asked before the source was changed is asked again)
+  if (S.again) { const again = S.again; S.again = null; if (machine.wordOf(again) !== null) await why(again); }
+  keepSoon();
+}
+const go = {
+  first: () => seek(0), last: () => seek(S.picture?.n ?? 0), back: () => move("back", 1), step: () => move("step", 1), back10: () => move("back", 10), step10: () => move("step", 10),
+  over: () => move("over", 100_000_000), out: () => move("out", 100_000_000), prev: () => (S.picture?.breaks.length ? move("seek") : say(T.noBreaks)), next: () => (S.picture?.breaks.length ? move("on", 1_000_000_000) : say(T.noBreaks)),
+};
+async function stop() { await session.stop(); if (!S.isMoving) take(await session.look()); }
+async function pace() {
+  if (S.isPacing) { await stop(); return; }
+  if ((isEdited() || !S.isBuilt) && !(await build())) return;
+  Object.assign(S, { isPacing: true });
+  session.isPaced = true;
+  $("pace").setAttribute("aria-pressed", "true");
+  $("stop").hidden = false;
+  const why = await session.pace();
+  session.isPaced = false;
+  S.isPacing = false;
+  $("pace").setAttribute("aria-pressed", "false");
+  $("stop").hidden = true;
+  take(await session.look());
+  tell(why);
+}
+
+// Keys of the DSKY, now or in the past.
+
+async function press(text, name) {
+  if (!S.isBuilt) return;
+  if (!/^(CHAN 15|PRO) /.test(text) && !(await session.isInput(text))) { say(T.noInput, true); return; }
+  const { p, n } = S.picture, isPast = p < n && !S.isPacing, wasPacing = S.isPacing;
+  const made = await during(() => session.input(text));
+  if (!made || made === "stopped") return;
+  if (made.error) { say(made.error, true); return; }
+  S.presses.push({ ...made, name });
+  setFeed(made.feed);
+  dsky.tell(S.presses);
+  if (isPast) { axis.survey = null; S.picture = { ...S.picture, n: -1 }; take(await during(() => session.look())); say(T.keyPast(name, group(p))); } else if (!wasPacing) await move("until", session.end + KEY_CYCLES);
+}
+async function undoKey(press) {
+  const lines = session.feed.split("\n"), at = lines.findIndex((it) => it === `${press.cycle} ${press.text}` || it === `EVERY ${press.cycle} 1 1 1 ${press.text}`);
+  if (at < 0) return;
+  lines.splice(at, 1);
+  S.presses = S.presses.filter((it) => it !== press);
+  setFeed(lines.join("\n"));
+  dsky.tell(S.presses);
+  axis.survey = null;
+  take(await during(async () => { await session.refeed(feed.text); S.picture = { ...S.picture, n: -1 }; return session.look(); }));
+}
+function setFeed(text) { S.isOwn = true; feed.text = text; feed.built(); S.builtFeed = text; showEdited(); keepSoon(); }
+
+// The source.
+
+const isEdited = () => S.isBuilt && !(editor.isBuilt && feed.text === S.builtFeed);
+function showEdited() {
+  const is = isEdited() || !S.isBuilt;
+  $("edited").hidden = !is; $("edited").textContent = T.edited;
+  $("run").textContent = is ? T.build : T.run;
+}
+function edited() { S.isOwn = true; showEdited(); keepSoon(); soon("check", editor.lines.length > 20_000 ? 700 : 180, check); }
+async function check() { const faults = await session.check(editor.text, feed.text, S.flight); if (faults) showFaults(faults); }
+let allFaults = [];
+function showFaults(faults) {
+  allFaults = faults;
+  for (const [it, file] of [[editor, "source"], [feed, "feed"]]) it.mark({ faults: Map.groupBy ? Map.groupBy(faults.filter((one) => one.file === file), (one) => one.line) : grouped(faults.filter((one) => one.file === file)) });
+  const errors = faults.filter((it) => it.kind === "error").length, warnings = faults.length - errors;
+  $("faults").hidden = !faults.length;
+  $("faults").textContent = [errors && T.errors(errors), warnings && T.warnings(warnings)].filter(Boolean).join(", ");
+  $("faults").classList.toggle("bad", errors > 0);
+  $("faults").title = faults.slice(0, 6).map((it) => `${T.files[it.file]} ${it.line}: ${it.number} ${it.text}`).join("\n");
+  document.querySelector('[data-file="feed"]').classList.toggle("has-faults", faults.some((it) => it.file === "feed"));
+}
+function grouped(faults) { const map = new Map(); for (const it of faults) map.set(it.line, [...(map.get(it.line) || []), it]); return map; }
+// From one fault to the next.
+let faultAt = -1;
+function nextFault() {
+  faultAt = (faultAt + 1) % allFaults.length;
+  const it = allFaults[faultAt];
+  showFile(it.file);
+  (it.file === "feed" ? feed : editor).showLine(it.line);
+  say(`${it.number} ${it.text}${it.cure ? `: ${it.cure}` : ""}`, it.kind === "error");
+}
+async function build() {
+  const source = editor.text, breaks = [...editor.breaks].map((it) => editor.shownLine(it)).filter(Boolean), others = (S.picture?.breaks || []).filter((it) => !lineOfBreak(it)), wasBuilt = S.isBuilt, before = axis.survey, chosen = S.chosen;
+  const opened = await during(() => session.open({ source, feed: feed.text, flight: S.flight }));
+  showFaults(opened.faults);
+  if (!opened.rows) { say(T.hasFaults, true); showEdited(); const bad = opened.faults.find((it) => it.kind === "error"); if (bad) { showFile(bad.file); (bad.file === "feed" ? feed : editor).showLine(bad.line); } return false; }
+  // The curve of the run before stays to be compared.
+  axis.ghost = wasBuilt && before?.kind === "exact" && before.from === 0 ? before : null;
+  Object.assign(S, { isBuilt: true, builtFeed: feed.text, names: new Names(opened.rows, opened.symbols), old: null, chosen: null, presses: [], testFeed: "" });
+  if (editor.text === source) editor.built();
+  listCells();
+  editor.mark({ places: S.names.rows, counts: new Map(), links: new Map(), breaks: new Set(), notes: new Map() });
+  Object.assign(axis, { chain: [], notes: [], window: null, survey: null });
+  axis.whole.hidden = true;
+  chain.empty(); dsky.tell([]);
+  for (const line of breaks.slice(0, 16)) await setBreak(line);
+  for (const text of others) await session.breakpoint(text);
+  take(await session.look());
+  if (chosen && wasBuilt) S.again = chosen;
+  showEdited();
+  return true;
+}
+async function setBreak(line) {
+  const row = S.names.rows.get(line) || [...S.names.rows.values()].filter((it) => it.line >= line).sort((a, b) => a.line - b.line)[0];
+  return row ? session.breakpoint(`at ${row.place}`) : T.noWordBelow;
+}
+async function toggleBreak(line) {
+  if (!S.isBuilt || !line) { say(T.lineEdited); return; }
+  const known = S.picture.breaks.findIndex((it) => lineOfBreak(it) === line), refused = known >= 0 ? await session.clearBreak(known + 1) : await setBreak(line);
+  if (refused) say(refused, true);
+  take(await session.look(), { isLight: true });
+  keepSoon();
+}
+// The word of the operand that comes next.
+function ghost(text) {
+  const [, operand, offset] = codeOf(text), name = operand && (/^\+?\d+$/.test(offset || "") ? `${operand} +${offset.replace("+", "")}` : operand), word = name && machine.picture && !S.names.isRope(operand) && S.names.kinds.has(operand) ? machine.wordOf(name) : null;
+  return word ? T.is(name, decimalOf(word)) : "";
+}
+// What an instruction or a name below the pointer is.
+function tip(at) {
+  const box = $("hover");
+  if (!at || !S.picture) { soon("tip", 60, () => { box.hidden = true; }); return; }
+  let text = "";
+  const named = S.names.kinds.get(at.word), line = editor.lines[at.line - 1] || "";
+  if (named) { const word = machine.wordOf(at.word); text = `${at.word} ${named.value}${word && named.kind !== "FIXED" ? `\n${word} = ${decimalOf(word)}` : ""}`; }
+  if (at.kind === "op") text = sentenceOf(codeOf(line), (name) => (S.names.isRope(name.split(" ")[0]) ? null : machine.wordOf(name)));
+  if (!text) { box.hidden = true; return; }
+  soon("tip", 350, () => { box.textContent = text; box.hidden = false; box.style.left = `${Math.max(4, Math.min(innerWidth - box.offsetWidth - 8, at.x))}px`; box.style.top = `${at.y + box.offsetHeight > innerHeight ? at.y - box.offsetHeight - 26 : at.y + 4}px`; });
+}
+async function explain(fault) {
+  if (!fault?.number) return;
+  showDialog(fault.number, el("pre", {}, await session.explain(fault.number)));
+}
+function showDialog(title, ...inside) {
+  const box = $("dialog");
+  box.setAttribute("aria-label", title);
+  box.replaceChildren(el("div", { class: "dialog-head" }, el("h2", {}, title), el("button", { class: "plain", "aria-label": T.close, onclick: () => box.close() }, "\u00d7")), ...inside);
+  if (!box.open) box.showModal();
+}
+
+// Why.
+
+async function why(place, count = 16) {
+  if (!S.isBuilt) return;
+  S.chosen = place; machine.chosen = place;
+  const asked = await during(() => session.why(place, count, true));
+  if (!asked || asked === "stopped") return;
+  chain.show({ ...asked, word: place ? machine.wordOf(place) : null });
+  chain.stand(S.picture.p);
+  machine.show(S.picture, S.old, S.names);
+  const links = new Map();
+  for (const it of Object.values(asked.steps)) if (it.line) links.set(it.line, it.t);
+  editor.mark({ links });
+  axis.chain = chain.links.map((it) => ({ t: it.t, text: it.text }));
+  axis.draw();
+  if (place && place !== cell() && S.names.erasable.some((it) => it.name === place)) chooseCell(place);
+  document.body.dataset.room = "why";
+}
+
+// The curve.
+
+const cell = () => $("cell").value;
+function listCells() {
+  const kept = cell(), names = [...new Set(S.names.erasable.map((it) => it.name))].slice(0, 400), box = (label, list) => el("optgroup", { label }, ...list.map((it) => el("option", { value: it }, it)));
+  $("cell").replaceChildren(...(names.length ? [box(T.groups.words, names)] : []), box(T.groups.registers, ["A", "L", "Q"]), box(T.groups.counters, ["TIME1", "TIME3", "TIME4"].filter((it) => !names.includes(it))), box(T.groups.channels, ["CH010", "CH011", "CH012"]));
+  $("cell").value = [kept, "SUM", "RESULT", "COUNT"].find((it) => names.includes(it)) || names[0] || "A";
+}
+function chooseCell(name) {
+  if (![...$("cell").options].some((it) => it.value === name)) $("cell").append(el("option", { value: name }, name));
+  $("cell").value = name;
+  loadSurvey();
+}
+
+// What is worked out beside the session.
+
+async function loadCover() {
+  if (!S.isBuilt || S.isPacing || S.isMoving) { if (S.isMoving) soon("cover", 300, loadCover); return; }
+  const counts = await session.cover();
+  if (counts) editor.mark({ counts, most: Math.max(1, ...[...counts.values()].map((it) => it[0])) });
+}
+async function loadSurvey() {
+  if (!S.isBuilt || S.isPacing || !session.n) return;
+  const shown = (it) => { axis.survey = it; axis.draw(); $("sampled").hidden = it.kind !== "sampled"; $("sampled").textContent = T.sampled; $("sampled").title = T.sampledTitle(group(it.every || 1)); };
+  const asked = { from: axis.from, to: Math.max(axis.window ? axis.to : session.n, 1), cell: cell(), buckets: Math.max(100, $("axis").clientWidth) };
+  const found = await session.survey(asked, (part) => { if (part.cell === cell()) shown(part); });
+  if (found && found.cell === cell()) shown(found);
+}
+async function loadNotes() {
+  if (!S.isBuilt || S.isPacing || setting.get("notes") === "off") return;
+  const notes = await session.notes();
+  if (!notes) return;
+  editor.mark({ notes: grouped(notes.filter((it) => it.line)) });
+  axis.notes = notes;
+  axis.draw();
+}
+
+// Tests.
+
+function readTests() {
+  const { tests: found, faults } = testsOf(tests.text);
+  tests.mark({ faults: grouped(faults) });
+  S.tests = found; S.results = [];
+  testPane.show(found, []);
+  if (found.length && !faults.length) soon("run tests", 500, runTests);
+}
+async function runTests() {
+  const all = S.tests || [], results = S.results = [], source = editor.text;
+  for (const [i, test] of all.entries()) {
+    const told = await session.once({ source, feed: feedOf(test, feed.text), flight: S.flight, steps: test.steps || stepsOf($("count").value) || 200, places: test.wanted.filter((it) => it.kind === "mem").map((it) => it.place) });
+    if (results !== S.results) return;
+    results[i] = { wrong: judge(test, told) };
+  }
+  testPane.show(all, results);
+}
+async function openTest(test, result) {
+  const inputs = feedOf(test, feed.text), kept = feed.text;
+  if (isEdited() || inputs !== session.feed) {
+    if (!(await build())) return;
+    if (inputs !== kept) { await session.refeed(inputs); S.testFeed = test.name; say(T.testFeed(test.name)); }
+  }
+  const steps = test.steps || stepsOf($("count").value) || 200;
+  if (session.n < steps) await move("step", steps - session.p);
+  const wrong = result?.wrong;
+  if (wrong?.cycles) await move("until", wrong.cycles);
+  else if (wrong?.step) await seek(wrong.step);
+  else await seek(steps);
+  if (wrong?.place) await why(wrong.place);
+}
+
+// The tabs.
+
+function chooseTab(list, name, key) {
+  for (const it of list.querySelectorAll('[role="tab"]')) { const is = it.dataset[key] === name; it.setAttribute("aria-selected", String(is)); it.tabIndex = is ? 0 : -1; }
+}
+function showTab(name) {
+  S.tab = name;
+  chooseTab($("tabs"), name, "tab");
+  for (const it of TABS) $(`tab-${it}`).hidden = it !== name;
+  document.body.classList.toggle("tall", name === "dsky");
+  if (!S.picture) return;
+  if (name === "steps") showSteps();
+  if (name === "output") panes.output.show(session.outputs, S.picture.cycles);
+  if (name === "memory") panes.memory.show(S.picture, S.old, S.names);
+  if (name === "tests" && S.tests?.length && !S.results.length) runTests();
+  if (name === "console") panes.console.line.focus();
+}
+function showFile(name) {
+  chooseTab($("files"), name, "file");
+  for (const [it, id] of [[editor, "editor"], [feed, "feed"], [tests, "tests"]]) { $(id).hidden = id !== (name === "source" ? "editor" : name); it.measure(); }
+}
+async function command(text) {
+  panes.console.asked(text);
+  if (!S.isBuilt) { panes.console.told([T.hasFaults]); return; }
+  const told = await during(() => session.console(text));
+  if (told === "stopped") { panes.console.told([T.stopped]); return; }
+  panes.console.told(told.refused ? [T.noQuit] : told.lines);
+  if (told.feed != null && told.feed !== S.builtFeed) setFeed(told.feed);
+  take(await session.look());
+}
+
+// Files and links.
+
+const document_ = () => ({ name: S.name, source: editor.text, feed: feed.text, tests: tests.text, flight: S.flight, steps: S.isBuilt ? session.n : stepsOf($("count").value) || 0, count: $("count").value, position: S.isBuilt ? session.p : undefined, breaks: S.picture?.breaks || [], cell: cell(), why: S.chosen || "" });
+function keep() { if (S.isOpen && S.isOwn) { $("name").classList.toggle("unkept", !storage.keep(document_())); } }
+const keepSoon = () => soon("keep", 400, keep);
+async function openDoc(doc, { id = null, isExample = false } = {}) {
+  if (S.isOpen && !storage.isKept && isEdited() && !confirm(T.leave)) return;
+  const { name = "", source, feed: inputs = "", tests: stated = "", flight = false, steps = 0, position, breaks = [], cell: wanted = "", why: asked = "" } = doc;
+  S.isOpen = false;
+  Object.assign(S, { name: name || T.unnamed, flight, isBuilt: false, chosen: null, picture: null, old: null });
+  storage.begin(id);
+  S.isOwn = !isExample;
+  $("name").textContent = S.name;
+  document.title = `${S.name} · agcws`;
+  for (const it of [editor, feed, tests]) Object.assign(it, { breaks: new Set(), base: null, counts: new Map(), notes: new Map(), links: new Map(), now: 0, faults: new Map() });
+  editor.text = source; feed.text = inputs; tests.text = stated;
+  showFile("source");
+  $("count").value = doc.count && stepsOf(doc.count) ? doc.count : group(steps || 200);
+  readTests();
+  S.isOpen = true;
+  // (a source that cannot be built stands there all the same, with its faults)
+  if (await build()) {
+    if (wanted && wanted !== cell()) { if ([...$("cell").options].some((it) => it.value === wanted)) $("cell").value = wanted; }
+    if (steps) await move("step", steps);
+    for (const text of breaks) await session.breakpoint(text);
+    if (breaks.length) take(await session.look(), { isLight: true });
+    if (position != null && position !== session.p) await seek(position);
+    if (asked) await why(asked);
+    document.body.dataset.room = "source";
+  }
+  keep();
+}
+async function openPicked(files) {
+  const some = [...files].slice(0, 4);
+  if (some.some((it) => it.size > MOST_FILE)) { say(T.tooLarge, true); return; }
+  const ropes = some.filter((it) => /\.(rope|bin)$/i.test(it.name) || it.size === 73_728);
+  if (ropes.length) { await showRope(await Promise.all(ropes.slice(0, 2).map(async (it) => ({ name: it.name, bytes: new Uint8Array(await it.arrayBuffer()) })))); return; }
+  const found = await Promise.all(some.map(async (it) => ({ name: it.name, text: await it.text() }))), of = (kind) => found.find((it) => it.name.toLowerCase().endsWith(kind));
+  if (found.some((it) => it.text.slice(0, 4000).includes("\0"))) { say(T.notText, true); return; }
+  const saved = of(".json");
+  if (saved) { let doc = null; try { doc = JSON.parse(saved.text); } catch { /* told below */ } if (typeof doc?.source === "string") await openDoc(doc); else say(T.noSession, true); return; }
+  const inputs = of(".feed"), source = found.find((it) => !/\.(feed|tests|json)$/i.test(it.name)), stated = of(".tests");
+  if (source) { await openDoc({ name: source.name.replace(/\.lst$/i, ".agc"), source: sourceOf(source.text), feed: inputs?.text || "", tests: stated?.text || "" }); say(T.opened(source.name)); return; }
+  if (inputs) { feed.text = inputs.text; edited(); showFile("feed"); }
+  if (stated) { tests.text = stated.text; readTests(); showFile("tests"); }
+}
+// A listing is taken as the source that it shows.
+function sourceOf(text) {
+  const lines = text.split("\n");
+  if (!/^SYMBOLS \d+$/m.test(text) || !/^ *1 /.test(lines[0])) return text;
+  return lines.slice(0, lines.findIndex((it) => /^SYMBOLS \d+$/.test(it))).filter((it, i, all) => it.slice(0, 5) !== all[i - 1]?.slice(0, 5)).map((it) => it.slice(21)).join("\n");
+}
+async function showRope(ropes) {
+  const [first, second] = ropes, out = el("pre", { class: "rope", tabindex: 0 }), ask = async (name, work) => { out.textContent = T.starting; out.textContent = await work(); };
+  const buttons = el("div", { class: "row" }, ...["sums", "parity", "words"].map((it) => el("button", { class: "small", onclick: () => ask(it, () => session.rope(it, first.bytes)) }, it)));
+  const other = second?.bytes || session.rope;
+  if (session.rope || second) buttons.append(el("button", { class: "small", onclick: () => ask("compare", () => session.rope("compare", first.bytes, other)) }, second ? `compare ${second.name}` : T.ropeCompare));
+  buttons.append(el("button", { class: "small", onclick: async () => { const source = await session.ropeSource(first.bytes); if (source) { $("dialog").close(); await openDoc({ name: `${first.name.replace(/\.\w+$/, "")}.agc`, source, flight: true }); } else out.textContent = await session.rope("words", first.bytes); } }, T.ropeSource));
+  showDialog(`${T.rope} ${first.name}`, buttons, out);
+  await ask("sums", () => session.rope("sums", first.bytes));
+}
+const base = () => (S.name || T.unnamed).replace(/\.agc$/, "");
+function saveSource() { download(`${base()}.agc`, editor.text); }
+function saveAll() { download(`${base()}.json`, JSON.stringify(document_(), null, 1), "application/json"); }
+async function copyLink() {
+  const doc = document_(), hash = await linkOf({ name: doc.name, source: doc.source, feed: doc.feed, tests: doc.tests, flight: doc.flight, steps: doc.steps, position: doc.position, breaks: doc.breaks, cell: doc.cell, why: doc.why }), url = location.href.split("#")[0] + hash;
+  history.replaceState(null, "", hash);
+  try { await navigator.clipboard.writeText(url); say(T.linkCopied); } catch { showDialog(T.linkShown, el("textarea", { class: "link-text", readonly: true, rows: 4, "aria-label": T.linkShown }, url)); $("dialog").querySelector("textarea").select(); }
+}
+async function openLink() {
+  try {
+    const task = await taskOf(location.hash);
+    if (!task) return false;
+    await openDoc(task);
+    history.replaceState(null, "", location.href.split("#")[0]);
+    return true;
+  } catch { banner(T.linkSpoilt); history.replaceState(null, "", location.href.split("#")[0]); return false; }
+}
+
+// Menus.
+
+function openMenu(id, button, items) {
+  const menu = $(id);
+  if (!menu.hidden) { closeMenus(); return; }
+  closeMenus();
+  menu.replaceChildren(...items.map((it) => (it === "-" ? el("hr") : it.head ? el("h3", {}, it.head) : el("div", { class: "item", role: "none" }, el("button", { role: it.isOn === undefined ? "menuitem" : "menuitemcheckbox", "aria-checked": it.isOn === undefined ? null : String(it.isOn), tabindex: -1, onclick: () => { closeMenus(); it.work(); } }, el("b", {}, it.name), el("span", {}, it.note || "")), it.remove ? el("button", { class: "remove", role: "menuitem", tabindex: -1, "aria-label": `${T.menu.remove}: ${it.name}`, title: T.menu.remove, onclick: (event) => { it.remove(); event.target.closest(".item").remove(); menu.querySelector("button")?.focus(); } }, "\u00d7") : ""))));
+  menu.hidden = false;
+  button.setAttribute("aria-expanded", "true");
+  menu.querySelector("button").focus();
+}
+function closeMenus() { for (const [id, button] of [["menu", "menu-open"], ["more-menu", "more"]]) { if ($(id).contains(document.activeElement)) $(button).focus(); $(id).hidden = true; $(button).setAttribute("aria-expanded", "false"); } }
+function menuKeys(event) {
+  const all = [...event.currentTarget.querySelectorAll("button")], at = all.indexOf(document.activeElement), to = { ArrowDown: at + 1, ArrowUp: at - 1, Home: 0, End: all.length - 1 }[event.key];
+  if (event.key === "Escape" || event.key === "Tab") { closeMenus(); event.stopPropagation(); if (event.key === "Escape") event.preventDefault(); return; }
+  if (to === undefined) return;
+  event.preventDefault(); event.stopPropagation();
+  all[(to + all.length) % all.length].focus();
+}
+function showMenu() {
+  const mine = storage.all().filter((it) => it.id !== storage.id).slice(0, 12);
+  openMenu("menu", $("menu-open"), [
+    { name: T.menu.open, note: T.menu.openNote, work: () => $("picker").click() }, { name: T.menu.fresh, work: () => openDoc({ name: T.unnamed, source: "        SETLOC  4000\n\n", feed: "" }) }, "-",
+    { name: T.menu.save, note: `${base()}.agc`, work: saveSource }, { name: T.menu.saveFeed, note: `${base()}.feed`, work: () => download(`${base()}.feed`, feed.text) }, { name: T.menu.saveAll, note: `${base()}.json`, work: saveAll }, { name: T.menu.link, work: copyLink },
+    ...(mine.length ? [{ head: T.menu.mine }, ...mine.map((it) => ({ name: it.name || T.unnamed, note: new Date(it.at).toLocaleString("en", { dateStyle: "medium", timeStyle: "short" }), work: () => openDoc(it, { id: it.id }), remove: () => storage.remove(it.id) }))] : []),
+    { head: T.menu.examples }, ...examples.map((it) => ({ name: it.name, note: it.about, work: () => openDoc(it, { isExample: true }) })),
+  ]);
+}
+function showMore() {
+  const theme = document.documentElement.dataset.theme;
+  openMenu("more-menu", $("more"), [
+    { name: T.more[theme === "dark" ? "light" : "dark"], note: "D", work: () => setTheme(theme === "dark" ? "light" : "dark") }, { name: T.more.lecture, note: "L", isOn: document.documentElement.classList.contains("lecture"), work: lecture }, { name: T.more.notes, isOn: setting.get("notes") !== "off", work: toggleNotes }, "-",
+    { name: T.more.page, note: `${base()}.html`, work: saveHandout }, { name: T.more.png, work: () => axis.picture().toBlob((it) => download(`${base()}-time.png`, it)) }, { name: T.more.svg, work: () => { const text = svgOf(chain); if (text) download(`${base()}-${T.chainFile}.svg`, text, "image/svg+xml"); else say(T.noChain); } }, { name: T.more.print, note: "Ctrl P", work: () => print() }, "-",
+    { name: T.more.about, work: async () => showDialog("agcws", el("p", {}, T.about(await engine.about))) },
+  ]);
+}
+function toggleNotes() { const isOff = setting.get("notes") === "off"; setting.set("notes", isOff ? "on" : "off"); if (isOff) loadNotes(); else { editor.mark({ notes: new Map() }); axis.notes = []; axis.draw(); } }
+async function saveHandout() { if (S.isBuilt) download(`${base()}.html`, await handoutOf({ session, names: S.names, name: S.name, source: editor.lines, cell: cell(), why: S.chosen, picture: S.picture, say }), "text/html"); }
+function setTheme(name, isKept = true) { document.documentElement.dataset.theme = name; axis.draw(); if (isKept) setting.set("theme", name); }
+function lecture() { const is = document.documentElement.classList.toggle("lecture"); setting.set("lecture", is ? "on" : "off"); scaled(); }
+function scaled() { for (const it of [editor, feed, tests]) it.scaled(); axis.draw(); if (chain.asked) chain.show(chain.asked); if (S.tab === "steps") showSteps(); }
+
+// What is clicked.
+
+function label() {
+  const put = (id, text) => { $(id).textContent = text; };
+  for (const [name, text] of [["run", T.run], ["stop", T.stop], ["steps-word", T.stepsWord], ["pace-word", T.realTime], ["h-regs", T.registers], ["h-words", T.words], ["h-chans", T.channels], ["of-word", T.of], ["unproved", T.unproved]]) put(name, text);
+  $("unproved").title = T.unprovedTitle;
+  for (const it of document.querySelectorAll("[data-go]")) { it.append(icon(it.dataset.go)); it.title = T.tips[it.dataset.go]; it.setAttribute("aria-label", it.title); }
+  for (const it of document.querySelectorAll("[data-tab]")) it.textContent = T.tabs[it.dataset.tab];
+  for (const it of document.querySelectorAll("[data-file]")) it.textContent = T.files[it.dataset.file];
+  for (const it of document.querySelectorAll("[data-room]")) if (it.closest("nav")) it.textContent = T.rooms[it.dataset.room];
+  for (const id of ["run", "stop", "pace", "more", "keys", "position"]) $(id).title = T.tips[id];
+  $("more").append(icon("more")); $("more").setAttribute("aria-label", T.tips.more); $("keys").setAttribute("aria-label", T.tips.keys);
+  $("curve").prepend(icon("curve"));
+  axis.whole.textContent = T.tips.whole.split(" (")[0].toLowerCase().replace("the ", ""); axis.whole.title = T.tips.whole;
+  $("faults").setAttribute("aria-description", T.toFault);
+}
+function bind() {
+  document.querySelector(".transport").addEventListener("click", (event) => { const it = event.target.closest("[data-go]"); if (it && S.isBuilt) go[it.dataset.go](); });
+  for (const [id, work] of [["run", run], ["stop", stop], ["pace", pace], ["keys", showSheet], ["menu-open", showMenu], ["more", showMore], ["faults", nextFault]]) $(id).addEventListener("click", work);
+  for (const id of ["menu", "more-menu"]) $(id).addEventListener("keydown", menuKeys);
+  $("picker").addEventListener("change", () => { openPicked($("picker").files); $("picker").value = ""; });
+  $("count").addEventListener("keydown", (event) => { if (event.key === "Enter") run(); });
+  $("position").addEventListener("focus", () => { $("position").value = session.p; $("position").select(); });
+  $("position").addEventListener("keydown", (event) => { if (event.key !== "Enter") return; const step = stepsOf($("position").value); $("position").blur(); if (step !== null) seek(step); });
+  $("position").addEventListener("blur", () => S.picture && setPosition(S.picture.p, S.picture.n, S.picture.cycles));
+  $("cell").addEventListener("change", () => { loadSurvey(); keepSoon(); });
+  for (const [list, key, work] of [[$("tabs"), "tab", showTab], [$("files"), "file", showFile]]) {
+    list.addEventListener("click", (event) => { const it = event.target.closest('[role="tab"]'); if (it) work(it.dataset[key]); });
+    list.addEventListener("keydown", (event) => {
+      const all = [...list.querySelectorAll('[role="tab"]')], at = all.indexOf(event.target), by = { ArrowRight: 1, ArrowLeft: -1 }[event.key];
+      if (at < 0 || !by) return;
+      event.preventDefault(); event.stopPropagation();
+      const next = all[(at + by + all.length) % all.length];
+      next.focus(); work(next.dataset[key]); next.focus();
+    });
+  }
+  $("rooms").addEventListener("click", (event) => { const it = event.target.closest("[data-room]"); if (it) { document.body.dataset.room = it.dataset.room; for (const one of [editor, feed, tests]) one.measure(); showTab(S.tab); axis.draw(); } });
+  document.addEventListener("click", (event) => { if (!event.target.closest(".file")) closeMenus(); });
+  const dock = (height) => { const most = innerHeight - 330, now = Math.max(90, Math.min(most, height)); document.body.style.setProperty("--dock", `${now}px`); $("split").setAttribute("aria-valuenow", Math.round(now)); editor.measure(); };
+  $("split").addEventListener("pointerdown", (event) => { $("split").setPointerCapture(event.pointerId); $("split").onpointermove = (moved) => dock(innerHeight - moved.clientY - 4); $("split").onpointerup = () => { $("split").onpointermove = null; }; });
+  $("split").addEventListener("keydown", (event) => { const by = { ArrowUp: 24, ArrowDown: -24 }[event.key]; if (by) { event.preventDefault(); event.stopPropagation(); dock(document.querySelector(".dock").offsetHeight + by); } });
+  addEventListener("beforeunload", (event) => { keep(); if (!storage.isKept) event.preventDefault(); });
+  addEventListener("pagehide", keep);
+  addEventListener("dragover", (event) => { event.preventDefault(); document.body.classList.add("dropping"); });
+  for (const name of ["dragleave", "drop", "dragend"]) addEventListener(name, () => document.body.classList.remove("dropping"));
+  addEventListener("drop", (event) => { event.preventDefault(); if (event.dataTransfer.files.length) openPicked(event.dataTransfer.files); });
+  addEventListener("hashchange", openLink);
+  bindKeys({ go, run, stop, pace, seek, showTab, tabs: TABS, closeMenus, isBusy: () => S.isMoving || S.isPacing, isBuilt: () => S.isBuilt, why: () => why(S.chosen || cell()), toggleBreak: () => toggleBreak(document.activeElement === editor.area ? editor.builtLine(editor.caretLine()) : S.picture?.where.line), edit: () => { showFile("source"); editor.area.focus(); }, theme: () => setTheme(document.documentElement.dataset.theme === "dark" ? "light" : "dark"), lecture, save: saveSource, dsky: (event) => S.tab === "dsky" && dsky.key(event) });
+}
+async function begin() {
+  setTheme(setting.get("theme") || (matchMedia("(prefers-color-scheme: dark)").matches ? "dark" : "light"), false);
+  document.documentElement.classList.toggle("lecture", setting.get("lecture") === "on");
+  document.body.dataset.room = "source";
+  label(); bind();
+  document.fonts?.ready.then(scaled);
+  say(T.starting);
+  engine.about.then((about) => { $("unproved").hidden = about.proved; }, (failed) => banner(`${T.failed}: ${failed.message}`));
+  const given = (await engine.about.catch(() => null))?.given?.source ? (await engine.about).given : null;
+  if (!(await openLink())) {
+    const mine = given ? null : storage.mine();
+    if (given) await openDoc({ name: given.source.name, source: given.source.text, feed: given.feed?.text || "" });
+    else if (mine) await openDoc(mine, { id: mine.id });
+    else { const first = examples.find((it) => it.name === "lost_sum.agc") || examples[0] || { source: "        SETLOC  4000\n\n" }; await openDoc(first, { isExample: true }); }
+  }
+  if ($("said").textContent === T.starting) say("");
+  document.body.dataset.ready = String(Math.round(performance.now()));
+}
+// (for the tests of the page)
+window.workbench = { S, session, engine, editor, feed, tests, axis, chain, go, seek, move, why, openDoc, openPicked, cell, storage };
+begin();

@@ -1,0 +1,472 @@
+#!/usr/bin/env python3
+"""Tests of the workbench in headless Chromium, by clicks and keys, with the module inside.
+
+    page/test_page.py [-v] [CLASS[.TEST] ..]
+    page/test_page.py --pictures [FOLDER]     makes the pictures of the documents (docs/pictures/workbench*.png), and with FOLDER those of all widths there
+
+Where Chromium or its driver is not there, the tests are skipped, and the line that installs them is told."""
+import functools
+import http.server
+import os
+import subprocess
+import sys
+import tempfile
+import threading
+import time
+import unittest
+
+sys.dont_write_bytecode = True
+HERE = os.path.dirname(os.path.realpath(__file__))
+ROOT = os.path.dirname(HERE)
+sys.path.insert(0, HERE)
+import driver
+
+MODULE = os.environ.get("AGCWS_MODULE", f"{ROOT}/dist/agcws.wasm")
+# A page that is served already, in place of the one that is made here.
+SERVED = os.environ.get("AGCWS_PAGE")
+WIDTHS = (360, 800, 1280, 2560)
+READY = "return document.body.dataset.ready"
+# A program that runs on and on, and changes a word all the time; and one that says nothing but counts in erasable memory.
+ENDLESS = "        SETLOC  100\nCOUNT   ERASE\n        SETLOC  4000\nLOOP    CA      COUNT\n        AD      ONE\n        TS      COUNT\n        TCF     LOOP\n        TCF     LOOP\nONE     OCT     1\n"
+
+
+def read(path):
+    with open(path, encoding="utf-8") as file:
+        return file.read()
+
+
+class Served(http.server.SimpleHTTPRequestHandler):
+    def log_message(self, *_):
+        pass
+
+
+def reason():
+    """Why these tests cannot run, or nothing."""
+    if how := driver.missing():
+        return f"Chromium and its driver are not there: {how}"
+    return None if SERVED or os.path.exists(MODULE) else f"{MODULE} is not there: gate/pack --page makes it"
+
+
+class Workbench(unittest.TestCase):
+    """The page, opened from the disk, in a browser of its own class."""
+
+    @classmethod
+    def setUpClass(cls):
+        if why := reason():
+            raise unittest.SkipTest(why)
+        cls.room = tempfile.TemporaryDirectory(prefix="agcws-page-")
+        cls.page = f"{cls.room.name}/agcws.html"
+        if not SERVED:
+            subprocess.run([f"{HERE}/make", "--module", MODULE, "--out", cls.page], check=True, stdout=subprocess.DEVNULL)
+        cls.url = SERVED or driver.url_of(cls.page)
+        cls.browser = driver.Browser()
+        cls.addClassCleanup(cls.room.cleanup)
+        cls.addClassCleanup(cls.browser.close)
+
+    def setUp(self):
+        self.open()
+
+    def open(self, more="", url=None):
+        """A page of a person who comes for the first time."""
+        browser = self.browser
+        browser.open(url or self.url)
+        browser.wait("return window.workbench")
+        browser.script("localStorage.clear(); sessionStorage.clear(); window.workbench.storage.id = null; window.workbench.S.isOpen = false")
+        browser.open("about:blank")
+        browser.open((url or self.url) + more)
+        browser.wait(READY, what="ready")
+
+    def js(self, text, *given):
+        return self.browser.script(text, *given)
+
+    def wait(self, text, seconds=20):
+        return self.browser.wait(text, seconds)
+
+    def at(self):
+        return self.js("const {p, n} = workbench.session; return [p, n]")
+
+    def still(self):
+        """Waits until nothing is being worked out."""
+        self.wait("return !workbench.S.isMoving")
+
+
+class Runs(Workbench):
+    def test_every_example_puts_out_what_the_program_does(self):
+        for line in read(f"{ROOT}/examples/runs.txt").splitlines():
+            if line.startswith("#") or not line.strip():
+                continue
+            name, _, steps = line.split()
+            with self.subTest(name):
+                put = self.js("await workbench.openDoc(JSON.parse(document.getElementById('examples').textContent).find(it => it.name === arguments[0]), {isExample: true}); const {outputs, n} = workbench.session; return [n, outputs.cycles.map((it, i) => `${it} CH ${outputs.channels[i].toString(8).padStart(3, '0')} ${outputs.words[i].toString(8).padStart(5, '0')}\\n`).join('')]", f"{name}.agc")
+                self.assertEqual(put, [int(steps), read(f"{ROOT}/examples/{name}.out")])
+                self.assertFalse(self.js("return document.getElementById('faults').classList.contains('bad')"))
+
+    def test_it_is_ready_within_a_second(self):
+        ready = min(int(self.js("return document.body.dataset.ready")) for _ in (self.open() for _ in range(3)))
+        print(f"\nready after {ready} ms", file=sys.stderr)
+        self.assertLess(ready, 1000)
+
+    def test_nothing_is_asked_of_any_server_and_no_rule_of_the_policy_is_broken(self):
+        broken = self.js("return new Promise(done => { addEventListener('securitypolicyviolation', it => done(it.violatedDirective)); setTimeout(() => done(''), 400) })")
+        self.assertEqual(broken, "")
+        self.assertEqual(self.js("return performance.getEntriesByType('resource').filter(it => !it.name.startsWith('data:') && !it.name.startsWith('blob:')).map(it => it.name)"), [])
+        self.assertEqual([it for it in self.browser.said() if "favicon" not in it], [])
+        self.assertEqual(self.js("setTimeout('window.evil = 1'); await new Promise(done => setTimeout(done, 200)); return String(window.evil)"), "undefined")
+        self.assertEqual(self.js("try { await fetch('http://127.0.0.1:1/'); return 'taken' } catch { return 'refused' }"), "refused")
+        self.assertEqual(self.js("return new Promise(done => { addEventListener('securitypolicyviolation', it => done(it.violatedDirective), {once: true}); const made = document.createElement('script'); made.textContent = 'window.evil = 1'; document.body.append(made); setTimeout(() => done(''), 500) })"), "script-src-elem")
+
+    @unittest.skipIf(SERVED, "the page is served already")
+    def test_a_server_may_have_it_too(self):
+        handler = functools.partial(Served, directory=self.room.name)
+        with http.server.ThreadingHTTPServer(("127.0.0.1", 0), handler) as server:
+            threading.Thread(target=server.serve_forever, daemon=True).start()
+            self.open(url=f"http://127.0.0.1:{server.server_port}/agcws.html")
+            self.assertEqual(self.at(), [60, 60])
+            server.shutdown()
+
+
+class Search(Workbench):
+    def test_the_lost_sum_is_found_by_three_clicks(self):
+        browser = self.browser
+        self.assertIn("SUM", browser.text("#words"))
+        browser.click('#words [data-cell="SUM"]')
+        self.wait("return document.querySelector('.why h2')?.textContent.includes('SUM 61')")
+        self.assertIn("ONE 1", browser.text(".why .ask"))
+        browser.click(".why .link.rupt")
+        self.wait("return workbench.session.p === 20")
+        self.wait("return document.getElementById('now').textContent.includes('in T3RUPT since step 18')")
+        browser.click("#now .badge")
+        self.wait("return workbench.session.p === 18")
+
+    def test_mended_it_is_as_stated_and_the_old_curve_stays_to_be_compared(self):
+        browser = self.browser
+        browser.click('[data-tab="tests"]')
+        self.wait("return document.querySelector('.test.bad')")
+        browser.click(".test.bad")
+        self.wait("return document.querySelector('.why h2')")
+        mended = read(f"{ROOT}/examples/lost_sum.agc").replace("        ADS     TICKS\n", "        ADS     TICKS\n        CA      KEPT\n", 1).replace("        CAF     ONE ", "        TS      KEPT\n        CAF     ONE ", 1).replace("TICKS   ERASE\n", "TICKS   ERASE\nKEPT    ERASE\n", 1)
+        self.assertIn("KEPT", mended)
+        self.js("workbench.editor.area.focus(); workbench.editor.area.select(); document.execCommand('insertText', false, arguments[0])", mended)
+        self.wait("return document.getElementById('run').textContent.startsWith('Build')")
+        browser.click("#run")
+        self.wait("return workbench.session.n === 60 && !workbench.S.isMoving && workbench.axis.ghost")
+        browser.click("#tab-tests .small")
+        self.wait("return document.querySelector('.test.good')")
+
+    def test_moves_by_keys_and_by_clicks_come_to_the_same_steps(self):
+        browser = self.browser
+        browser.keys("Home")
+        self.wait("return workbench.session.p === 0")
+        for _ in range(3):
+            browser.keys("Right")
+        self.wait("return workbench.session.p === 3")
+        browser.click('[data-go="back"]')
+        self.wait("return workbench.session.p === 2")
+        browser.click("#position")
+        browser.keys(*"22", "Enter")
+        self.wait("return workbench.session.p === 22")
+        self.wait("return document.querySelector('#editor .is-now')?.textContent.includes('CCS')")
+        self.js("document.activeElement.blur(); workbench.editor.showLine(29)")
+        x, y = self.js("const box = document.querySelector('#editor [data-line=\"29\"] .g').getBoundingClientRect(); return [box.left + 8, box.top + 8]")
+        browser.pointer((int(x), int(y)), "down", "up")
+        self.wait("return workbench.S.picture.breaks.length === 1")
+        browser.keys("Home")
+        self.wait("return workbench.session.p === 0")
+        browser.keys("n")
+        self.wait("return workbench.session.p === 9")
+        box = self.js("const it = document.getElementById('axis').getBoundingClientRect(); return [it.left, it.top, it.width, it.height]")
+        browser.pointer((int(box[0] + box[2] * 0.3), int(box[1] + 60)), "down", (int(box[0] + box[2] * 0.6), int(box[1] + 60)), "up")
+        self.wait("return workbench.session.p > 30 && !workbench.S.isMoving")
+
+    def test_a_faulty_line_is_told_while_it_is_typed(self):
+        browser = self.browser
+        self.js("workbench.editor.showLine(27); workbench.editor.area.focus(); const at = workbench.editor.text.indexOf('INDEX   COUNT'); workbench.editor.area.setSelectionRange(at + 3, at + 4)")
+        began = time.monotonic()
+        browser.keys("X")
+        self.wait("return document.querySelector('#editor .told')")
+        took = time.monotonic() - began
+        self.assertIn("E15", browser.text("#editor .told"))
+        self.assertIn("1 error", browser.text("#faults"))
+        self.assertLess(took, 2)
+        # (what stands beside the lines below has moved with them, and the run stands still)
+        self.assertEqual(self.at(), [60, 60])
+        browser.click("#editor .told")
+        self.wait("return document.getElementById('dialog').open")
+        self.assertIn("E15", browser.text("#dialog"))
+
+    def test_the_check_of_a_thousand_lines_is_quick(self):
+        self.js("await workbench.openDoc({name: 'long.agc', source: '        SETLOC  4000\\n' + '        CA      0\\n'.repeat(1000), steps: 10})")
+        took = self.js("const times = []; for (let i = 0; i < 5; i += 1) { const began = performance.now(); await workbench.session.check(workbench.editor.text, '', false); times.push(performance.now() - began) } return Math.min(...times)")
+        print(f"\ncheck of 1,000 lines {took:.0f} ms", file=sys.stderr)
+        self.assertLess(took, 150)
+
+
+class Keys(Workbench):
+    def test_key_echo_in_time_with_the_clock(self):
+        browser = self.browser
+        self.js("await workbench.openDoc(JSON.parse(document.getElementById('examples').textContent).find(it => it.name === 'key_echo.agc'), {isExample: true})")
+        browser.click('[data-tab="dsky"]')
+        browser.click("#pace")
+        self.wait("return workbench.S.isPacing && workbench.session.n > 5000")
+        before = self.js("return workbench.session.outputs.count")
+        cycles, began = self.js("return [workbench.session.end, performance.now()]")
+        browser.click('[data-key="5"]')
+        self.wait(f"return workbench.session.outputs.count > {before}", 5)
+        self.assertEqual(self.js("const {channels, words} = workbench.session.outputs; return [channels.at(-1), words.at(-1)]"), [0o10, 5])
+        time.sleep(0.8)
+        now, ended = self.js("return [workbench.session.end, performance.now()]")
+        speed = (now - cycles) / (ended - began) * 1000
+        print(f"\nreal time: {speed:.0f} cycles a second of 85333", file=sys.stderr)
+        self.assertGreater(speed, 60_000)
+        browser.click("#pace")
+        self.wait("return !workbench.S.isPacing")
+        self.assertRegex(self.js("return workbench.feed.text"), r"(?m)^\d+ CHAN 15 05$")
+
+    def test_a_key_becomes_an_input_of_the_past_and_is_taken_back(self):
+        browser = self.browser
+        self.js("await workbench.openDoc(JSON.parse(document.getElementById('examples').textContent).find(it => it.name === 'key_echo.agc'), {isExample: true})")
+        n, before = self.js("return [workbench.session.n, workbench.session.outputs.count]")
+        self.js("await workbench.seek(30)")
+        browser.click('[data-tab="dsky"]')
+        browser.click('[data-key="7"]')
+        self.wait(f"return workbench.session.outputs.count === {before + 1} && !workbench.S.isMoving")
+        self.assertEqual(self.at(), [30, n])
+        self.assertIn("7", browser.text(".presses"))
+        browser.click(".presses .undo")
+        self.wait(f"return workbench.session.outputs.count === {before} && !workbench.S.isMoving")
+
+
+class Long(Workbench):
+    def test_the_page_is_alive_while_a_hundred_million_steps_run(self):
+        self.js("await workbench.openDoc({name: 'endless.agc', source: arguments[0], steps: 100})", ENDLESS)
+        self.js("window.frames_ = []; let last = performance.now(); const frame = (now) => { window.frames_.push(now - last); last = now; if (!window.isOver) requestAnimationFrame(frame) }; requestAnimationFrame(frame)")
+        began = time.monotonic()
+        self.browser.click("#count")
+        self.js("document.getElementById('count').value = '100m'")
+        self.browser.click("#run")
+        self.browser.wait("return workbench.session.n >= 100000100 && !workbench.S.isMoving", 110)
+        took = time.monotonic() - began
+        frames = sorted(self.js("window.isOver = true; return window.frames_.slice(2)"))
+        share = sum(it < 50 for it in frames) / len(frames)
+        look = self.js("const times = []; for (let i = 0; i < 7; i += 1) { const began = performance.now(); await workbench.session.look(); times.push(performance.now() - began) } return times.sort((a, b) => a - b)[3]")
+        seek = self.js("const began = performance.now(); await workbench.session.go('goto', 50000000); await workbench.session.look(); const first = performance.now() - began, again = performance.now(); await workbench.session.go('back', 1); await workbench.session.look(); return [first, performance.now() - again]")
+        print(f"\n100,000,000 steps {took:.1f} s, {len(frames)} frames, median {frames[len(frames) // 2]:.1f} ms, 99 % below {frames[len(frames) * 99 // 100]:.1f}, worst {frames[-1]:.0f}; a look {look:.1f} ms; to 50,000,000 {seek[0]:.0f} ms, a step back {seek[1]:.1f} ms", file=sys.stderr)
+        self.assertGreater(share, 0.97)
+        self.assertLess(look, 60)
+
+    def test_an_endless_run_is_stopped_and_the_run_goes_on(self):
+        self.js("await workbench.openDoc({name: 'endless.agc', source: arguments[0], steps: 100})", ENDLESS)
+        self.js("document.getElementById('count').value = '900g'")
+        self.browser.click("#run")
+        self.wait("return !document.getElementById('stop').hidden && workbench.session.n > 100000")
+        began = time.monotonic()
+        self.browser.click("#stop")
+        self.wait("return !workbench.S.isMoving")
+        self.assertLess(time.monotonic() - began, 3)
+        n = self.at()[1]
+        self.js("document.getElementById('count').value = '10'")
+        self.browser.click("#run")
+        self.wait(f"return workbench.session.n === {n + 10} && !workbench.S.isMoving")
+
+    def test_a_source_of_ten_million_bytes_leaves_the_page_alive(self):
+        answer = self.js("const began = performance.now(); await workbench.openPicked([new File([('        CA      0'.padEnd(110, ' ') + '\\n').repeat(95000)], 'great.agc')]); await new Promise(done => setTimeout(done, 1200)); return [workbench.editor.lines.length, document.getElementById('faults').textContent, performance.now() - began]")
+        self.assertEqual(answer[0], 95001)
+        self.assertIn("error", answer[1])
+        key = self.js("const {editor} = workbench; editor.area.focus(); const times = []; for (let i = 0; i < 5; i += 1) { const began = performance.now(); document.execCommand('insertText', false, 'X'); times.push(performance.now() - began) } return times.sort((a, b) => a - b)[2]")
+        print(f"\n10 MB: open {answer[2]:.0f} ms, a key {key:.0f} ms", file=sys.stderr)
+        self.assertLess(key, 200)
+        self.wait("return !document.getElementById('banner').hidden", 5)
+        self.assertIn("full", self.browser.text("#banner"))
+        self.js("await workbench.openDoc({name: 'small.agc', source: arguments[0], steps: 10})", ENDLESS)
+
+
+class Kept(Workbench):
+    def test_what_is_typed_is_there_after_a_reload_in_the_midst_of_a_run(self):
+        self.js("const {editor} = workbench; editor.area.focus(); editor.area.setSelectionRange(0, 0); document.execCommand('insertText', false, '# mine\\n')")
+        self.js("document.getElementById('count').value = '500m'")
+        self.browser.click("#run")
+        self.wait("return workbench.session.n > 1000")
+        self.browser.ask("POST", "/refresh")
+        self.browser.wait("return window.workbench && workbench.editor.text.startsWith('# mine')", 30)
+
+    def test_a_full_store_is_told_and_nothing_is_lost(self):
+        self.js("let text = 'x'.repeat(1 << 19); try { for (let i = 0; ; i += 1) localStorage.setItem('fill' + i, text) } catch {} try { for (let i = 0; ; i += 1) localStorage.setItem('little' + i, 'x'.repeat(200)) } catch {}")
+        self.js("const {editor} = workbench; editor.area.focus(); document.execCommand('insertText', false, '# ' + 'more '.repeat(400) + '\\n')")
+        self.wait("return !document.getElementById('banner').hidden")
+        self.assertIn("full", self.browser.text("#banner"))
+        self.js("localStorage.clear(); workbench.editor.area.focus(); document.execCommand('insertText', false, '# still here\\n')")
+        self.wait("return Object.keys(localStorage).some(it => it.startsWith('agcws:doc:') && localStorage[it].includes('still here'))")
+
+    def test_two_tabs_never_write_over_one_another(self):
+        browser = self.browser
+        self.js("workbench.editor.area.focus(); document.execCommand('insertText', false, '# first\\n')")
+        mine = self.wait("return Object.keys(localStorage).find(it => it.startsWith('agcws:doc:'))")
+        first = browser.tabs()[0]
+        browser.new_tab()
+        try:
+            browser.open(self.url)
+            browser.wait(READY)
+            self.js("const id = arguments[0].slice(10); await workbench.openDoc(workbench.storage.all().find(it => it.id === id), {id})", mine)
+            self.js("workbench.editor.area.focus(); document.execCommand('insertText', false, '# second\\n')")
+            self.wait("return Object.values(localStorage).some(it => it.includes('# second'))")
+            browser.go(first)
+            self.wait("return !document.getElementById('banner').hidden")
+            self.js("workbench.editor.area.focus(); document.execCommand('insertText', false, '# third\\n')")
+            self.wait("return Object.values(localStorage).some(it => it.includes('# third'))")
+            self.assertTrue(self.js("return Object.values(localStorage).some(it => it.includes('# second'))"))
+        finally:
+            for tab in browser.tabs():
+                if tab != first:
+                    browser.go(tab)
+                    browser.ask("DELETE", "/window")
+            browser.go(first)
+
+    def test_a_link_holds_the_whole_task(self):
+        hash_ = self.js("await workbench.seek(22); await workbench.why('SUM'); await workbench.session.breakpoint('at LOOP'); document.getElementById('menu-open').click(); [...document.querySelectorAll('#menu b')].find(it => it.textContent === 'Copy a link to this').closest('button').click(); return new Promise(done => { const look = () => location.hash ? done(location.hash) : setTimeout(look, 20); look() })")
+        print(f"\na link has {len(hash_)} signs", file=sys.stderr)
+        self.open(hash_)
+        self.assertEqual(self.at(), [22, 60])
+        self.assertEqual(self.js("return workbench.session.breaks"), ["at 02,4104"])
+        self.wait("return document.querySelector('.why h2')?.textContent.includes('SUM')")
+
+    def test_a_spoilt_link_is_told_and_the_page_goes_on(self):
+        for hash_ in ("#task=AAAA", "#task=%%%", "#task=" + "x" * 5000, "#task=q1YKyczNVrJSSs7PLcgvzsxLVaoFAA"):
+            self.open(hash_)
+            self.assertIn("spoilt", self.browser.text("#banner"))
+            self.assertEqual(self.at(), [60, 60])
+
+
+# Rules that a script can check: names, roles, what the keyboard reaches, and contrast as the colours are computed.
+RULES = r"""
+const faults = [], seen = (it) => { const box = it.getBoundingClientRect(), style = getComputedStyle(it); return box.width > 0 && box.height > 0 && style.visibility !== 'hidden' && !it.closest('[hidden], [aria-hidden="true"], .defs'); };
+const nameOf = (it) => (it.getAttribute('aria-label') || it.getAttribute('title') || it.textContent || (it.labels?.[0]?.textContent ?? '') || it.placeholder || '').trim();
+const say = (it) => `${it.tagName.toLowerCase()}${it.id ? '#' + it.id : ''}.${it.className?.baseVal ?? it.className} "${(it.textContent || '').trim().slice(0, 30)}"`;
+for (const it of document.querySelectorAll('button, input, select, textarea, [tabindex], [role]')) if (seen(it) && it.getAttribute('role') !== 'none' && !it.matches('div[role=list], tr, .editor, [role=listitem], [role=status], [role=alert]') && !nameOf(it)) faults.push('no name: ' + say(it));
+for (const it of document.querySelectorAll('[tabindex]')) if (it.tabIndex > 0) faults.push('an order of its own: ' + say(it));
+for (const it of document.querySelectorAll('[id]')) if (document.querySelectorAll('#' + CSS.escape(it.id)).length > 1) faults.push('two of one id: ' + say(it));
+for (const it of document.querySelectorAll('[aria-controls]')) if (!document.getElementById(it.getAttribute('aria-controls'))) faults.push('controls nothing: ' + say(it));
+for (const it of document.querySelectorAll('button button, a button, button a, [role=tab] button')) faults.push('one within another: ' + say(it));
+const numbers = (text) => text.match(/[\d.]+/g).map(Number), rgb = (text) => { if (text.startsWith('color(srgb')) { const [r, g, b, a = 1] = numbers(text.slice(10)); return [r * 255, g * 255, b * 255, a]; } const [r, g, b, a = 1] = numbers(text); return [r, g, b, a]; };
+const over = ([r, g, b, a], below) => [r * a + below[0] * (1 - a), g * a + below[1] * (1 - a), b * a + below[2] * (1 - a), 1];
+const light = ([r, g, b]) => [r, g, b].map((it) => it / 255).map((it) => (it <= 0.03928 ? it / 12.92 : ((it + 0.055) / 1.055) ** 2.4)).reduce((sum, it, i) => sum + it * [0.2126, 0.7152, 0.0722][i], 0);
+const ratio = (a, b) => { const [x, y] = [light(a), light(b)].sort((p, q) => q - p); return (x + 0.05) / (y + 0.05); };
+const behind = (it) => { const layers = []; for (let at = it; at; at = at.parentElement) { const colour = rgb(getComputedStyle(at).backgroundColor); if (colour[3] > 0) layers.push(colour); if (colour[3] === 1) break; } return layers.reverse().reduce((below, colour) => over(colour, below), [255, 255, 255, 1]); };
+const walker = document.createTreeWalker(document.body, NodeFilter.SHOW_TEXT);
+const told = new Set();
+for (let node; (node = walker.nextNode());) {
+  const it = node.parentElement;
+  if (!node.textContent.trim() || it.closest('script, style, textarea, [hidden], .keypad, option, .dsky') || !it.getClientRects().length) continue;
+  const style = getComputedStyle(it), found = ratio(over(rgb(style.color), behind(it)), behind(it)), size = parseFloat(style.fontSize), least = size >= 24 || (size >= 18.66 && Number(style.fontWeight) >= 700) ? 3 : 4.5;
+  const key = it.className + style.color + behind(it);
+  if (found < least - 0.02 && !told.has(key)) { told.add(key); faults.push(`contrast ${found.toFixed(2)}: ${say(it)} ${style.color} on ${behind(it).map(Math.round)}`); }
+}
+return faults;
+"""
+
+
+class Reach(Workbench):
+    def test_names_roles_order_and_contrast_in_all_views(self):
+        for theme in ("light", "dark"):
+            self.browser.media(prefers_color_scheme=theme)
+            self.open()
+            self.js("await workbench.why('SUM'); await workbench.seek(22)")
+            for tab in ("steps", "dsky", "output", "memory", "tests", "console"):
+                self.js("document.querySelector(`[data-tab=\"${arguments[0]}\"]`).click(); await new Promise(done => setTimeout(done, 120))", tab)
+                with self.subTest(theme=theme, tab=tab):
+                    self.assertEqual(self.js(RULES), [])
+            for button in ("menu-open", "more", "keys"):
+                self.js("document.getElementById(arguments[0]).click(); await new Promise(done => setTimeout(done, 60))", button)
+                with self.subTest(theme=theme, menu=button):
+                    self.assertEqual(self.js(RULES), [])
+                self.js("document.getElementById('dialog').close?.(); document.body.click()")
+        self.browser.media(prefers_color_scheme="light")
+
+    def test_tab_reaches_everything_in_order_and_is_seen(self):
+        self.js("document.activeElement.blur(); scrollTo(0, 0)")
+        reached, unseen = [], []
+        for _ in range(70):
+            self.browser.keys("Tab")
+            told = self.js("const it = document.activeElement; if (it === document.body) return null; const style = getComputedStyle(it), box = it.closest('.editor') ? getComputedStyle(it.closest('.editor')) : style; return [it.id || it.dataset.go || it.dataset.tab || it.dataset.file || it.dataset.cell || it.className || it.tagName, style.outlineStyle !== 'none' && parseFloat(style.outlineWidth) > 0 || box.boxShadow !== 'none' || style.borderBottomColor !== 'rgba(0, 0, 0, 0)' && it.id === 'position' || it.closest('.steps') !== null]")
+            if told is None:
+                break
+            if told[0] in [it[0] for it in reached]:
+                # (Tab indents in a text; Escape leaves it)
+                if self.js("return document.activeElement.tagName === 'TEXTAREA'"):
+                    self.browser.keys("Escape")
+                    continue
+                break
+            reached.append(told)
+            unseen += [] if told[1] else [told[0]]
+            if self.js("return document.activeElement.tagName === 'TEXTAREA'"):
+                self.browser.keys("Escape")
+        names = [it[0] for it in reached]
+        self.assertEqual(unseen, [])
+        for wanted in ("menu-open", "run", "count", "first", "last", "pace", "keys", "position", "cell", "axis", "source", "A", "split", "steps"):
+            self.assertIn(wanted, names)
+        order = [names.index(it) for it in ("menu-open", "run", "first", "pace", "position", "axis", "source", "A", "split", "steps")]
+        self.assertEqual(order, sorted(order))
+
+    def test_motion_is_left_out_where_that_is_wished(self):
+        self.browser.media(prefers_reduced_motion="reduce")
+        self.assertEqual(self.js("document.querySelector('.toggle').setAttribute('aria-pressed', 'true'); return getComputedStyle(document.querySelector('.toggle .lamp')).animationName"), "none")
+        self.browser.media()
+
+    def test_nothing_is_cut_off_from_360_to_2560_pixels_and_at_twice_the_size(self):
+        for width, height in ((360, 740), (640, 400), (800, 800), (1280, 800), (1920, 1080), (2560, 1300)):
+            self.browser.size(width, height)
+            self.open()
+            with self.subTest(width=width):
+                self.assertEqual(self.js("return document.documentElement.scrollWidth <= innerWidth"), True)
+                self.assertEqual(self.js("return [...document.querySelectorAll('.bar button, .bar input, .bar label, #position')].filter(it => { const box = it.getBoundingClientRect(); return box.width && (box.right > innerWidth + 1 || box.left < -1) }).map(it => it.id || it.className)"), [])
+        self.browser.size(1280, 800)
+
+
+def pictures(folder):
+    """Pictures of the documents, and of all widths where a folder is told."""
+    with tempfile.TemporaryDirectory(prefix="agcws-page-") as room:
+        page = f"{room}/agcws.html"
+        subprocess.run([f"{HERE}/make", "--module", MODULE, "--out", page], check=True)
+        browser = driver.Browser()
+        try:
+            browser.open(driver.url_of(page))
+            for theme in ("light", "dark"):
+                browser.media(prefers_color_scheme=theme)
+                for width in WIDTHS if folder else (1280,):
+                    browser.size(width, {360: 740, 2560: 1300}.get(width, 800))
+                    for name, script in SCENES.items():
+                        browser.open("about:blank")
+                        browser.open(driver.url_of(page))
+                        browser.wait(READY)
+                        browser.script(script)
+                        time.sleep(0.9)
+                        if folder:
+                            browser.picture(f"{folder}/{name}_{width}_{theme}.png")
+                        elif name == "lost_sum":
+                            browser.picture(f"{ROOT}/docs/pictures/workbench{'_dark' if theme == 'dark' else ''}.png")
+        finally:
+            browser.close()
+
+
+EXAMPLE = "await workbench.openDoc(JSON.parse(document.getElementById('examples').textContent).find(it => it.name === '%s.agc'), {isExample: true}); "
+# What the pictures show.
+SCENES = {
+    "lost_sum": "await workbench.seek(22); await workbench.why('SUM'); document.body.dataset.room = 'why'",
+    "fresh": "document.body.dataset.room = 'source'",
+    "state": "await workbench.seek(22); document.body.dataset.room = 'state'",
+    "key_echo": EXAMPLE % "key_echo" + "document.querySelector('[data-tab=\"dsky\"]').click(); await workbench.why('CH010'); document.body.dataset.room = 'dock'",
+    "digits": EXAMPLE % "relay_word" + "document.querySelector('[data-tab=\"dsky\"]').click()",
+    "waitlist": EXAMPLE % "waitlist" + "document.querySelector('[data-tab=\"output\"]').click()",
+    "product": EXAMPLE % "double_product" + "document.querySelector('[data-tab=\"memory\"]').click(); await workbench.why('P')",
+    "fault": "workbench.editor.showLine(27); const at = workbench.editor.text.indexOf('INDEX   COUNT'); workbench.editor.area.focus(); workbench.editor.area.setSelectionRange(at + 3, at + 4); document.execCommand('insertText', false, 'X'); document.querySelector('[data-tab=\"tests\"]').click(); document.body.dataset.room = 'source'",
+    "menu": "document.getElementById('menu-open').click()",
+    "keys": "document.getElementById('keys').click()",
+    "lecture": "document.documentElement.classList.add('lecture'); dispatchEvent(new Event('resize')); await workbench.seek(22); await workbench.why('SUM')",
+}
+
+if __name__ == "__main__":
+    if sys.argv[1:2] == ["--pictures"]:
+        if why_not := reason():
+            sys.exit(why_not)
+        pictures(sys.argv[2] if len(sys.argv) > 2 else None)
+    else:
+        unittest.main()
