@@ -458,8 +458,8 @@ function sourceOf(text) {
 async function showRope(ropes) {
   const [first, second] = ropes, out = el("pre", { class: "rope", tabindex: 0 }), ask = async (name, work) => { out.textContent = T.starting; out.textContent = await work(); };
   const buttons = el("div", { class: "row" }, ...["sums", "parity", "words"].map((it) => el("button", { class: "small", onclick: () => ask(it, () => session.rope(it, first.bytes)) }, it)));
-  const other = second?.bytes || session.rope;
-  if (session.rope || second) buttons.append(el("button", { class: "small", onclick: () => ask("compare", () => session.rope("compare", first.bytes, other)) }, second ? `compare ${second.name}` : T.ropeCompare));
+  const other = second?.bytes || session.image;
+  if (session.image || second) buttons.append(el("button", { class: "small", onclick: () => ask("compare", () => session.rope("compare", first.bytes, other)) }, second ? `compare ${second.name}` : T.ropeCompare));
   buttons.append(el("button", { class: "small", onclick: async () => { const source = await session.ropeSource(first.bytes); if (source) { $("dialog").close(); await openDoc({ name: `${first.name.replace(/\.\w+$/, "")}.agc`, source, flight: true }); } else out.textContent = await session.rope("words", first.bytes); } }, T.ropeSource));
   showDialog(`${T.rope} ${first.name}`, buttons, out);
   await ask("sums", () => session.rope("sums", first.bytes));

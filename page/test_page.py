@@ -322,7 +322,7 @@ class Kept(Workbench):
             browser.go(first)
 
     def test_a_link_holds_the_whole_task(self):
-        hash_ = self.js("await workbench.seek(22); await workbench.why('SUM'); await workbench.session.breakpoint('at LOOP'); document.getElementById('menu-open').click(); [...document.querySelectorAll('#menu b')].find(it => it.textContent === 'Copy a link to this').closest('button').click(); return new Promise(done => { const look = () => location.hash ? done(location.hash) : setTimeout(look, 20); look() })")
+        hash_ = self.js("await workbench.session.breakpoint('at LOOP'); await workbench.seek(22); await workbench.why('SUM'); document.getElementById('menu-open').click(); [...document.querySelectorAll('#menu b')].find(it => it.textContent === 'Copy a link to this').closest('button').click(); return new Promise(done => { const look = () => location.hash ? done(location.hash) : setTimeout(look, 20); look() })")
         print(f"\na link has {len(hash_)} signs", file=sys.stderr)
         self.open(hash_)
         self.assertEqual(self.at(), [22, 60])
