@@ -755,6 +755,11 @@ def check_names_of_images(room):
                 is_address = len(code) == 2 and len(code[1]) == 4
                 wanted.append(" ".join([place, word, code[0], *([named(first_names, int(bank, 8), int(code[1], 8))] if is_address else code[1:])]))
             compare(f"the words of image {seed}, bank {bank}, with names", agcws("words", "--symbols", table, image, bank), 0, "".join(f"{it}\n" for it in wanted).encode())
+    agcws("asm", write(f"{room}/two.agc", b"START CA START +2\n TS 61\n OCT 0\n"), image)
+    for text, operands in ((b"START 02,4000\nX 02,4002\nSYMBOLS 0061\n", b"CA X|TS SYMBOLS"), (b"SYMBOLS 0061\nX 02,4002\n", b"CA X|TS 0061"), (b"SYMBOLS E0,0061\nX 02,4002\n", b"CA X|TS SYMBOLS"), (b"# by hand\n 1 \nSYMBOLS 1\nX FIXED 02,0002\n", b"CA X|TS 0061")):
+        shown = agcws("words", "--symbols", write(table, text), image, "02")
+        told(f"the names of {text}", (shown[0], b"|".join(line[14:] for line in shown[1].splitlines()[:2])) == (0, operands), f"{shown[1][:60]}")
+    compare("a line above SYMBOLS that is no row of a listing", agcws("words", "--symbols", write(table, b"GARBAGE LINE OF MANY FIELDS\nSYMBOLS 0061\nX 02,4002\n"), image), 1, b"", b"agcws: E36 LINE 1\n")
 
 
 def shown_place(chance, place):

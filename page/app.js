@@ -458,8 +458,8 @@ function sourceOf(text) {
 async function showRope(ropes) {
   const [first, second] = ropes, out = el("pre", { class: "rope", tabindex: 0 }), ask = async (name, work) => { out.textContent = T.starting; out.textContent = await work(); };
   const buttons = el("div", { class: "row" }, ...["sums", "parity", "words"].map((it) => el("button", { class: "small", onclick: () => ask(it, () => session.rope(it, first.bytes)) }, it)));
-  const other = second?.bytes || session.rope;
-  if (session.rope || second) buttons.append(el("button", { class: "small", onclick: () => ask("compare", () => session.rope("compare", first.bytes, other)) }, second ? `compare ${second.name}` : T.ropeCompare));
+  const other = second?.bytes || session.image;
+  if (session.image || second) buttons.append(el("button", { class: "small", onclick: () => ask("compare", () => session.rope("compare", first.bytes, other)) }, second ? `compare ${second.name}` : T.ropeCompare));
   buttons.append(el("button", { class: "small", onclick: async () => { const source = await session.ropeSource(first.bytes); if (source) { $("dialog").close(); await openDoc({ name: `${first.name.replace(/\.\w+$/, "")}.agc`, source, flight: true }); } else out.textContent = await session.rope("words", first.bytes); } }, T.ropeSource));
   showDialog(`${T.rope} ${first.name}`, buttons, out);
   await ask("sums", () => session.rope("sums", first.bytes));
@@ -535,7 +535,7 @@ function label() {
   for (const it of document.querySelectorAll("[data-file]")) it.textContent = T.files[it.dataset.file];
   for (const it of document.querySelectorAll("[data-room]")) if (it.closest("nav")) it.textContent = T.rooms[it.dataset.room];
   for (const id of ["run", "stop", "pace", "more", "keys", "position"]) $(id).title = T.tips[id];
-  $("more").append(icon("more")); $("more").setAttribute("aria-label", T.tips.more); $("keys").setAttribute("aria-label", T.tips.keys);
+  $("pace").setAttribute("aria-label", T.realTime); $("more").append(icon("more")); $("more").setAttribute("aria-label", T.tips.more); $("keys").setAttribute("aria-label", T.tips.keys);
   $("curve").prepend(icon("curve"));
   axis.whole.textContent = T.tips.whole.split(" (")[0].toLowerCase().replace("the ", ""); axis.whole.title = T.tips.whole;
   $("faults").setAttribute("aria-description", T.toFault);
@@ -571,7 +571,7 @@ function bind() {
   for (const name of ["dragleave", "drop", "dragend"]) addEventListener(name, () => document.body.classList.remove("dropping"));
   addEventListener("drop", (event) => { event.preventDefault(); if (event.dataTransfer.files.length) openPicked(event.dataTransfer.files); });
   addEventListener("hashchange", openLink);
-  bindKeys({ go, run, stop, pace, seek, showTab, tabs: TABS, closeMenus, isBusy: () => S.isMoving || S.isPacing, isBuilt: () => S.isBuilt, why: () => why(S.chosen || cell()), toggleBreak: () => toggleBreak(document.activeElement === editor.area ? editor.builtLine(editor.caretLine()) : S.picture?.where.line), edit: () => { showFile("source"); editor.area.focus(); }, theme: () => setTheme(document.documentElement.dataset.theme === "dark" ? "light" : "dark"), lecture, save: saveSource, dsky: (event) => S.tab === "dsky" && dsky.key(event) });
+  bindKeys({ go, run, stop, pace, seek, showTab, tabs: TABS, closeMenus, isBusy: () => S.isMoving || S.isPacing, isBuilt: () => S.isBuilt, why: () => why(S.chosen || cell()), toggleBreak: () => toggleBreak(document.activeElement === editor.area ? editor.builtLine(editor.caretLine()) : S.picture?.where.line), edit: () => { showFile("source"); editor.enter(); }, theme: () => setTheme(document.documentElement.dataset.theme === "dark" ? "light" : "dark"), lecture, save: saveSource, dsky: (event) => S.tab === "dsky" && dsky.key(event) });
 }
 async function begin() {
   setTheme(setting.get("theme") || (matchMedia("(prefers-color-scheme: dark)").matches ? "dark" : "light"), false);

@@ -197,9 +197,10 @@ export class Axis {
     marks(survey.outputs, "out", (OUT + 3.5) * u, (OUT - 3.5) * u);
     this.paintCurve({ c, colour, u, font, bottom }, survey);
     c.restore();
-    font(10.5); c.textAlign = "left";
-    for (const [text, name, y] of [[T.rupt, "rupt", RUPT + 3.5], [T.in, "in", IN + 3.5], [T.out, "out", OUT + 4]]) { c.fillStyle = colour(name); c.fillText(text, right + 6 * u, y * u); }
+    font(9.5); c.textAlign = "left";
+    for (const [text, name, y] of [[T.rupt, "rupt", RUPT + 3], [T.in, "in", IN + 3], [T.out, "out", OUT + 3.5]]) { c.fillStyle = colour(name); c.fillText(text, right + 6 * u, y * u); }
     if (!this.range) return;
+    font(10.5);
     c.fillStyle = colour("chain");
     const [least, most] = this.range, say = (number) => group(number).replace("-", "\u2212");
     c.fillText(say(most), right + 6 * u, this.y(most) + 4 * u, 40 * u);

@@ -68,7 +68,7 @@ export class Dsky {
   tell(presses) {
     this.list.replaceChildren(el("h3", {}, presses.length ? T.keysMade : T.keysHead));
     if (!presses.length) this.list.append(el("p", {}, T.keysText));
-    for (const it of presses.slice(-7)) this.list.append(el("div", {}, el("code", {}, `${it.cycle} ${it.text}`), el("span", {}, it.name), el("button", { class: "undo", "aria-label": T.undoKey(it.name, it.cycle), title: T.undoKey(it.name, it.cycle), onclick: () => this.heard.undo(it) }, "\u00d7")));
+    for (const it of presses.slice(-7)) this.list.append(el("div", { class: "press" }, el("code", {}, `${it.cycle} ${it.text}`), el("span", {}, it.name), el("button", { class: "undo", "aria-label": T.undoKey(it.name, it.cycle), title: T.undoKey(it.name, it.cycle), onclick: () => this.heard.undo(it) }, "\u00d7")));
     if (presses.length > 7) this.list.append(el("p", {}, T.andMore(presses.length - 7)));
   }
   show(display) {

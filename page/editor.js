@@ -197,6 +197,12 @@ export class Editor {
     if (past) code.append(el("span", { class: past[2] }, "  "));
     return code;
   }
+  // The keyboard goes into the text, at first to the line of the next instruction.
+  enter() {
+    if (!this.area.selectionStart && this.now && !this.first) { const at = this.lines.slice(0, this.shownLine(this.now) - 1).reduce((sum, it) => sum + it.length + 1, 0); this.area.setSelectionRange(at, at); }
+    this.area.focus({ preventScroll: true });
+    this.showLine(this.caretLine());
+  }
   // The line of the next instruction: it is brought into view.
   stand(line, isShown = true) {
     const isSame = line === this.now;

@@ -19,7 +19,7 @@ export function svgOf(chain) {
   const group = drawn("g", { transform: "translate(0 34)" }, ...copy.childNodes);
   for (const it of box.querySelectorAll(".link, .within span, .indexed button")) for (const part of it.matches(".link") ? it.querySelectorAll(".s, .w, .v") : [it]) {
     const at = part.getBoundingClientRect(), style = getComputedStyle(part), isRight = part.matches(".v, .s");
-    group.append(drawn("text", { x: Math.round((isRight ? at.right : at.left) - whole.left) + (part.matches(".v") ? 24 : 0), y: Math.round(at.top - whole.top + at.height / 2 + 4), fill: style.color, "text-anchor": isRight ? "end" : "start" }, part.textContent));
+    group.append(drawn("text", { x: Math.round((isRight ? at.right : at.left) - whole.left) + (part.matches(".v") ? 24 : part.matches(".s") ? -10 : 0), y: Math.round(at.top - whole.top + at.height / 2 + 4), fill: style.color, "text-anchor": isRight ? "end" : "start" }, [...part.childNodes].map((it) => it.textContent.trim()).filter(Boolean).join("  ")));
   }
   svg.append(group);
   return `<?xml version="1.0" encoding="UTF-8"?>\n${new XMLSerializer().serializeToString(svg)}\n`;

@@ -24,7 +24,7 @@ export function handout(run) {
     const next = p < n ? kindOf(p + 1) : null, did = p ? kindOf(p) : null;
     for (const it of document.querySelectorAll("#source .now")) it.classList.remove("now");
     const row = next && next[3] ? $(`l${next[3]}`) : null;
-    if (row) { row.classList.add("now"); const box = row.getBoundingClientRect(), pane = $("source").getBoundingClientRect(); if (box.top < pane.top + 20 || box.bottom > pane.bottom - 40) $("source").scrollTop += box.top - pane.top - pane.height / 3; }
+    if (row) row.classList.add("now");
     $("did").replaceChildren(...(did ? ["came from ", el("code", {}, did[2])] : ["the start"]));
     $("next").textContent = next ? next[2] : "the end of what was recorded";
     const changed = new Map(p ? steps[p - 1][2].map((it) => [it[0], it[1]]) : []);
@@ -37,6 +37,9 @@ export function handout(run) {
     const from = Math.max(0, Math.min(p - 6, n - 12));
     $("steps").replaceChildren(...steps.slice(from, from + 12).map((it, i) => { const t = from + i + 1, kind = kindOf(t); return el("tr", { class: t === p ? "at" : t > p ? "later" : null, onclick: () => { p = t; show(); } }, el("td", {}, String(t)), el("td", {}, kind[0]), el("td", {}, kind[2]), el("td", {}, it[2].map(([name, word]) => `${name}=${word}`).join(" ")), el("td", {}, it[3] || "")); }));
     $("line").value = p;
+    if (!row) return;
+    const box = row.getBoundingClientRect(), pane = $("source").getBoundingClientRect();
+    if (box.top < pane.top + 20 || box.bottom > pane.bottom - 40) $("source").scrollTop += box.top - pane.top - pane.height / 3;
   }
   const to = (step) => { p = Math.max(0, Math.min(n, step)); show(); };
   $("line").max = n;

@@ -152,7 +152,7 @@ export class Session {
     this.main?.end();
     return this.alone(async () => {
       this.close();
-      Object.assign(this, { isClosing: false, source, feed, flight, rope: told.files["out.rope"], ...listingOf(told.output) });
+      Object.assign(this, { isClosing: false, source, feed, flight, image: told.files["out.rope"], ...listingOf(told.output) });
       this.clear();
       this.number += 1;
       this.at = new Map();

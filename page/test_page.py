@@ -322,7 +322,7 @@ class Kept(Workbench):
             browser.go(first)
 
     def test_a_link_holds_the_whole_task(self):
-        hash_ = self.js("await workbench.seek(22); await workbench.why('SUM'); await workbench.session.breakpoint('at LOOP'); document.getElementById('menu-open').click(); [...document.querySelectorAll('#menu b')].find(it => it.textContent === 'Copy a link to this').closest('button').click(); return new Promise(done => { const look = () => location.hash ? done(location.hash) : setTimeout(look, 20); look() })")
+        hash_ = self.js("await workbench.session.breakpoint('at LOOP'); await workbench.seek(22); await workbench.why('SUM'); document.getElementById('menu-open').click(); [...document.querySelectorAll('#menu b')].find(it => it.textContent === 'Copy a link to this').closest('button').click(); return new Promise(done => { const look = () => location.hash ? done(location.hash) : setTimeout(look, 20); look() })")
         print(f"\na link has {len(hash_)} signs", file=sys.stderr)
         self.open(hash_)
         self.assertEqual(self.at(), [22, 60])
@@ -438,6 +438,7 @@ def pictures(folder):
                         browser.open(driver.url_of(page))
                         browser.wait(READY)
                         browser.script(script)
+                        browser.script("workbench.S.isOwn = false; localStorage.clear(); sessionStorage.clear()")
                         time.sleep(0.9)
                         if folder:
                             browser.picture(f"{folder}/{name}_{width}_{theme}.png")
@@ -450,17 +451,17 @@ def pictures(folder):
 EXAMPLE = "await workbench.openDoc(JSON.parse(document.getElementById('examples').textContent).find(it => it.name === '%s.agc'), {isExample: true}); "
 # What the pictures show.
 SCENES = {
-    "lost_sum": "await workbench.seek(22); await workbench.why('SUM'); document.body.dataset.room = 'why'",
+    "lost_sum": "await workbench.why('SUM'); await workbench.seek(22); document.body.dataset.room = 'why'",
     "fresh": "document.body.dataset.room = 'source'",
     "state": "await workbench.seek(22); document.body.dataset.room = 'state'",
     "key_echo": EXAMPLE % "key_echo" + "document.querySelector('[data-tab=\"dsky\"]').click(); await workbench.why('CH010'); document.body.dataset.room = 'dock'",
     "digits": EXAMPLE % "relay_word" + "document.querySelector('[data-tab=\"dsky\"]').click()",
     "waitlist": EXAMPLE % "waitlist" + "document.querySelector('[data-tab=\"output\"]').click()",
-    "product": EXAMPLE % "double_product" + "document.querySelector('[data-tab=\"memory\"]').click(); await workbench.why('P')",
-    "fault": "workbench.editor.showLine(27); const at = workbench.editor.text.indexOf('INDEX   COUNT'); workbench.editor.area.focus(); workbench.editor.area.setSelectionRange(at + 3, at + 4); document.execCommand('insertText', false, 'X'); document.querySelector('[data-tab=\"tests\"]').click(); document.body.dataset.room = 'source'",
+    "product": EXAMPLE % "double_product" + "document.querySelector('[data-tab=\"memory\"]').click(); await workbench.why('PRODUCT')",
+    "fault": "workbench.editor.showLine(27); const at = workbench.editor.text.indexOf('INDEX   COUNT'); workbench.editor.area.focus({preventScroll: true}); workbench.editor.area.setSelectionRange(at + 3, at + 4); document.execCommand('insertText', false, 'X'); workbench.editor.showLine(27); document.querySelector('[data-tab=\"tests\"]').click(); document.body.dataset.room = 'source'",
     "menu": "document.getElementById('menu-open').click()",
     "keys": "document.getElementById('keys').click()",
-    "lecture": "document.documentElement.classList.add('lecture'); dispatchEvent(new Event('resize')); await workbench.seek(22); await workbench.why('SUM')",
+    "lecture": "document.documentElement.classList.add('lecture'); dispatchEvent(new Event('resize')); await workbench.why('SUM'); await workbench.seek(22)",
 }
 
 if __name__ == "__main__":

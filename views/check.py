@@ -25,6 +25,7 @@ import pipe
 from files import write
 from tally import end, is_built, told, tried
 from terminal import CTRL_C, Terminal
+from web_check import check_web
 
 EMPTY = f"{EXAMPLES}/empty.feed"
 LOST = [f"{EXAMPLES}/lost_sum.agc", f"{EXAMPLES}/lost_sum.feed"]
@@ -874,6 +875,7 @@ def main():
             check_notes,
             check_operators,
             check_faults,
+            check_web,
             check_readme,
         ):
             tried(part, room, most_seconds=MOST_OF_EDITOR if part.__module__ == adapter.__name__ else MOST_SECONDS)

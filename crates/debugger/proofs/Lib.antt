@@ -33,3 +33,8 @@ pub mod AddedBack
 mod RoutineRows
 mod InputRows
 pub mod Entered
+pub mod OutputsOnce
+pub mod Serving
+pub mod WhyEnds
+pub mod Calling
+pub mod ValueTold

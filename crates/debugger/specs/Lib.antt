@@ -15,6 +15,11 @@ pub mod LeftToWrite
 pub mod Terms
 pub mod Inputs
 pub mod ReadBack
+pub mod OutputsOnce
+pub mod Serving
+pub mod WhyEnds
+pub mod Calling
+pub mod ValueTold
 pub mod Routines
 pub mod ExtendedReplies
 pub mod AllRegisters

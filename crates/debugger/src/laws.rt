@@ -4,8 +4,17 @@ ghost use Rattle.std.specs.Prelude.{ℕ, Bool, List, Option};
 ghost use Rattle.cpu.specs.State.{Scenario};
 ghost use Rattle.symbols.specs.Values.{SymbolTable};
 ghost use Rattle.yayul.specs.Program.{Source};
+ghost use Rattle.cpu.specs.State.{State};
+ghost use Rattle.cpu.specs.declared.spot.Spot.{Spot};
+ghost use Rattle.commands.specs.declared.extended.IndexLines.{IndexLines};
+ghost use Rattle.debugger.specs.declared.manner.Manner.{Manner};
+ghost use Rattle.debugger.specs.Calling.{EntersByCalling, RoutinesAreInProgress};
 ghost use Rattle.debugger.specs.Moved.{IndexIsTold};
+ghost use Rattle.debugger.specs.OutputsOnce.{OutputsAreToldOnce};
 ghost use Rattle.debugger.specs.ReadBack.{NoneAtFirst, SessionReadsBack};
+ghost use Rattle.debugger.specs.Serving.{EntryIsTold};
+ghost use Rattle.debugger.specs.ValueTold.{ValueIsTold};
+ghost use Rattle.debugger.specs.WhyEnds.{WhyEnds};
 
 /// Whatever an extended session was asked before, what `inputs` replies is a feed: its lines give the inputs that were added, in order, and no others.
 pub fn inputs_read_back()
@@ -18,4 +27,36 @@ pub fn inputs_read_back()
 /// and moved the operand.
 pub fn index_is_told()
     ensures { (scenario : Scenario) (t sum : ℕ) → IndexIsTold scenario t sum }
+{}
+
+/// A session tells each output once while it makes steps, in order, however one goes back and forth; what else it replies is what it would reply where no step puts
+/// out.
+pub fn outputs_are_told_once()
+    ensures { (manner : Manner) (symbols : SymbolTable) (source : Source) (scenario : Scenario) (answers : List Bool) (additions : List (Option ℕ)) (lines : List (List ℕ)) →
+        OutputsAreToldOnce manner symbols source scenario answers additions lines }
+{}
+
+/// The step that a mark and `where` tell as the one that entered the interrupt has entered it, and it is served ever since.
+pub fn entry_is_told()
+    ensures { (symbols : SymbolTable) (scenario : Scenario) (p : ℕ) → EntryIsTold symbols scenario p }
+{}
+
+/// How `why` ends says what is so: where fewer steps are told than were asked for, no step before them wrote what is left, which holds what it held at the start.
+pub fn why_ends()
+    ensures { (symbols : SymbolTable) (scenario : Scenario) (lines : IndexLines) (k p : ℕ) (xs : List Spot) → WhyEnds symbols scenario lines k p xs }
+{}
+
+/// A step enters a routine exactly where it executes TC that stands in fixed memory and leads to another place there; the routine returns to the place after it.
+pub fn routine_is_called()
+    ensures { (scenario : Scenario) (s : State) → EntersByCalling scenario s }
+{}
+
+/// Each routine that is told to be in progress was entered while no interrupt was served, one after another, and has not returned since.
+pub fn routines_are_in_progress()
+    ensures { (scenario : Scenario) (p : ℕ) → RoutinesAreInProgress scenario p }
+{}
+
+/// What `value` tells of a word is its value: the fraction exactly, in 14 decimals.
+pub fn value_is_told()
+    ensures { (w : ℕ) → ValueIsTold w }
 {}

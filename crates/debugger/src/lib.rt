@@ -36,5 +36,8 @@ mod why;
 
 pub use ending::Ending;
 pub use fault::DebugFault;
-pub use laws::{index_is_told, inputs_read_back};
+pub use laws::{
+    entry_is_told, index_is_told, inputs_read_back, outputs_are_told_once, routine_is_called,
+    routines_are_in_progress, value_is_told, why_ends,
+};
 pub use session::{MOST_COMMAND_BYTES, debug_session, extended_session};

@@ -1,5 +1,5 @@
 -- Rows of tables of names, and of words with names, worked by hand.
-use Rattle.std.proofs.Common.{◌≡◌, [], ◌∷◌, Some, Ok, Err, false, refl}
+use Rattle.std.proofs.Common.{◌≡◌, [], ◌∷◌, Some, None, Ok, Err, false, refl}
 use Rattle.std.specs.Prelude.{codes}
 use Rattle.agc_text.specs.Fields.{runs}
 use Rattle.words.specs.Numerals.{octal_text}
@@ -12,7 +12,7 @@ use Rattle.cpu.specs.Texts.{instruction_text}
 use Rattle.trace.specs.TraceLines.{symbol_at}
 use Rattle.names.specs.declared.entry.Entry.TheVariants.{Nothing, Names, Wrong}
 use Rattle.names.specs.NamedLines.{named_text, place_told}
-use Rattle.names.specs.Tables.{entry, is_heading, names_of, below}
+use Rattle.names.specs.Tables.{entry, is_heading, is_row, names_of, below}
 
 -- ## Lines of a table
 of_listing : entry (codes "FIVE     FIXED 02,0005") ≡ Names (codes "FIVE") (Fixed 2 5)
@@ -94,8 +94,21 @@ second = refl
 
 -- what stands before the heading of a listing's symbols is passed over, and its lines are counted
 listing : below 0 (codes "    1" ∷ codes "SYMBOLS 1" ∷ codes "X NUM 00005" ∷ []) ≡ Some (2, codes "X NUM 00005" ∷ [])
-unfolding below is_heading runs
+unfolding below is_heading is_row runs
 listing = refl
+
+-- a table made by hand has no heading: SYMBOLS is a name like others there, below a line that is no row, and beside a place
+by_hand : below 0 (codes "START 02,4000" ∷ codes "X 02,4002" ∷ codes "SYMBOLS 0061" ∷ []) ≡ None
+unfolding below is_heading is_row runs
+by_hand = refl
+
+of_another_form : below 0 (codes "GARBAGE LINE OF MANY FIELDS" ∷ codes "SYMBOLS 0061" ∷ codes "X 02,4002" ∷ []) ≡ None
+unfolding below is_heading is_row runs
+of_another_form = refl
+
+named_symbols : below 0 (codes "# by hand" ∷ codes "SYMBOLS 02,4000" ∷ codes "X 02,4002" ∷ []) ≡ None
+unfolding below is_heading is_row runs
+named_symbols = refl
 
 -- ## Words
 table : SymbolTable

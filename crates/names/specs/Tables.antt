@@ -1,8 +1,9 @@
 -- A table of names: a line for each, with what the name stands for, as a listing has it below SYMBOLS, or with a place alone.
-use Rattle.std.specs.Prelude.{◌≡◌, ℕ, ◌+◌, Bool, false, nat_lt, nat_le, is_some, List, [], ◌∷◌, ◌++◌, length, Option, None, Some, Result, Ok, Err, codes, if◌then◌else◌, option_and_then}
+use Rattle.std.specs.Prelude.{◌≡◌, ℕ, ◌+◌, ◌&&◌, Bool, true, false, nat_lt, nat_le, is_some, List, [], ◌∷◌, ◌++◌, length, Option, None, Some, Result, Ok, Err, codes, if◌then◌else◌, option_and_then}
 use Rattle.std.specs.List.{list_all}
 use Rattle.std.specs.Option.{option_map}
 use Rattle.agc_text.specs.Bytes.{is_text_byte}
+use Rattle.agc_text.specs.Digits.{digits_value, sized}
 use Rattle.agc_text.specs.Fields.{fields, texts}
 use Rattle.agc_text.specs.Lines.{lines}
 use Rattle.agc_text.specs.Tables.{same_name, value_in}
@@ -82,27 +83,39 @@ unfoldable pub names_of : SymbolTable → ℕ → List (List ℕ) → Result Sym
 names_of table n [] = Ok table
 names_of table n (line ∷ more) = names_after (entry line) (λ given. names_of given (n + 1) more) table n
 
+-- one or more decimal digits
+abbrev pub is_decimal : List ℕ → Bool
+is_decimal text = is_some (option_map sized (digits_value 10 text))
+
 -- whether a line is the heading of a listing's symbols: SYMBOLS, and how many there are
 abbrev pub is_heading_of : List (List ℕ) → Bool
 is_heading_of [] = false
 is_heading_of (first ∷ []) = false
-is_heading_of (first ∷ count ∷ []) = same_name first (codes "SYMBOLS")
+is_heading_of (first ∷ count ∷ []) = same_name first (codes "SYMBOLS") && is_decimal count
 is_heading_of (first ∷ count ∷ next ∷ more) = false
 
 unfoldable pub is_heading : List ℕ → Bool
 is_heading line = is_heading_of (texts (fields line))
 
--- how many lines stand before those below the heading, and those, where there is one
+-- whether a line may stand above the heading: a row of a listing, with its number in front, or a line without a field
+abbrev pub is_row_of : List (List ℕ) → Bool
+is_row_of [] = true
+is_row_of (first ∷ more) = is_decimal first
+
+unfoldable pub is_row : List ℕ → Bool
+is_row line = is_row_of (texts (fields line))
+
+-- how many lines stand before those below the heading, and those, where there is one and rows alone stand above it
 unfoldable pub below : ℕ → List (List ℕ) → Option (ℕ × List (List ℕ))
 below n [] = None
-below n (line ∷ more) = if is_heading line then Some (n + 1, more) else below (n + 1) more
+below n (line ∷ more) = if is_heading line then Some (n + 1, more) else (if is_row line then below (n + 1) more else None)
 
 -- the table of some lines from the first one that counts
 abbrev pub names_from : List (List ℕ) → Option (ℕ × List (List ℕ)) → Result SymbolTable ℕ
 names_from all None = names_of [] 0 all
 names_from all (Some found) = names_of [] found.0 found.1
 
--- the table of a text: of its lines below the heading, or where there is none of all
+-- the table of a text: of its lines below the heading, or where there is none of all its lines
 abbrev pub table_of : List ℕ → Result SymbolTable ℕ
 table_of text = names_from (lines text) (below 0 (lines text))
 

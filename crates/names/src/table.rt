@@ -3,10 +3,10 @@
 ghost use Rattle.std.specs.Prelude.{◌≡◌, ◌+◌, ◌≤◌, [], Ok, IfOk, IfErr, IfSome, length};
 ghost use Rattle.std.specs.Option.{option_map};
 ghost use Rattle.agc_text.specs.Lines.{lines};
-ghost use Rattle.names.specs.Tables.{Tells, below, is_heading, names_of, table_of};
+ghost use Rattle.names.specs.Tables.{Tells, below, is_decimal, is_heading, is_row, names_of, table_of};
 
 use crate::entry::{Entry, entry_in};
-use agc_text::{before_comment, next_line, split_field};
+use agc_text::{before_comment, decimal_value, next_line, split_field};
 use std::alloc::Global;
 use symbols::Symbols;
 
@@ -20,8 +20,8 @@ pub enum TableFault {
 }
 
 /// The names that the lines of a text give, in their order; of a name that stands twice the first. A line has a name and a
-/// place, or a name, one of FIXED, ERASABLE and NUM, and a value; or no field at all. Where a line SYMBOLS with a count stands,
-/// as in a listing, only those below the first such line are taken.
+/// place, or a name, one of FIXED, ERASABLE and NUM, and a value; or no field at all. Of a listing, where a line SYMBOLS with a
+/// count stands and nothing above it but rows with their numbers, only the lines below are taken.
 ///
 /// The first line that has another form is told, or that memory ran out.
 pub fn names_in(alloc: Global, text: &[u8]) -> Result<Symbols, TableFault>
@@ -35,7 +35,8 @@ pub fn names_in(alloc: Global, text: &[u8]) -> Result<Symbols, TableFault>
     }
 }
 
-/// How many lines stand before those below the heading of a listing's symbols, and those, where there is one.
+/// How many lines stand before those below the heading of a listing's symbols, and those, where there is one and rows alone
+/// stand above it.
 fn below_heading(text: &[u8]) -> Option<(u32, &[u8])>
     requires { length text.now ≤ 8388608 }
     ensures below { option_map (λ r. (r.0, lines r.1.now)) result ≡ below 0 (lines text.now) }
@@ -49,6 +50,9 @@ fn below_heading(text: &[u8]) -> Option<(u32, &[u8])>
         if is_heading(first) {
             return Some((line, following));
         }
+        if !is_row(first) {
+            return None;
+        }
     }
     None
 }
@@ -61,13 +65,31 @@ fn is_heading(line: &[u8]) -> bool
     let Some((first, rest)) = split_field(before_comment(line)) else {
         return false;
     };
-    let Some((_, rest)) = split_field(rest) else {
+    let Some((count, rest)) = split_field(rest) else {
         return false;
     };
     match split_field(rest) {
         Some(_) => false,
-        None => first == "SYMBOLS".as_bytes(),
+        None => first == "SYMBOLS".as_bytes() && is_decimal(count),
     }
+}
+
+/// Whether a line may stand above that heading: a row with its number, or a line without a field.
+#[tactic(auto, unfolding(crate::specs::Tables::is_row))]
+fn is_row(line: &[u8]) -> bool
+    ensures { result ≡ is_row line.now }
+{
+    match split_field(before_comment(line)) {
+        Some((first, _)) => is_decimal(first),
+        None => true,
+    }
+}
+
+/// Whether a field is of decimal digits.
+fn is_decimal(field: &[u8]) -> bool
+    ensures { result ≡ is_decimal field.now }
+{
+    decimal_value(field).is_some()
 }
 
 /// The names of some lines, before which so many others stand.

@@ -1,12 +1,12 @@
 -- Interrupts that are asked for, step by step; and what a line of one that waits says.
-use Rattle.std.proofs.Common.{◌≡◌, ◌≢◌, ℕ, zero, suc, ◌+◌, ◌-◌, ◌≤◌, ◌++◌, Bool, true, false, ◌||◌, ◌&&◌, not, nat_le, List, length, replicate, get_or, set, Option, Some, None, is_some, unwrap_or, refl, sym, ap, ◌∙◌, inl, inr, ⊎_elim, arith, add-one, if◌then◌else◌, subst}
-use Rattle.std.proofs.lemmas.Bool.{cases_Bool, cases_eq, leb-true, le-leb}
+use Rattle.std.proofs.Common.{◌≡◌, ◌≢◌, ℕ, zero, suc, ◌+◌, ◌-◌, ◌≤◌, ◌++◌, Bool, true, false, List, length, replicate, get_or, set, Option, Some, None, is_some, unwrap_or, refl, sym, ap, ◌∙◌, inl, inr, arith, add-one, if◌then◌else◌, subst}
+use Rattle.std.proofs.lemmas.Bool.{cases_Bool, leb-true, le-leb}
 use Rattle.std.proofs.lemmas.Bool.Decides.{eqb_tells, nat_tests}
 use Rattle.std.proofs.lemmas.List.{get_or-set_same, get_or-set_other, length-set, length-replicate, append-nil, append_assoc}
 use Rattle.std.specs.Option.{option_map}
-use Rattle.std.specs.Ordering.{nat_cmp, eq_by_cmp}
+use Rattle.std.specs.Ordering.{nat_cmp}
 use Rattle.std.specs.Cmp.{nat_cmp_total}
-use Rattle.std.specs.FinSet.{FinSet, contains, insert, remove, empty, contains-empty, contains-insert, contains-remove}
+use Rattle.std.specs.FinSet.{FinSet, contains, insert, remove, contains-empty, contains-insert, contains-remove}
 use Rattle.rope.specs.Places.{Words}
 use Rattle.feed.specs.Merged.{due}
 use Rattle.feed.specs.declared.input.Counter.{Counter}
@@ -29,7 +29,7 @@ use Rattle.cpu.specs.State.{State, Scenario, start}
 use Rattle.cpu.proofs.LeavingFlags.{leaves_flags}
 use Rattle.cpu.proofs.RunLaws.{counted_in, cycles-effect, rise-run, run-add-one, run-zero}
 use Rattle.notes.specs.declared.waits.Moment.{Moment}
-use Rattle.notes.specs.Waits.{IsAskedSince, Keeps, LongWait, MomentsAreExact, Waits, WaitsAreExact, asked_at, asked_by, is_long, kept_from, kept_text, long_wait, moment_of, since, wait_text, waits_after, waits_long, waits_since, waits_text}
+use Rattle.notes.specs.Waits.{IsAskedSince, Keeps, LongWait, MomentsAreExact, Waits, WaitsAreExact, asked_at, asked_by, is_long, kept_from, kept_text, long_wait, moment_of, since, wait_text, waits_after, waits_since, waits_text}
 
 -- ## What a step does to what is asked for
 abbrev asked_set : FinSet nat_cmp → Option ℕ → FinSet nat_cmp

@@ -17,7 +17,7 @@ use words::{Write, WriteFailed, write_all};
 /// `NOTE QUOTIENT   02,4004  10100  DV D               STEP 5 CYCLES 13 TIMES 1`: the kind, what its first step is, that step and
 /// the cycles after it, and how often. They stand in the order of their first steps.
 ///
-/// What is told is taken from the notebook. After a failure a beginning of the text was written.
+/// What is told is taken from the notebook. After a failure a beginning of the text was written. No more steps are made than these.
 pub fn write_notes<W: Write>(
     notebook: &mut Notebook,
     names: &PlaceNames,
@@ -29,6 +29,7 @@ pub fn write_notes<W: Write>(
     requires counted { Counted notebook.old.named processor.old.scenario steps notebook.old }
     ensures written { W.told ≡ true → Writes (W.written out.old) (W.written out.new) (notes_text names.now notebook.old.named processor.old.scenario steps) result }
     ensures failures { W.failures out.new ≡ failures_after (W.failures out.old) result }
+    ensures meter { processor.new.meter ≤ processor.old.meter + steps }
 {
     let mut machine = Machine::start();
     let mut done = 0;
@@ -57,6 +58,7 @@ fn write_step<W: Write>(
     ensures written { W.told ≡ true → Writes (W.written out.old) (W.written out.new)
         (text_after names.now processor.old.scenario number machine.old (taken_at processor.old.scenario machine.old notebook.old)) result }
     ensures failures { W.failures out.new ≡ failures_after (W.failures out.old) result }
+    ensures meter { processor.new.meter ≤ processor.old.meter + 1 }
 {
     let told = notebook.take(processor, machine);
     if told == NOTHING {

@@ -1,3 +1,4 @@
 pub mod Bytes
 pub mod GivenBack
 pub mod Images
+pub mod OtherOrder

@@ -1,8 +1,10 @@
-//! The laws of the source that fixed memory is written as. They are contracts of calls that do nothing.
+//! The laws of the source that fixed memory is written as, and of images in another form. They are contracts of calls that do nothing.
 #![tactic(auto)]
 
 ghost use Rattle.audit.specs.SourceLines.{source_text};
+ghost use Rattle.std.specs.Prelude.{ℕ};
 ghost use Rattle.source_laws.specs.GivenBack.{AreWords, IsBank, GivesBack, GivesImage};
+ghost use Rattle.source_laws.specs.OtherOrder.{IsTakenAsImage, OneBitIsSeen};
 
 use rope::{Rope, Version};
 use space::Bank;
@@ -25,3 +27,16 @@ pub fn source_gives_image(words: &Rope, version: Version)
     let _words = words;
     let _version = version;
 }
+
+/// The image of fixed memory in the other order of the bits has the same parity, and is taken for the image of the same words.
+pub fn other_order_is_taken(words: &Rope)
+    ensures { IsTakenAsImage words.now }
+{
+    let _words = words;
+}
+
+/// One wrong bit in the two bytes of a word is seen by the parity.
+#[tactic(auto, using(crate::proofs::OtherOrder::one_bit_is_seen))]
+pub fn one_wrong_bit_is_seen()
+    ensures { (n i : ℕ) → OneBitIsSeen n i }
+{}

@@ -1,4 +1,4 @@
-use Rattle.std.proofs.Common.{◌++◌, ◌∙◌, refl, sym, ap, arith}
+use Rattle.std.proofs.Common.{◌++◌, ap, arith}
 use Rattle.notes.specs.Waits.{kept_text}
 use Rattle.notes.proofs.LongWaits.{kept_more, kept_last}
 use Rattle.notes.proofs.lines.end_lines.Goals as goal

@@ -18,6 +18,7 @@ loop-done-init g c = record {
   written = λ told. append-nothing _ _ refl;
   failures = refl;
   within = omega arith;
+  meter = omega arith;
 }
 
 pub write_step-requires-clause-cycles : goal.write_step-requires-clause-cycles
@@ -47,6 +48,7 @@ loop-done-preserved g c = record {
       (rw text at (c.in_ok-write_step.ensures.written told));
   failures = c.in_ok-write_step.ensures.failures ∙ c.loop-done.invariant.failures;
   within = omega arith;
+  meter = omega (arith, c.in_ok-write_step.ensures.meter, c.loop-done.invariant.meter);
 }
 
 pub returns-clause-written : goal.returns-clause-written

@@ -1,4 +1,4 @@
-use Rattle.std.proofs.Common.{◌≡◌, ◌≤◌, ◌-◌, ◌++◌, true}
+use Rattle.std.proofs.Common.{◌≡◌, ◌≤◌, ◌+◌, ◌-◌, ◌++◌, true}
 use Rattle.audit.proofs.PartTexts.{front}
 use Rattle.cpu.specs.Run.{run}
 use Rattle.notes.specs.Counted.{Left}
@@ -13,6 +13,7 @@ invariant-loop-done g l = record {
   written : g.W.Write.told ≡ true → g.W.Write.written l.out ≡ g.W.Write.written l.fn.out ++ front (step_text l.names l.fn.notebook.named l.fn.processor.scenario l.steps) l.done;
   failures : g.W.Write.failures l.out ≡ g.W.Write.failures l.fn.out;
   within : l.done ≤ l.steps;
+  meter : l.processor.meter ≤ l.fn.processor.meter + l.done;
 }
 
 abbrev pub decreases-loop-done : goal.decreases-loop-done
