@@ -29,3 +29,4 @@ pub mod Conversation
 pub mod HandingOn
 pub mod Telling
 pub mod Executions
+pub mod Looks

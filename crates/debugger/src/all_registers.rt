@@ -4,7 +4,7 @@ ghost use Rattle.std.specs.Prelude.{◌≡◌, ◌+◌, ◌*◌, ◌≤◌, ◌+
 ghost use Rattle.std.specs.FinSet.{contains};
 ghost use Rattle.words.specs.Numerals.{octal_text};
 ghost use Rattle.arrayvec.specs.ArrayVec.{array_vec_len};
-ghost use Rattle.replay.specs.View.{SessionView};
+ghost use Rattle.replay.specs.View.{SessionView, HasShown};
 ghost use Rattle.commands.specs.declared.extended.ExtendedLine.TheVariants as asked;
 ghost use Rattle.debugger.specs.AllRegisters.{all_registers, register_lines, flag_lines, waiting_lines, asked_line, sum_line, word_line, requested, numbers_text, or_none};
 ghost use Rattle.debugger.specs.Replies.{line as text_line, flag_text};
@@ -31,6 +31,7 @@ impl Desk {
         requires { self.now.position ≤ session.old.n }
         ensures brings { BringsAsked (desk session.old self.now.position self.now.breakpoints) asked.AllRegisters result.items (desk session.new self.now.position self.now.breakpoints) }
         ensures looked { HasLooked session.old session.new session.old.n }
+        ensures shown { HasShown session.old self.now.position session.new }
     {
         match session.show(self.position) {
             Ok(machine) => all_registers_text(machine),

@@ -5,6 +5,8 @@ ghost use Rattle.words.specs.Devices.{failures_after};
 ghost use Rattle.cpu.specs.Run.{outs};
 ghost use Rattle.commands.specs.declared.command.ParsedLine.TheVariants.{Known};
 ghost use Rattle.debugger.specs.Replies.{last_of, tail_length};
+ghost use Rattle.replay.specs.View.{HasShown};
+ghost use Rattle.debugger.specs.Looks.{request_looks, command_looks};
 ghost use Rattle.debugger.specs.Executions.{desk, Executes, HasGoneOn};
 ghost use Rattle.debugger.specs.declared.manner.Manner.TheVariants as manner;
 
@@ -29,6 +31,7 @@ impl Desk {
         ensures within { self.new.position ≤ session.new.n }
         ensures tail { self.new.tail ≡ last_of tail_length (outs session.new.scenario session.new.n) }
         ensures session { HasGoneOn session.old session.new }
+        ensures looks { request_looks request ≡ true → HasShown session.old self.old.position session.new }
         ensures failures { W.failures out.new ≡ failures_after (W.failures out.old) result }
     {
         match request {
@@ -54,6 +57,7 @@ impl Desk {
         ensures within { self.new.position ≤ session.new.n }
         ensures tail { self.new.tail ≡ last_of tail_length (outs session.new.scenario session.new.n) }
         ensures session { HasGoneOn session.old session.new }
+        ensures looks { command_looks command ≡ true → HasShown session.old self.old.position session.new }
         ensures failures { W.failures out.new ≡ failures_after (W.failures out.old) result }
     {
         match command {

@@ -6,7 +6,7 @@ ghost use Rattle.arrayvec.specs.ArrayVec.{array_vec_len};
 ghost use Rattle.words.specs.Devices.{failures_after};
 ghost use Rattle.words.specs.Numerals.{octal_text};
 ghost use Rattle.cpu.specs.Run.{outs};
-ghost use Rattle.replay.specs.View.{SessionView};
+ghost use Rattle.replay.specs.View.{SessionView, HasShown};
 ghost use Rattle.debugger.specs.Terms.{Terms};
 ghost use Rattle.commands.specs.declared.extended.ExtendedLine.TheVariants as asked;
 ghost use Rattle.yayul.specs.Listing.{place_text};
@@ -15,6 +15,7 @@ ghost use Rattle.debugger.specs.ExtendedReplies.{breakpoint_text, breaks_from, n
 ghost use Rattle.debugger.specs.History.{history};
 ghost use Rattle.debugger.specs.Growth.{hit_at};
 ghost use Rattle.debugger.specs.Conversation.{effort, to_asked};
+ghost use Rattle.debugger.specs.Looks.{looks};
 ghost use Rattle.debugger.specs.declared.manner.Manner.TheVariants as manner;
 ghost use Rattle.debugger.specs.Executions.{desk, BringsAsked, Replies, grows_on, HasLooked, HasGoneOn, HasDone};
 
@@ -54,6 +55,9 @@ impl Desk {
         ensures within { self.new.position ≤ session.new.n }
         ensures tail { self.new.tail ≡ last_of tail_length (outs session.new.scenario session.new.n) }
         ensures session { HasDone (effort request.now) session.old session.new }
+
+        // What looks at the position alone shows it, so that the next such command executes no step.
+        ensures looks { looks request.now ≡ true → HasShown session.old self.old.position session.new }
         ensures failures { W.failures out.new ≡ failures_after (W.failures out.old) result }
     {
         match request {

@@ -1,8 +1,9 @@
 //! `trace`: the last steps, a line each.
 
-ghost use Rattle.std.specs.Prelude.{◌≡◌, ◌*◌, ◌≤◌, true};
+ghost use Rattle.std.specs.Prelude.{◌≡◌, ◌-◌, ◌*◌, ◌≤◌, min, true};
 ghost use Rattle.words.specs.Devices.{Writes, failures_after};
 ghost use Rattle.debugger.specs.Retracing.{traced_text};
+ghost use Rattle.replay.specs.Retraced.{HasRetraced};
 ghost use Rattle.debugger.specs.Executions.{HasLooked};
 
 use crate::desk::Desk;
@@ -46,6 +47,7 @@ impl Desk {
         requires { self.now.position ≤ session.old.n }
         ensures writes { W.told ≡ true → Writes (W.written out.old) (W.written out.new) (traced_text symbols.now session.old.scenario self.now.position steps) result }
         ensures looked { HasLooked session.old session.new (2 * session.old.n) }
+        ensures retraced { HasRetraced session.old (self.now.position - min steps self.now.position) (min steps self.now.position) session.new }
         ensures failures { W.failures out.new ≡ failures_after (W.failures out.old) result }
     {
         let count = steps.min(self.position);

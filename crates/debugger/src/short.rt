@@ -6,7 +6,7 @@ ghost use Rattle.cpu.specs.State.{Scenario};
 ghost use Rattle.commands.specs.declared.command.Command.TheVariants as command;
 ghost use Rattle.commands.specs.declared.command.ParsedLine.TheVariants.{Known};
 ghost use Rattle.space.specs.Cells.{changed_places};
-ghost use Rattle.replay.specs.View.{SessionView};
+ghost use Rattle.replay.specs.View.{SessionView, HasShown};
 ghost use Rattle.debugger.specs.History.{history, sight};
 ghost use Rattle.debugger.specs.Growth.{hit_at};
 ghost use Rattle.debugger.specs.Replies.{line, changed_text, memory_word, last_stop, last_change};
@@ -42,6 +42,7 @@ impl Desk {
         ensures within { self.new.position ≤ session.new.n }
         ensures tail { self.new.tail ≡ self.old.tail }
         ensures looked { HasLooked session.old session.new (session.old.n) }
+        ensures shown { HasShown session.old self.new.position session.new }
     {
         self.position = self.position.saturating_sub(steps);
         match session.show(self.position) {
@@ -62,6 +63,7 @@ impl Desk {
         ensures within { self.new.position ≤ session.new.n }
         ensures tail { self.new.tail ≡ self.old.tail }
         ensures looked { HasLooked session.old session.new (session.old.n) }
+        ensures shown { HasShown session.old step session.new }
     {
         match session.show(step) {
             Ok(machine) => {
@@ -149,6 +151,7 @@ impl Desk {
         requires { self.now.position ≤ session.old.n }
         ensures brings { Brings (desk session.old self.now.position self.now.breakpoints) (Known (command.Registers)) result.items (desk session.new self.now.position self.now.breakpoints) }
         ensures looked { HasLooked session.old session.new (session.old.n) }
+        ensures shown { HasShown session.old self.now.position session.new }
     {
         match session.with_present(self.position) {
             Ok((machine, _, processor)) => registers_text(machine, processor),
@@ -161,6 +164,7 @@ impl Desk {
         requires { self.now.position ≤ session.old.n }
         ensures brings { Brings (desk session.old self.now.position self.now.breakpoints) (Known (command.Memory place)) result.items (desk session.new self.now.position self.now.breakpoints) }
         ensures looked { HasLooked session.old session.new (session.old.n) }
+        ensures shown { HasShown session.old self.now.position session.new }
     {
         match session.with_present(self.position) {
             Ok((machine, _, processor)) => word_line(b"MEM ", word_at(machine, processor, place)),
@@ -173,6 +177,7 @@ impl Desk {
         requires { self.now.position ≤ session.old.n }
         ensures brings { Brings (desk session.old self.now.position self.now.breakpoints) (Known (command.Channel channel)) result.items (desk session.new self.now.position self.now.breakpoints) }
         ensures looked { HasLooked session.old session.new (session.old.n) }
+        ensures shown { HasShown session.old self.now.position session.new }
     {
         match session.show(self.position) {
             Ok(machine) => word_line(b"CHAN ", machine.channel(channel).correct()),

@@ -9,6 +9,7 @@ ghost use Rattle.debugger.specs.History.{history, sight};
 ghost use Rattle.debugger.specs.Replies.{memory_word};
 ghost use Rattle.debugger.specs.Whys.{kind_part, last_outside};
 ghost use Rattle.debugger.specs.Standing.{places_before, place_before, nearest_symbol, distance_text, nearest_text, place_line, waiting_line, where_line, entered_line, entered_text, inside_text, where_text, begins_with, found_line, found_text, places_from, place_after, word_there, words_from, words_text, standing_text, rows_text};
+ghost use Rattle.replay.specs.View.{HasShown};
 ghost use Rattle.debugger.specs.Executions.{HasLooked};
 
 use crate::desk::Desk;
@@ -66,6 +67,7 @@ impl Desk {
         ensures writes { W.told ≡ true → Writes (W.written out.old) (W.written out.new) (standing_text symbols.now rows.now session.old.scenario (run session.old.scenario self.now.position)) result }
         ensures inside { IfOk result (λ inside. inside ≡ (run session.old.scenario self.now.position).inside) }
         ensures looked { HasLooked session.old session.new session.old.n }
+        ensures shown { HasShown session.old self.now.position session.new }
         ensures failures { W.failures out.new ≡ failures_after (W.failures out.old) result }
     {
         match session.with_present(self.position) {
@@ -100,6 +102,7 @@ impl Desk {
         requires { self.now.position ≤ session.old.n }
         ensures text { result.items ≡ words_text (history session.old.scenario) ((history session.old.scenario).after self.now.position) place.now count }
         ensures looked { HasLooked session.old session.new session.old.n }
+        ensures shown { HasShown session.old self.now.position session.new }
     {
         match session.with_present(self.position) {
             Ok((machine, _, processor)) => words_text(machine, processor, place, count),
@@ -121,6 +124,7 @@ impl Desk {
         requires { self.now.position ≤ session.old.n }
         ensures writes { W.told ≡ true → Writes (W.written out.old) (W.written out.new) (rows_text kind symbols.now rows.now session.old.scenario.rope (history session.old.scenario) ((history session.old.scenario).after self.now.position) place.now count) result }
         ensures looked { HasLooked session.old session.new session.old.n }
+        ensures shown { HasShown session.old self.now.position session.new }
         ensures failures { W.failures out.new ≡ failures_after (W.failures out.old) result }
     {
         match session.with_present(self.position) {

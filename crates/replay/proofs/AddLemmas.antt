@@ -21,6 +21,7 @@ stands_alike : (s : SessionView) (other : Scenario) (meter : ℕ) → Stands s �
 stands_alike s other meter stands alike = record {
   within = stands.within;
   present = stands.present ∙ sym (alike s.n (omega arith)).state;
+  shown = (stands.shown.0, stands.shown.1 ∙ sym (alike s.shown.0 stands.shown.0).state);
   few = stands.few;
 }
 

@@ -26,10 +26,10 @@ advanced_on old s new advanced low n meter scenario shown stands images = record
 }
 
 -- a session after many steps is sound
-pub travelled_sound : (s : SessionView) (end : ℕ) (scenario : Scenario) (kept : List Image) (meter : ℕ) (after : State) → IsSound s → end ≤ step_limit → scenario ≡ s.scenario → meter < 2 ^ 128 → after ≡ run s.scenario end → IsRising kept → AreStaying end end (steps kept) → AreOfRun s.scenario kept
+pub travelled_sound : (s : SessionView) (end : ℕ) (scenario : Scenario) (kept : List Image) (meter : ℕ) (after : State) → IsSound s → s.n ≤ end → end ≤ step_limit → scenario ≡ s.scenario → meter < 2 ^ 128 → after ≡ run s.scenario end → IsRising kept → AreStaying end end (steps kept) → AreOfRun s.scenario kept
     → IsSound (record { scenario = scenario; meter = meter; images = kept; present = after; shown = s.shown; n = end })
-travelled_sound s end scenario kept meter after sound within same metered is rising staying of_run = rw same (record {
-  stands = record { within = within; present = is; few = Fits-images end kept rising staying };
+travelled_sound s end scenario kept meter after sound later within same metered is rising staying of_run = rw same (record {
+  stands = record { within = within; present = is; shown = (omega (arith, sound.stands.shown.0), sound.stands.shown.1); few = Fits-images end kept rising staying };
   of_run = of_run;
   staying = staying;
   metered = metered;

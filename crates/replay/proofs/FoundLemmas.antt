@@ -5,8 +5,8 @@ use Rattle.std.specs.List.{Contains}
 use Rattle.cpu.specs.State.{State, Scenario, FitsRun}
 use Rattle.cpu.specs.Run.{run}
 use Rattle.cpu.proofs.TakenLaws.{run-fits}
-use Rattle.replay.specs.Images.{steps}
-use Rattle.replay.specs.View.{SessionView, IsSound}
+use Rattle.replay.specs.Images.{Image, steps}
+use Rattle.replay.specs.View.{SessionView, IsOfRun, IsSound}
 use Rattle.replay.specs.LastHit.{HasSought}
 use Rattle.replay.specs.Found.{or_other, last_between, last_found, first_found, found_by}
 use Rattle.replay.proofs.StayingLemmas.{stays_covers}
@@ -77,21 +77,21 @@ pub first_none : (find : ℕ → Option ℕ) (from high : ℕ) → high ≤ from
 first_none find from high past = let left : high - from ≡ 0 = omega arith in rw left refl
 
 -- what a search leaves
-pub has_found : (old s : SessionView) (p : ℕ) (r : Option (ℕ × ℕ)) (scenario : Scenario) (shown : State) (meter : ℕ) → s ≡ old → IsSound s → p ≤ s.n → scenario ≡ s.scenario → meter < 2 ^ 128 → s.meter ≤ meter
+pub has_found : (old s : SessionView) (p : ℕ) (r : Option (ℕ × ℕ)) (scenario : Scenario) (shown : Image) (meter : ℕ) → s ≡ old → IsSound s → p ≤ s.n → scenario ≡ s.scenario → meter < 2 ^ 128 → s.meter ≤ meter → IsOfRun s.scenario s.n shown
     → IfSome r (λ t. t.0 < p)
     → IfSome r (λ t. (c : ℕ) → Contains (steps s.images) c → c ≤ t.0 → meter + c ≤ s.meter + p) → IfNone r (meter ≤ s.meter + p) → HasSought old p (option_map (λ t. t.0) r) (record { scenario = scenario; meter = meter; images = s.images; present = s.present; shown = shown; n = s.n })
-has_found old s p None scenario shown meter is sound early same metered least below found none = rw (← is) (record {
-  stands = (shown_sound s scenario shown meter sound same metered).stands;
+has_found old s p None scenario shown meter is sound early same metered least of_run below found none = rw (← is) (record {
+  stands = (shown_sound s scenario shown meter sound same metered of_run).stands;
   same = ap (λ (q : Scenario). let m : SessionView = record { scenario = q; meter = meter; images = s.images; present = s.present; shown = shown; n = s.n } in m) same;
   least = least;
   found = tt;
   none = none;
 })
-has_found old s p (Some t) scenario shown meter is sound early same metered least below found none =
+has_found old s p (Some t) scenario shown meter is sound early same metered least of_run below found none =
     let c = stays_covers s.n (steps s.images) sound.staying t.0 (omega arith) in
     let cost = found c.0 c.1 c.2 in
     rw (← is) (record {
-      stands = (shown_sound s scenario shown meter sound same metered).stands;
+      stands = (shown_sound s scenario shown meter sound same metered of_run).stands;
       same = ap (λ (q : Scenario). let m : SessionView = record { scenario = q; meter = meter; images = s.images; present = s.present; shown = shown; n = s.n } in m) same;
       least = least;
       found = omega (arith, c.3);

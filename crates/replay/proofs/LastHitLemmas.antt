@@ -2,9 +2,9 @@ use Rattle.std.proofs.Common.{◌≡◌, ℕ, zero, suc, ◌+◌, ◌-◌, ◌^�
 use Rattle.std.proofs.lemmas.Bool.{cases_lt, cases_eq}
 use Rattle.std.specs.Option.{IfNone}
 use Rattle.std.specs.List.{Contains}
-use Rattle.cpu.specs.State.{State, Scenario}
-use Rattle.replay.specs.Images.{steps}
-use Rattle.replay.specs.View.{SessionView, IsSound}
+use Rattle.cpu.specs.State.{Scenario}
+use Rattle.replay.specs.Images.{Image, steps}
+use Rattle.replay.specs.View.{SessionView, IsOfRun, IsSound}
 use Rattle.replay.specs.LastHit.{last_hit, first_hit, IsLastHit, HasSought, HasSearched}
 use Rattle.replay.proofs.StayingLemmas.{stays_covers}
 use Rattle.replay.proofs.SessionLemmas.{shown_sound}
@@ -51,21 +51,21 @@ between_more low k None false order h = h
 between_more low k (Some t) false order h = (h.0, omega (arith, h.1))
 
 -- what a search leaves
-pub has_sought : (old s : SessionView) (p : ℕ) (r : Option ℕ) (scenario : Scenario) (shown : State) (meter : ℕ) → s ≡ old → IsSound s → p ≤ s.n → scenario ≡ s.scenario → meter < 2 ^ 128 → s.meter ≤ meter
+pub has_sought : (old s : SessionView) (p : ℕ) (r : Option ℕ) (scenario : Scenario) (shown : Image) (meter : ℕ) → s ≡ old → IsSound s → p ≤ s.n → scenario ≡ s.scenario → meter < 2 ^ 128 → s.meter ≤ meter → IsOfRun s.scenario s.n shown
     → IfSome r (λ t. t < p)
     → IfSome r (λ t. (c : ℕ) → Contains (steps s.images) c → c ≤ t → meter + c < s.meter + p) → IfNone r (meter ≤ s.meter + p) → HasSought old p r (record { scenario = scenario; meter = meter; images = s.images; present = s.present; shown = shown; n = s.n })
-has_sought old s p None scenario shown meter is sound early same metered least below found none = rw (← is) (record {
-  stands = (shown_sound s scenario shown meter sound same metered).stands;
+has_sought old s p None scenario shown meter is sound early same metered least of_run below found none = rw (← is) (record {
+  stands = (shown_sound s scenario shown meter sound same metered of_run).stands;
   same = ap (λ (q : Scenario). let m : SessionView = record { scenario = q; meter = meter; images = s.images; present = s.present; shown = shown; n = s.n } in m) same;
   least = least;
   found = tt;
   none = none;
 })
-has_sought old s p (Some t) scenario shown meter is sound early same metered least below found none =
+has_sought old s p (Some t) scenario shown meter is sound early same metered least of_run below found none =
     let c = stays_covers s.n (steps s.images) sound.staying t (omega arith) in
     let cost = found c.0 c.1 c.2 in
     rw (← is) (record {
-      stands = (shown_sound s scenario shown meter sound same metered).stands;
+      stands = (shown_sound s scenario shown meter sound same metered of_run).stands;
       same = ap (λ (q : Scenario). let m : SessionView = record { scenario = q; meter = meter; images = s.images; present = s.present; shown = shown; n = s.n } in m) same;
       least = least;
       found = omega (arith, c.3);
@@ -87,7 +87,7 @@ pub first_none : (hit : ℕ → Bool) (from high : ℕ) → high ≤ from → fi
 first_none hit from high past = let left : high - from ≡ 0 = omega arith in rw left refl
 
 -- what a search on leaves
-pub has_searched : (old s : SessionView) (scenario : Scenario) (shown : State) (meter : ℕ) → s ≡ old → scenario ≡ s.scenario → s.meter ≤ meter → meter ≤ s.meter + s.n
+pub has_searched : (old s : SessionView) (scenario : Scenario) (shown : Image) (meter : ℕ) → s ≡ old → scenario ≡ s.scenario → s.meter ≤ meter → meter ≤ s.meter + s.n
     → HasSearched old (record { scenario = scenario; meter = meter; images = s.images; present = s.present; shown = shown; n = s.n })
 has_searched old s scenario shown meter is same least most = rw (← is) (record {
   same = ap (λ (q : Scenario). let m : SessionView = record { scenario = q; meter = meter; images = s.images; present = s.present; shown = shown; n = s.n } in m) same;

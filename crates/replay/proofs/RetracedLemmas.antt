@@ -5,6 +5,7 @@ use Rattle.words.proofs.Texts.{append-then, beginning-after, beginning-longer}
 use Rattle.cpu.specs.State.{State, Scenario}
 use Rattle.cpu.specs.Run.{run}
 use Rattle.replay.specs.Retraced.{texts_after, HasRetraced}
+use Rattle.replay.specs.Images.{Image}
 use Rattle.replay.specs.View.{SessionView}
 
 module _ (text : ℕ → State → List ℕ) (scenario : Scenario) (low : ℕ) where
@@ -39,10 +40,11 @@ module _ (text : ℕ → State → List ℕ) (scenario : Scenario) (low : ℕ) w
       begins_on (at + 1 - low) (high - (at + 1)) (high - low) old new (omega (arith, h, past)) more
 
 -- what a session has left then
-pub has_retraced : (old s : SessionView) (low count : ℕ) (scenario : Scenario) (shown : State) (meter : ℕ) → s ≡ old → scenario ≡ s.scenario → s.meter ≤ meter → meter + low ≤ s.meter + s.n + count
+pub has_retraced : (old s : SessionView) (low count : ℕ) (scenario : Scenario) (shown : Image) (meter : ℕ) → s ≡ old → scenario ≡ s.scenario → s.meter ≤ meter → meter + low ≤ s.meter + s.n + count → (s.shown.0 ≤ low → meter + s.shown.0 ≤ s.meter + low + count)
     → HasRetraced old low count (record { scenario = scenario; meter = meter; images = s.images; present = s.present; shown = shown; n = s.n })
-has_retraced old s low count scenario shown meter is same least most = rw (← is) (record {
+has_retraced old s low count scenario shown meter is same least most on = rw (← is) (record {
   same = ap (λ (q : Scenario). let m : SessionView = record { scenario = q; meter = meter; images = s.images; present = s.present; shown = shown; n = s.n } in m) same;
   least = least;
   most = most;
+  on = on;
 })

@@ -14,7 +14,7 @@ use Rattle.replay.specs.Images.{Image, IsRising, steps}
 use Rattle.replay.specs.Memory.{Fits, step_limit}
 use Rattle.replay.specs.Spacing.{AreStaying}
 use Rattle.std.proofs.Math.Nat.{one-dvd}
-use Rattle.replay.specs.View.{SessionView, Stands, AreOfRun, AreImages, IsSound, HasShown}
+use Rattle.replay.specs.View.{SessionView, Stands, IsOfRun, AreOfRun, AreImages, IsSound, HasShown}
 use Rattle.replay.proofs.FewImages.{Rises, Fits-staying, Fits-start}
 use Rattle.replay.proofs.StepLemmas.{contains_none, contains_push_cases}
 use Rattle.replay.proofs.StayingLemmas.{stays_covers}
@@ -28,14 +28,15 @@ Rises-steps (a ∷ b ∷ r) h = (h 0 1 a (omega arith) (omega arith), Rises-step
 pub Fits-images : (n : ℕ) (images : List Image) → IsRising images → AreStaying n n (steps images) → Fits (length images + 2) n
 Fits-images n images rising staying = rw length-map at (Fits-staying n (steps images) (Rises-steps images rising) staying)
 
-pub start_stands : (scenario : Scenario) (images : List Image) (meter : ℕ) → images ≡ [] → Stands (record { scenario = scenario; meter = meter; images = images; present = start; shown = start; n = 0 })
+pub start_stands : (scenario : Scenario) (images : List Image) (meter : ℕ) → images ≡ [] → Stands (record { scenario = scenario; meter = meter; images = images; present = start; shown = (0, start); n = 0 })
 start_stands scenario images meter e = rw e (record {
   within = omega arith;
   present = sym (run-zero scenario);
+  shown = (omega arith, sym (run-zero scenario));
   few = Fits-start;
 })
 
-pub starts_sound : (scenario : Scenario) (images : List Image) (meter : ℕ) → images ≡ [] → meter < 2 ^ 128 → IsSound (record { scenario = scenario; meter = meter; images = images; present = start; shown = start; n = 0 })
+pub starts_sound : (scenario : Scenario) (images : List Image) (meter : ℕ) → images ≡ [] → meter < 2 ^ 128 → IsSound (record { scenario = scenario; meter = meter; images = images; present = start; shown = (0, start); n = 0 })
 starts_sound scenario images meter e metered =
     let stands = start_stands scenario images meter e in
     rw e (record {
@@ -89,6 +90,7 @@ goes_sound s after output scenario kept thinned meter sound low same metered is 
   stands = record {
     within = omega arith;
     present = steps_on s.scenario s.n s.present after output (omega arith) sound.stands.present stepped;
+    shown = (omega (arith, sound.stands.shown.0), sound.stands.shown.1);
     few = Fits-images (s.n + 1) thinned rising staying;
   };
   of_run = of_run_after s.scenario s.n s.images kept thinned s.present sound.of_run sound.stands.present is part;
@@ -97,24 +99,26 @@ goes_sound s after output scenario kept thinned meter sound low same metered is 
 })
 
 -- a session stays sound where only the shown machine and the meter change
-pub shown_sound : (s : SessionView) (scenario : Scenario) (shown : State) (meter : ℕ) → IsSound s → scenario ≡ s.scenario → meter < 2 ^ 128 → IsSound (record { scenario = scenario; meter = meter; images = s.images; present = s.present; shown = shown; n = s.n })
-shown_sound s scenario shown meter sound same metered = rw same (record {
-  stands = record { within = sound.stands.within; present = sound.stands.present; few = sound.stands.few };
+pub shown_sound : (s : SessionView) (scenario : Scenario) (shown : Image) (meter : ℕ) → IsSound s → scenario ≡ s.scenario → meter < 2 ^ 128 → IsOfRun s.scenario s.n shown → IsSound (record { scenario = scenario; meter = meter; images = s.images; present = s.present; shown = shown; n = s.n })
+shown_sound s scenario shown meter sound same metered of_run = rw same (record {
+  stands = record { within = sound.stands.within; present = sound.stands.present; shown = of_run; few = sound.stands.few };
   of_run = sound.of_run;
   staying = sound.staying;
   metered = metered;
 })
 
 -- what showing an earlier step leaves, where the processor has gone no more steps than from any image that is early enough
-pub has_shown : (old s : SessionView) (t : ℕ) (scenario : Scenario) (shown : State) (meter : ℕ) → s ≡ old → IsSound s → t < s.n → scenario ≡ s.scenario → meter < 2 ^ 128 → s.meter ≤ meter → ((c : ℕ) → Contains (steps s.images) c → c ≤ t → meter + c ≤ s.meter + t)
-    → HasShown old t (record { scenario = scenario; meter = meter; images = s.images; present = s.present; shown = shown; n = s.n })
-has_shown old s t scenario shown meter is sound early same metered least most =
+pub has_shown : (old s : SessionView) (t : ℕ) (scenario : Scenario) (shown : Image) (meter : ℕ) → s ≡ old → IsSound s → t < s.n → scenario ≡ s.scenario → meter < 2 ^ 128 → s.meter ≤ meter → ((c : ℕ) → Contains (steps s.images) c → c ≤ t → meter + c ≤ s.meter + t)
+    → shown.0 ≡ t → shown.1 ≡ run s.scenario t → (s.shown.0 ≤ t → meter + s.shown.0 ≤ s.meter + t) → HasShown old t (record { scenario = scenario; meter = meter; images = s.images; present = s.present; shown = shown; n = s.n })
+has_shown old s t scenario shown meter is sound early same metered least most at of_run on =
     let c = stays_covers s.n (steps s.images) sound.staying t early in
     let cost = most c.0 c.1 c.2 in
     rw (← is) (record {
-      stands = (shown_sound s scenario shown meter sound same metered).stands;
+      stands = (shown_sound s scenario shown meter sound same metered (omega (arith, at, early), of_run ∙ ap (run s.scenario) (sym at))).stands;
       same = ap (λ (p : Scenario). let q : SessionView = record { scenario = p; meter = meter; images = s.images; present = s.present; shown = shown; n = s.n } in q) same;
       unchanged = λ late. absurd (omega arith);
       least = least;
       cheap = λ _. omega (arith, c.3);
+      at = λ _. at;
+      on = on;
     })

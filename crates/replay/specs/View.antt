@@ -10,13 +10,13 @@ use Rattle.replay.specs.Memory.{Fits, step_limit}
 use Rattle.replay.specs.Spacing.{AreStaying}
 
 -- what a session is seen as: what it runs, the steps made so far by its processor's meter, the images that its keeper
--- holds, the present machine, the shown one, and the number of steps that it has gone
+-- holds, the present machine, the shown one with its step, and the number of steps that it has gone
 pub record SessionView : Type 0 where
   pub scenario : Scenario
   pub meter : ℕ
   pub images : List Image
   pub present : State
-  pub shown : State
+  pub shown : Image
   pub n : ℕ
 
 -- how many machines a session holds: the images, the present and the shown one
@@ -31,11 +31,16 @@ counted meter = min (meter + 1) (2 ^ 128 - 1)
 abbrev pub counted_by : ℕ → ℕ → ℕ
 counted_by m meter = min (meter + m) (2 ^ 128 - 1)
 
--- what holds of a session whenever a call has returned: the present machine is the reference run's after n steps, and few
--- machines are held
+-- an image is the state of the run at its step, which is one up to n
+abbrev pub IsOfRun : Scenario → ℕ → Image → Type 0
+IsOfRun scenario n i = (i.0 ≤ n) × (i.1 ≡ run scenario i.0)
+
+-- what holds of a session whenever a call has returned: the present machine is the reference run's after n steps, the shown one
+-- is the run's at its step, and few machines are held
 pub record Stands (s : SessionView) : Type 0 where
   pub within : s.n ≤ step_limit
   pub present : s.present ≡ run s.scenario s.n
+  pub shown : IsOfRun s.scenario s.n s.shown
   pub few : Fits (held s) s.n
 
 -- each image is the state of the run at its step
@@ -55,14 +60,17 @@ pub record IsSound (s : SessionView) : Type 0 where
   pub staying : AreStaying s.n s.n (steps s.images)
   pub metered : s.meter < 2 ^ 128
 
--- what a call that shows step t leaves: only the shown machine and the meter may change, and a step before the present is
--- reached in fewer than n - t steps
+-- what a call that shows step t leaves: only the shown machine and the meter may change; a step before the present is shown
+-- then, and reached in fewer than n - t steps, and in no more than lie after the step that was shown: so none is executed to
+-- show a step again
 pub record HasShown (old : SessionView) (t : ℕ) (new : SessionView) : Type 0 where
   pub stands : Stands new
   pub same : new ≡ record old { shown = new.shown; meter = new.meter }
   pub unchanged : old.n ≤ t → new ≡ old
   pub least : old.meter ≤ new.meter
   pub cheap : t < old.n → new.meter + t < old.meter + old.n
+  pub at : t < old.n → new.shown.0 ≡ t
+  pub on : old.shown.0 ≤ t → new.meter + old.shown.0 ≤ old.meter + t
 
 -- what a call that went from step old.n to step new.n leaves: each of its steps is executed, at most twice as many are, and at
 -- most 65,536 more

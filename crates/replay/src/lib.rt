@@ -22,6 +22,7 @@ mod searching;
 mod searching_on;
 mod session;
 mod settling;
+mod showing;
 mod slot_keeper;
 mod stepping;
 mod stop;

@@ -2,8 +2,10 @@
 
 ghost use Rattle.std.specs.Prelude.{◌≡◌, ◌+◌, ◌^◌, ◌<◌, ◌≤◌};
 ghost use Rattle.cpu.specs.State.{State, Scenario, FitsRun, start};
+ghost use Rattle.cpu.specs.Run.{run};
 ghost use Rattle.replay.specs.Looked.{Looked};
 
+use crate::showing::Shown;
 use crate::stepping::make_step;
 use cpu::{Machine, Processor};
 
@@ -21,21 +23,24 @@ pub trait Onlooker {
 /// Makes the first `count` steps, and shows an onlooker the state before each.
 pub(crate) fn look_on<L: Onlooker>(
     processor: &mut Processor,
-    machine: &mut Machine,
+    shown: &mut Shown,
     count: u64,
     onlooker: &mut L,
 )
     requires within { count < 2 ^ 40 }
     requires metered { processor.old.meter < 2 ^ 128 }
-    requires stands { machine.old ≡ start }
+    requires stands { shown.old.machine ≡ start }
     ensures looked { Looked L.sees processor.old.scenario count onlooker.old onlooker.new }
     ensures scenario { processor.new.scenario ≡ processor.old.scenario }
     ensures metered { processor.new.meter < 2 ^ 128 }
     ensures least { processor.old.meter ≤ processor.new.meter }
     ensures most { processor.new.meter ≤ processor.old.meter + count }
+    ensures stands { shown.new.machine ≡ run processor.old.scenario shown.new.step }
+    ensures there { shown.new.step ≡ count }
 {
     for _ in 0..count {
-        onlooker.look(processor, machine);
-        make_step(processor, machine);
+        onlooker.look(processor, &shown.machine);
+        make_step(processor, &mut shown.machine);
     }
+    shown.step = count;
 }

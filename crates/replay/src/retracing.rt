@@ -1,6 +1,6 @@
 //! Making steps once more, each of them written.
 
-ghost use Rattle.std.specs.Prelude.{◌≡◌, ◌+◌, ◌-◌, ◌^◌, ◌<◌, ◌≤◌, ℕ, List, true};
+ghost use Rattle.std.specs.Prelude.{◌≡◌, ◌+◌, ◌-◌, ◌^◌, ◌<◌, ◌≤◌, ℕ, List, true, OnOk};
 ghost use Rattle.words.specs.Devices.{Writes, failures_after};
 ghost use Rattle.cpu.specs.State.{State, Scenario, FitsRun};
 ghost use Rattle.cpu.specs.Next.{next, most_cycles};
@@ -8,6 +8,7 @@ ghost use Rattle.cpu.specs.Run.{run};
 ghost use Rattle.replay.specs.Retraced.{texts_after};
 ghost use Rattle.replay.specs.View.{counted};
 
+use crate::showing::Shown;
 use cpu::{Machine, Processor};
 use words::{Write, WriteFailed};
 
@@ -33,11 +34,11 @@ pub trait StepWriter {
         ensures failures { W.failures out.new ≡ failures_after (W.failures out.old) result };
 }
 
-/// Makes the steps from `low` up to `high`, and writes their texts; the machine stands at `low`.
+/// Makes the steps up to `high`, and writes their texts; the machine stands at `low`.
 pub(crate) fn write_steps<T: StepWriter, W: Write>(
     writer: &T,
     processor: &mut Processor,
-    machine: &mut Machine,
+    shown: &mut Shown,
     low: u64,
     high: u64,
     out: &mut W,
@@ -45,7 +46,8 @@ pub(crate) fn write_steps<T: StepWriter, W: Write>(
     requires order { low ≤ high }
     requires within { high < 2 ^ 40 }
     requires metered { processor.old.meter < 2 ^ 128 }
-    requires stands { machine.old ≡ run processor.old.scenario low }
+    requires stands { shown.old.machine ≡ run processor.old.scenario low }
+    requires there { shown.old.step ≡ low }
     ensures written { W.told ≡ true →
         Writes (W.written out.old) (W.written out.new) (texts_after (T.text writer.now processor.old.scenario) processor.old.scenario low (high - low)) result }
     ensures failures { W.failures out.new ≡ failures_after (W.failures out.old) result }
@@ -53,9 +55,13 @@ pub(crate) fn write_steps<T: StepWriter, W: Write>(
     ensures metered { processor.new.meter < 2 ^ 128 }
     ensures least { processor.old.meter ≤ processor.new.meter }
     ensures most { processor.new.meter + low ≤ processor.old.meter + high }
+    ensures stands { shown.new.machine ≡ run processor.old.scenario shown.new.step }
+    ensures within { shown.new.step ≤ high }
+    ensures all { OnOk result (shown.new.step ≡ high) }
 {
     for at in low..high {
-        writer.write_step(processor, machine, at + 1, out)?;
+        shown.step = at + 1;
+        writer.write_step(processor, &mut shown.machine, at + 1, out)?;
     }
     Ok(())
 }

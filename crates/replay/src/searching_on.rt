@@ -5,13 +5,14 @@ ghost use Rattle.std.specs.Fn.{FnReturnsAt};
 ghost use Rattle.cpu.specs.Run.{run};
 ghost use Rattle.replay.specs.LastHit.{AnswersAs, first_hit};
 
+use crate::showing::Shown;
 use crate::stepping::make_step;
 use cpu::{Machine, Processor};
 
 /// The first step from `low` up to `high` after which `hit` holds of the machine, which stands at `low`.
 pub(crate) fn scan_on<F: Fn(&Machine) -> bool>(
     processor: &mut Processor,
-    machine: &mut Machine,
+    shown: &mut Shown,
     low: u64,
     high: u64,
     hit: &F,
@@ -19,7 +20,7 @@ pub(crate) fn scan_on<F: Fn(&Machine) -> bool>(
     requires order { low < high }
     requires within { high < 2 ^ 40 }
     requires metered { processor.old.meter < 2 ^ 128 }
-    requires stands { machine.old ≡ run processor.old.scenario low }
+    requires stands { shown.old.machine ≡ run processor.old.scenario low }
     requires callable { F.IsAlwaysCallable hit.now }
     ensures between { IfSome result (λ t. (low ≤ t) × (t < high)) }
     ensures first { (is_hit : ℕ → Bool) → AnswersAs (FnReturnsAt F.Fn hit.now) processor.old.scenario high is_hit → result ≡ first_hit is_hit low (high - low) }
@@ -27,15 +28,20 @@ pub(crate) fn scan_on<F: Fn(&Machine) -> bool>(
     ensures metered { processor.new.meter < 2 ^ 128 }
     ensures least { processor.old.meter ≤ processor.new.meter }
     ensures most { processor.new.meter + low < processor.old.meter + high }
+    ensures stands { shown.new.machine ≡ run processor.old.scenario shown.new.step }
+    ensures within { shown.new.step < high }
 {
-    if hit(machine) {
+    shown.step = low;
+    if hit(&shown.machine) {
         return Some(low);
     }
     for at in low..high - 1 {
-        make_step(processor, machine);
-        if hit(machine) {
+        make_step(processor, &mut shown.machine);
+        if hit(&shown.machine) {
+            shown.step = at + 1;
             return Some(at + 1);
         }
     }
+    shown.step = high - 1;
     None
 }

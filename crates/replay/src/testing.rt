@@ -10,6 +10,7 @@ ghost use Rattle.replay.specs.Found.{found_by, or_other, last_between, last_foun
 
 use crate::keeper::Keeper;
 use crate::restoring::restore;
+use crate::showing::Shown;
 use crate::thinning::step_before;
 use cpu::{Machine, Processor};
 
@@ -55,6 +56,7 @@ pub(crate) fn scan_steps<T: StepTest>(
     ensures metered { processor.new.meter < 2 ^ 128 }
     ensures least { processor.old.meter ≤ processor.new.meter }
     ensures most { processor.new.meter + low ≤ processor.old.meter + high }
+    ensures machine { machine.new ≡ run processor.old.scenario high }
 {
     let mut last = None;
     for at in low..high {
@@ -68,7 +70,7 @@ pub(crate) fn scan_steps<T: StepTest>(
 pub(crate) fn search_steps<K: Keeper, T: StepTest>(
     processor: &mut Processor,
     keeper: &K,
-    machine: &mut Machine,
+    shown: &mut Shown,
     p: u64,
     test: &T,
 ) -> Option<(u64, u64)>
@@ -76,6 +78,7 @@ pub(crate) fn search_steps<K: Keeper, T: StepTest>(
     requires first { 0 < p → Contains (steps (K.images keeper.now)) 0 }
     requires metered { processor.old.meter < 2 ^ 128 }
     requires of_run { AreOfRun processor.old.scenario (K.images keeper.now) }
+    requires stands { shown.old.machine ≡ run processor.old.scenario shown.old.step }
     ensures last { result ≡ last_found (found_by (T.finds test.now) processor.old.scenario) p }
     ensures scenario { processor.new.scenario ≡ processor.old.scenario }
     ensures metered { processor.new.meter < 2 ^ 128 }
@@ -85,12 +88,15 @@ pub(crate) fn search_steps<K: Keeper, T: StepTest>(
     // The segment of the step that is found is the last one that is run.
     ensures found { IfSome result (λ r. (c : ℕ) → Contains (steps (K.images keeper.now)) c → c ≤ r.0 → processor.new.meter + c ≤ processor.old.meter + p) }
     ensures none { IfNone result (processor.new.meter ≤ processor.old.meter + p) }
+    ensures stands { shown.new.machine ≡ run processor.old.scenario shown.new.step }
+    ensures within { (n : ℕ) → shown.old.step ≤ n → p ≤ n → shown.new.step ≤ n }
 {
     let mut high = p;
     while high > 0 {
         let low = step_before(keeper, high);
-        restore(processor, keeper, low, machine);
-        if let Some(found) = scan_steps(processor, machine, low, high, test) {
+        restore(processor, keeper, low, &mut shown.machine);
+        shown.step = high;
+        if let Some(found) = scan_steps(processor, &mut shown.machine, low, high, test) {
             return Some(found);
         }
         high = low;
@@ -101,7 +107,7 @@ pub(crate) fn search_steps<K: Keeper, T: StepTest>(
 /// The first step from `low` up to `high` of which the test finds something, with this; the machine stands at `low`.
 pub(crate) fn scan_steps_on<T: StepTest>(
     processor: &mut Processor,
-    machine: &mut Machine,
+    shown: &mut Shown,
     low: u64,
     high: u64,
     test: &T,
@@ -109,18 +115,22 @@ pub(crate) fn scan_steps_on<T: StepTest>(
     requires order { low ≤ high }
     requires within { high < 2 ^ 40 }
     requires metered { processor.old.meter < 2 ^ 128 }
-    requires stands { machine.old ≡ run processor.old.scenario low }
+    requires stands { shown.old.machine ≡ run processor.old.scenario low }
     ensures between { IfSome result (λ r. (low ≤ r.0) × (r.0 < high)) }
     ensures first { result ≡ first_found (found_by (T.finds test.now) processor.old.scenario) low (high - low) }
     ensures scenario { processor.new.scenario ≡ processor.old.scenario }
     ensures metered { processor.new.meter < 2 ^ 128 }
     ensures least { processor.old.meter ≤ processor.new.meter }
     ensures most { processor.new.meter + low ≤ processor.old.meter + high }
+    ensures stands { shown.new.machine ≡ run processor.old.scenario shown.new.step }
+    ensures within { shown.new.step ≤ high }
 {
     for at in low..high {
-        if let Some(found) = test.test_step(processor, machine) {
+        if let Some(found) = test.test_step(processor, &mut shown.machine) {
+            shown.step = at + 1;
             return Some((at, found));
         }
     }
+    shown.step = high;
     None
 }

@@ -26,7 +26,7 @@ use Rattle.workshop.specs.Loading.{Files, Loads}
 
 -- the session over a program and inputs that has made no step
 abbrev pub opened : Loaded → SessionView
-opened l = record { scenario = scenario_of l; meter = 0; images = []; present = start; shown = start; n = 0 }
+opened l = record { scenario = scenario_of l; meter = 0; images = []; present = start; shown = (0, start); n = 0 }
 
 -- where a program and a feed were read a session over them is opened, unless memory ran out
 abbrev pub OpensThen : Result Loaded WorkshopFault → Result Opened WorkshopFault → Type 0

@@ -7,7 +7,7 @@ abbrev pub invariant-loop : goal.invariant-loop
 invariant-loop g l =
     let p = l.fn.processor.scenario in
     record {
-      machine : l.machine ≡ run p l.counter;
+      machine : l.shown.machine ≡ run p l.counter;
       looked : Looked g.L.Onlooker.sees p l.counter l.fn.onlooker l.onlooker;
       scenario : l.processor.scenario ≡ p;
       metered : l.processor.meter < 2 ^ 128;

@@ -11,6 +11,7 @@ use Rattle.replay.proofs.retracing.write_steps.Goals as goal
 pub loop-at-init : goal.loop-at-init
 loop-at-init g c = record {
   machine = c.requires.stands;
+  step = c.requires.there;
   written = λ told. texts_none (g.T.StepWriter.text c.args.writer.now c.args.processor.now.scenario) c.args.processor.now.scenario c.args.low (g.W.Write.written c.args.out.now);
   failures = refl;
   scenario = refl;
@@ -35,7 +36,8 @@ loop-at-preserved g c =
     let told = c.in_ok-write_step.ensures in
     let meter = ap (λ (q : Processing). q.meter) told.processor in
     record {
-      machine = told.state ∙ ap (λ (q : Scenario). (next q c.loop-at.machine).0) kept.scenario ∙ ap (λ (s : State). (next p s).0) kept.machine ∙ sym (run-add-one p at);
+      machine = told.state ∙ ap (λ (q : Scenario). (next q c.loop-at.shown.machine).0) kept.scenario ∙ ap (λ (s : State). (next p s).0) kept.machine ∙ sym (run-add-one p at);
+      step = refl;
       written = λ w. texts_more (g.T.StepWriter.text c.args.writer.now p) p c.args.low at _ _ _ (omega arith) (kept.written w) (rw (kept.scenario, kept.machine) at (told.written w));
       failures = told.failures ∙ kept.failures;
       scenario = ap (λ (q : Processing). q.scenario) told.processor ∙ kept.scenario;
@@ -59,4 +61,7 @@ returns-in_err-write_step g c =
       metered = omega (arith, meter);
       least = omega (arith, kept.least, meter);
       most = omega (arith, kept.most, meter);
+      stands = told.state ∙ ap (λ (q : Scenario). (next q c.loop-at.shown.machine).0) kept.scenario ∙ ap (λ (s : State). (next p s).0) kept.machine ∙ sym (run-add-one p at);
+      within = omega arith;
+      all = rw r.1 tt;
     }

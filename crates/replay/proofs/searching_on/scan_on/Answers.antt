@@ -8,13 +8,13 @@ use Rattle.replay.proofs.searching_on.scan_on.Goals as goal
 pub returns-then-hit-clause-first : goal.returns-then-hit-clause-first
 returns-then-hit-clause-first g c = λ is_hit answers.
     let low = c.args.low in
-    let returned : FnReturnsAt g.F.Fn c.args.hit.now c.args.machine.now c.hit.result = record { shown = _; shows = refl; says = record { met = c.hit.ensures } } in
+    let returned : FnReturnsAt g.F.Fn c.args.hit.now c.args.shown.now.machine c.hit.result = record { shown = _; shows = refl; says = record { met = c.hit.ensures } } in
     sym (first_here is_hit low (c.args.high - low) (omega arith) (sym (answers low c.hit.result (omega arith) (rw (← c.requires.stands) returned)) ∙ c.if-hit.true))
 
 pub loop-at-init : goal.loop-at-init
 loop-at-init g c =
     let low = c.args.low in
-    let returned : FnReturnsAt g.F.Fn c.args.hit.now c.args.machine.now c.hit.result = record { shown = _; shows = refl; says = record { met = c.hit.ensures } } in
+    let returned : FnReturnsAt g.F.Fn c.args.hit.now c.args.shown.now.machine c.hit.result = record { shown = _; shows = refl; says = record { met = c.hit.ensures } } in
     record {
       machine = c.requires.stands;
       scenario = refl;
@@ -29,7 +29,7 @@ returns-then-hit-2-clause-first g c = λ is_hit answers.
     let kept = c.loop-at.invariant in
     let at = c.loop-at.at in
     let same = kept.scenario in
-    let stands = steps_on c.args.processor.now.scenario at c.loop-at.machine c.make_step.new.machine c.make_step.result (omega arith) kept.machine (λ low. rw same at (c.make_step.ensures.step low)) in
+    let stands = steps_on c.args.processor.now.scenario at c.loop-at.shown.machine c.make_step.new.machine c.make_step.result (omega arith) kept.machine (λ low. rw same at (c.make_step.ensures.step low)) in
     let returned : FnReturnsAt g.F.Fn c.args.hit.now c.make_step.new.machine c.hit-in-loop-at.result = record { shown = _; shows = refl; says = record { met = c.hit-in-loop-at.ensures } } in
     sym (kept.later is_hit answers ∙ first_here is_hit (at + 1) (c.args.high - (at + 1)) (omega arith) (sym (answers (at + 1) c.hit-in-loop-at.result (omega arith) (rw (← stands) returned)) ∙ c.if-hit-2.true))
 
@@ -39,7 +39,7 @@ loop-at-preserved g c =
     let at = c.loop-at.at in
     let same = kept.scenario in
     let meter = ap (λ (q : Processing). q.meter) c.make_step.ensures.meter in
-    let stands = steps_on c.args.processor.now.scenario at c.loop-at.machine c.make_step.new.machine c.make_step.result (omega arith) kept.machine (λ low. rw same at (c.make_step.ensures.step low)) in
+    let stands = steps_on c.args.processor.now.scenario at c.loop-at.shown.machine c.make_step.new.machine c.make_step.result (omega arith) kept.machine (λ low. rw same at (c.make_step.ensures.step low)) in
     let returned : FnReturnsAt g.F.Fn c.args.hit.now c.make_step.new.machine c.hit-in-loop-at.result = record { shown = _; shows = refl; says = record { met = c.hit-in-loop-at.ensures } } in
     record {
       machine = stands;
@@ -52,3 +52,8 @@ loop-at-preserved g c =
 
 pub returns-clause-first : goal.returns-clause-first
 returns-clause-first g c = λ is_hit answers. sym (c.loop-at.invariant.later is_hit answers ∙ first_none is_hit (c.loop-at.at + 1) c.args.high (omega arith))
+
+pub returns-then-hit-2-clause-stands : goal.returns-then-hit-2-clause-stands
+returns-then-hit-2-clause-stands g c =
+    let kept = c.loop-at.invariant in
+    steps_on c.args.processor.now.scenario c.loop-at.at c.loop-at.shown.machine c.make_step.new.machine c.make_step.result (omega arith) kept.machine (λ low. rw kept.scenario at (c.make_step.ensures.step low))

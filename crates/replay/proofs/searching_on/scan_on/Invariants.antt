@@ -8,7 +8,7 @@ abbrev pub invariant-loop-at : goal.invariant-loop-at
 invariant-loop-at g l =
     let p = l.fn.processor.scenario in
     record {
-      machine : l.machine ≡ run p l.at;
+      machine : l.shown.machine ≡ run p l.at;
       scenario : l.processor.scenario ≡ p;
       metered : l.processor.meter < 2 ^ 128;
       least : l.fn.processor.meter ≤ l.processor.meter;

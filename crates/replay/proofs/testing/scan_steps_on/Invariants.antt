@@ -8,7 +8,7 @@ invariant-loop-at g l =
     let p = l.fn.processor.scenario in
     let find = found_by (g.T.StepTest.finds l.test) p in
     record {
-      machine : l.machine ≡ run p l.at;
+      machine : l.shown.machine ≡ run p l.at;
       scenario : l.processor.scenario ≡ p;
       metered : l.processor.meter < 2 ^ 128;
       least : l.fn.processor.meter ≤ l.processor.meter;

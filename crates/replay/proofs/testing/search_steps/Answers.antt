@@ -1,4 +1,6 @@
 use Rattle.std.proofs.Common.{◌≡◌, ◌-◌, ◌∙◌, None, Some, sym, ap, arith}
+use Rattle.cpu.specs.State.{Scenario}
+use Rattle.cpu.specs.Run.{run}
 use Rattle.replay.specs.Found.{found_by, last_between, last_found}
 use Rattle.replay.proofs.FoundLemmas.{found_in_segment, none_in_segment}
 use Rattle.replay.proofs.testing.search_steps.Goals as goal
@@ -33,6 +35,8 @@ loop-high-preserved g c =
       metered = c.in_default.ensures.metered;
       least = omega (arith, c.in_default.ensures.least, c.restore.ensures.least);
       most = omega (arith, cost, c.in_default.ensures.most);
+      stands = c.in_default.ensures.machine ∙ ap (λ (q : Scenario). run q high) same;
+      within = λ n shown past. omega (arith, past, kept.high);
       none = none_in_segment find low high c.args.p (omega (arith, c.step_before-low.ensures.before)) kept.none none;
     }
 
@@ -42,3 +46,9 @@ returns-clause-last g c =
     let find = found_by (g.T.StepTest.finds c.args.test.now) c.args.processor.now.scenario in
     let e : c.loop-high.high ≡ 0 = omega arith in
     sym (kept.none ∙ ap (last_found find) e)
+
+pub returns-in-Some-clause-stands : goal.returns-in-Some-clause-stands
+returns-in-Some-clause-stands g c =
+    let high = c.loop-high.high in
+    let same = c.restore.ensures.scenario ∙ c.loop-high.invariant.scenario in
+    c.in-Some.ensures.machine ∙ ap (λ (q : Scenario). run q high) same

@@ -1,4 +1,5 @@
-use Rattle.std.proofs.Common.{◌≡◌, ◌+◌, ◌^◌, ◌<◌, ◌≤◌}
+use Rattle.std.proofs.Common.{◌≡◌, ℕ, ◌+◌, ◌^◌, ◌<◌, ◌≤◌}
+use Rattle.cpu.specs.Run.{run}
 use Rattle.replay.specs.Found.{found_by, last_found}
 use Rattle.replay.proofs.testing.search_steps.Given as goal
 
@@ -11,6 +12,8 @@ invariant-loop-high g l =
       metered : l.processor.meter < 2 ^ 128;
       least : l.fn.processor.meter ≤ l.processor.meter;
       most : l.processor.meter + l.high ≤ l.fn.processor.meter + l.p;
+      stands : l.shown.machine ≡ run l.fn.processor.scenario l.shown.step;
+      within : (n : ℕ) → l.fn.shown.step ≤ n → l.p ≤ n → l.shown.step ≤ n;
       none : last_found find l.p ≡ last_found find l.high;
     }
 

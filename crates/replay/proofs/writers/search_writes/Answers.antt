@@ -1,4 +1,6 @@
-use Rattle.std.proofs.Common.{None, Some, ◌∙◌, arith}
+use Rattle.std.proofs.Common.{◌-◌, None, Some, ◌∙◌, ap, arith}
+use Rattle.cpu.specs.State.{Scenario}
+use Rattle.cpu.specs.Run.{run}
 use Rattle.replay.specs.LastHit.{IsLastHit}
 use Rattle.replay.specs.Whys.{step_writes}
 use Rattle.replay.proofs.LastHitLemmas.{last_joined}
@@ -32,8 +34,16 @@ loop-high-preserved g c =
       metered = c.in_default.ensures.metered;
       least = omega (arith, c.in_default.ensures.least, c.restore.ensures.least);
       most = omega (arith, cost, c.in_default.ensures.most);
+      stands = c.in_default.ensures.machine ∙ ap (λ (q : Scenario). run q (high - 1)) same;
+      within = λ n shown past. omega (arith, past, kept.high);
       none = last_joined (step_writes c.args.processor.now.scenario c.args.cells.now) low high c.args.p None (omega arith) kept.none none;
     }
 
 pub returns-clause-last : goal.returns-clause-last
 returns-clause-last g c = λ u low below. c.loop-high.invariant.none u (omega arith) below
+
+pub returns-in-Some-clause-stands : goal.returns-in-Some-clause-stands
+returns-in-Some-clause-stands g c =
+    let high = c.loop-high.high in
+    let same = c.restore.ensures.scenario ∙ c.loop-high.invariant.scenario in
+    c.in-Some.ensures.machine ∙ ap (λ (q : Scenario). run q (high - 1)) same

@@ -10,7 +10,7 @@ use Rattle.replay.proofs.session.Session.advance_one_by_one.Goals as goal
 pub loop-made-init : goal.loop-made-init
 loop-made-init g c =
     let s = c.self.inside in
-    let view : SessionView = record { scenario = s.processor.scenario; meter = s.processor.meter; images = g.K.Keeper.images s.keeper; present = s.present; shown = s.shown; n = s.n } in
+    let view : SessionView = record { scenario = s.processor.scenario; meter = s.processor.meter; images = g.K.Keeper.images s.keeper; present = s.present; shown = (s.shown.step, s.shown.machine); n = s.n } in
     record {
       n = omega arith;
       none = λ _. (refl, refl);
