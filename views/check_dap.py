@@ -483,6 +483,43 @@ def check_moves(room):
     client.end()
 
 
+# The word in 100 is 1 after the steps 2 and 3 alone.
+BLINKS = b" SETLOC 4000\n CA ONE\n TS 100\n CA ZERO\n TS 100\nL TCF L\nONE OCT 1\nZERO OCT 0\n"
+# A routine that puts out a word before and after NOOP.
+TELLS = b""" SETLOC 4000
+ TC SUB
+DONE TCF DONE
+SUB CAF FIVE
+ EXTEND
+ WRITE 10
+ NOOP
+ EXTEND
+ WRITE 11
+ RETURN
+FIVE OCT 5
+"""
+
+
+def check_edges(room):
+    """A move back over the edges of the windows that it looks at; channel lines when the position passes them, though a look ahead has made the steps."""
+    client = begun(program=write(f"{room}/blinks.agc", BLINKS))
+    client.evaluate("break word 100 1")
+    for begin in (4, 65536 + 2, 65536 + 3, 65536 + 4, 65536 * 9 + 3, 65536 * 9 + 4):
+        client.goto(begin)
+        same(f"back from {begin}", (client.go("reverseContinue")[0], client.step()), ("breakpoint", 3))
+    same("the one before", (client.go("reverseContinue")[0], client.step()), ("breakpoint", 2))
+    same("none before", (client.go("reverseContinue")[0], client.step()), ("entry", 0))
+    client.end()
+    source = write(f"{room}/tells.agc", TELLS)
+    client = begun([7], program=source)
+    same("a breakpoint in a routine", client.go("next"), ("breakpoint", 7, "SUB +3"))
+    same("what came before it", client.outputs(), ["6 CH 010 00005\n"])
+    same("on", (client.go("stepOut")[:2], client.outputs()), (("step", 3), ["10 CH 011 00005\n"]))
+    client.goto(1)
+    same("once", (client.go("next")[:2], client.outputs()), (("step", 5), []))
+    client.end()
+
+
 def check_far_back(room):
     """A move back over many steps is told as progress, answers meanwhile, and ends by pause or a cancel."""
     client = Client(supportsProgressReporting=True)
@@ -795,4 +832,4 @@ def check_emacs(room):
     told("dap-mode: no more lines", len(shown) == len(wanted), "\n".join(shown[len(wanted) :] or ran.stderr.splitlines()[-20:]))
 
 
-PARTS = [check_search, check_stops, check_changes, check_calls, check_moves, check_far_back, check_flood, check_requests, check_cancel, check_restart, check_other_counts, check_ends, check_hostile, check_sizes, check_emacs]
+PARTS = [check_search, check_stops, check_changes, check_calls, check_moves, check_edges, check_far_back, check_flood, check_requests, check_cancel, check_restart, check_other_counts, check_ends, check_hostile, check_sizes, check_emacs]
