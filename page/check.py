@@ -44,7 +44,7 @@ import tally
 from files import read, write
 from tally import told
 
-PROGRAM = f"{ROOT}/crates/agcws/out/agcws"
+PROGRAM = os.environ.get("AGCWS", f"{ROOT}/crates/agcws/out/agcws")
 COMMAND = f"{HERE}/module/command.js"
 # Of what a module is made beside its bitcode.
 SCRIPTS = [f"{HERE}/module/{it}" for it in ("build.py", "layer.c", "retarget.py")]
@@ -388,18 +388,21 @@ def check_arithmetic(_, room, given):
 
 
 class Answers:
-    """A server on this machine alone that takes what a page hands on."""
+    """A server on this machine alone that takes what a page hands on; take returns whether that is the last."""
 
     def __init__(self):
-        self.got, self.body = threading.Event(), b""
+        self.got, self.body, self.take = threading.Event(), None, lambda body: True
         answers = self
 
         class Handler(http.server.BaseHTTPRequestHandler):
             def do_POST(self):
-                answers.body = self.rfile.read(int(self.headers["Content-Length"]))
+                body = self.rfile.read(int(self.headers["Content-Length"]))
+                is_last = answers.take(body)
                 self.send_response(204)
                 self.end_headers()
-                answers.got.set()
+                if is_last:
+                    answers.body = body
+                    answers.got.set()
 
             def log_message(self, *_):
                 pass
@@ -409,11 +412,11 @@ class Answers:
         self.address = f"http://127.0.0.1:{self.server.server_port}/"
 
     def wait(self):
-        """Returns what came, or None."""
-        is_there = self.got.wait(MOST_SECONDS_OF_PAGE)
+        """Returns what came last, or None."""
+        self.got.wait(MOST_SECONDS_OF_PAGE)
         self.server.shutdown()
         self.server.server_close()
-        return json.loads(self.body) if is_there else None
+        return self.body
 
 
 PAGE = """<!doctype html>
@@ -522,7 +525,7 @@ def check_browser(name, module, room, _):
     with tempfile.TemporaryFile() as said:
         home = {"HOME": room, "XDG_CONFIG_HOME": room, "XDG_CACHE_HOME": room}
         ran = subprocess.Popen(words, env={**os.environ, **home, **env}, stdin=subprocess.DEVNULL, stdout=said, stderr=said, start_new_session=True)
-        got = answers.wait()
+        got = json.loads(answers.wait() or "null")
         end(ran)
         said.seek(0)
         last = said.read()[-600:]

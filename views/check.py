@@ -24,6 +24,7 @@ import pipe
 from files import write
 from tally import end, is_built, told, tried
 from terminal import CTRL_C, Terminal
+from web_check import check_web
 
 EMPTY = f"{EXAMPLES}/empty.feed"
 LOST = [f"{EXAMPLES}/lost_sum.agc", f"{EXAMPLES}/lost_sum.feed"]
@@ -1026,6 +1027,7 @@ def main():
             check_notes,
             check_operators,
             check_faults,
+            check_web,
             check_readme,
         ):
             tried(part, room, most_seconds=MOST_OF_EDITOR if part is check_dap else MOST_SECONDS)

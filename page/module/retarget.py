@@ -7,7 +7,7 @@ TRIPLE = "wasm64-unknown-unknown"
 DROPPED = re.compile(r' sanitize_address| "(?:frame-pointer|probe-stack|stack-probe-size|target-cpu|target-features)"="[^"]*"')
 EMPTY, NO_FRAME = "{ }", '{ "frame-pointer"="none" }'
 # What would mean another thing, or nothing, on another machine, so that no module with it is taken.
-FOREIGN = re.compile(r"\basm\b|\bx86_fp80\b|@llvm\.x86\.|\bmusttail\b|\baddrspace\(|\b(?:cmpxchg|atomicrmw|fence)\b")
+FOREIGN = re.compile(r"(?<![\w.@%])(?:asm|x86_fp80|musttail|cmpxchg|atomicrmw|fence)(?![\w.])|@llvm\.x86\.|\baddrspace\(")
 
 
 def once(pattern, line, text):
