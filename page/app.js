@@ -1,5 +1,5 @@
 // The workbench: what is asked of the session, what it tells, and in which room that is shown.
-import { $, el, icon, soon } from './dom.js';
+import { $, el, icon, soon, unit } from './dom.js';
 import { decimalOf, group, stepsOf, timeOf } from './words.js';
 import { T } from './texts.js';
 import { engine } from './transport.js';
@@ -522,7 +522,13 @@ function toggleNotes() { const isOff = setting.get("notes") === "off"; setting.s
 async function saveHandout() { if (S.isBuilt) download(`${base()}.html`, await handoutOf({ session, names: S.names, name: S.name, source: editor.lines, cell: cell(), why: S.chosen, picture: S.picture, say }), "text/html"); }
 function setTheme(name, isKept = true) { document.documentElement.dataset.theme = name; axis.draw(); if (isKept) setting.set("theme", name); }
 function lecture() { const is = document.documentElement.classList.toggle("lecture"); setting.set("lecture", is ? "on" : "off"); scaled(); }
-function scaled() { for (const it of [editor, feed, tests]) it.scaled(); axis.draw(); if (chain.asked) chain.show(chain.asked); if (S.tab === "steps") showSteps(); }
+// The form of the page, by its width in rem.
+function shape() {
+  const width = innerWidth / (10 * unit());
+  for (const it of [112, 90, 70]) document.body.classList.toggle(`to${it}`, width <= it);
+  for (const it of [150, 200]) document.body.classList.toggle(`from${it}`, width >= it);
+}
+function scaled() { shape(); for (const it of [editor, feed, tests]) it.scaled(); axis.draw(); if (chain.asked) chain.show(chain.asked); if (S.tab === "steps") showSteps(); }
 
 // What is clicked.
 
@@ -571,13 +577,14 @@ function bind() {
   for (const name of ["dragleave", "drop", "dragend"]) addEventListener(name, () => document.body.classList.remove("dropping"));
   addEventListener("drop", (event) => { event.preventDefault(); if (event.dataTransfer.files.length) openPicked(event.dataTransfer.files); });
   addEventListener("hashchange", openLink);
+  addEventListener("resize", shape);
   bindKeys({ go, run, stop, pace, seek, showTab, tabs: TABS, closeMenus, isBusy: () => S.isMoving || S.isPacing, isBuilt: () => S.isBuilt, why: () => why(S.chosen || cell()), toggleBreak: () => toggleBreak(document.activeElement === editor.area ? editor.builtLine(editor.caretLine()) : S.picture?.where.line), edit: () => { showFile("source"); editor.enter(); }, theme: () => setTheme(document.documentElement.dataset.theme === "dark" ? "light" : "dark"), lecture, save: saveSource, dsky: (event) => S.tab === "dsky" && dsky.key(event) });
 }
 async function begin() {
   setTheme(setting.get("theme") || (matchMedia("(prefers-color-scheme: dark)").matches ? "dark" : "light"), false);
   document.documentElement.classList.toggle("lecture", setting.get("lecture") === "on");
   document.body.dataset.room = "source";
-  label(); bind();
+  label(); bind(); shape();
   document.fonts?.ready.then(scaled);
   say(T.starting);
   engine.about.then((about) => { $("unproved").hidden = about.proved; }, (failed) => banner(`${T.failed}: ${failed.message}`));

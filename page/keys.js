@@ -14,7 +14,7 @@ export function showSheet() {
 
 export function bindKeys(on) {
   document.addEventListener("keydown", (event) => {
-    const field = event.target.closest("input, textarea, select, dialog"), take = (work) => { event.preventDefault(); work(); };
+    const field = event.target.closest?.("input, textarea, select, dialog"), take = (work) => { event.preventDefault(); work(); };
     if (event.key === "F8") return take(on.run);
     if (event.key === "F9") return take(on.toggleBreak);
     if (event.key === "F10") return take(event.shiftKey ? on.go.back : on.go.step);
@@ -23,7 +23,7 @@ export function bindKeys(on) {
     if (event.key === "Escape") { on.closeMenus(); if (on.isBusy()) on.stop(); else if (field && !event.target.closest("dialog")) document.activeElement.blur(); return null; }
     if (field || event.ctrlKey || event.metaKey || event.altKey) return null;
     if (on.dsky(event)) return event.preventDefault();
-    if (event.target.closest('[role="tab"], [role="menu"], [role="separator"]') && /^Arrow|Home|End/.test(event.key)) return null;
+    if (event.target.closest?.('[role="tab"], [role="menu"], [role="separator"]') && /^Arrow|Home|End/.test(event.key)) return null;
     const name = event.key.length === 1 ? event.key.toLowerCase() : event.key;
     const by = { ArrowLeft: event.shiftKey ? on.go.back10 : on.go.back, ArrowRight: event.shiftKey ? on.go.step10 : on.go.step, Home: on.go.first, End: on.go.last, p: on.go.prev, n: on.go.next, o: on.go.over, u: on.go.out, r: on.run, t: on.pace, w: on.why, b: on.toggleBreak }, always = { g: () => $("position").focus(), e: on.edit, d: on.theme, l: on.lecture, "?": showSheet };
     if (/^[1-6]$/.test(name)) return take(() => on.showTab(on.tabs[Number(name) - 1]));

@@ -31,7 +31,7 @@ class Line {
   async ask(...commands) {
     if (this.isOver) throw new Ended();
     this.since = performance.now();
-    const { output, errors, over } = await this.session.send(commands.map((it) => `${it}\necho ${MARK}`).join("\n"));
+    const { output, errors, over } = await this.session.send(commands.length ? commands.map((it) => `${it}\necho ${MARK}`).join("\n") : `echo ${MARK}`);
     this.since = 0;
     if (over) throw new Ended(errors);
     const replies = output.split(new RegExp(`^${MARK}\n`, "m"));
@@ -236,12 +236,15 @@ export class Session {
   async parts(kind, count, mine) {
     const line = await this.atPosition(), goal = kind === "until" ? 0 : (kind === "run" ? this.n : this.p) + count;
     let left = count, told = performance.now();
+    // (what a question costs that makes no step: on a busy machine more than the steps of a part)
+    await line.ask();
+    const trip = performance.now() - told;
     while (kind === "until" ? this.cycles !== count : left > 0) {
       const size = Math.min(this.part, kind === "until" ? Math.max(0, count - this.cycles) : left), began = performance.now();
       const [reply] = await line.ask(kind === "until" ? `until ${size ? this.cycles + size : count}` : `${kind} ${size}`);
-      const rest = this.hear(reply), took = performance.now() - began;
-      if (took < PART_MS / 2 && reply.length < PART_BYTES / 2) this.part = Math.min(this.part * 2, MOST_PART);
-      else if (took > PART_MS * 2 || reply.length > PART_BYTES) this.part = Math.max(this.part >> 1, 256);
+      const rest = this.hear(reply), took = performance.now() - began - trip;
+      if (took < PART_MS && reply.length < PART_BYTES / 2) this.part = Math.min(this.part * 2, MOST_PART);
+      else if (took > PART_MS * 3 || reply.length > PART_BYTES) this.part = Math.max(this.part >> 1, 256);
       left -= size;
       if (rest.length) return rest[0];
       if (kind === "until" && (!size || this.cycles >= count)) return "";

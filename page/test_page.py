@@ -461,7 +461,7 @@ SCENES = {
     "fault": "workbench.editor.showLine(27); const at = workbench.editor.text.indexOf('INDEX   COUNT'); workbench.editor.area.focus({preventScroll: true}); workbench.editor.area.setSelectionRange(at + 3, at + 4); document.execCommand('insertText', false, 'X'); workbench.editor.showLine(27); document.querySelector('[data-tab=\"tests\"]').click(); document.body.dataset.room = 'source'",
     "menu": "document.getElementById('menu-open').click()",
     "keys": "document.getElementById('keys').click()",
-    "lecture": "document.documentElement.classList.add('lecture'); dispatchEvent(new Event('resize')); await workbench.why('SUM'); await workbench.seek(22)",
+    "lecture": "document.activeElement.blur(); document.dispatchEvent(new KeyboardEvent('keydown', {key: 'l'})); await workbench.why('SUM'); await workbench.seek(22)",
 }
 
 if __name__ == "__main__":

@@ -30,8 +30,8 @@ from web_check import check_web
 EMPTY = f"{EXAMPLES}/empty.feed"
 LOST = [f"{EXAMPLES}/lost_sum.agc", f"{EXAMPLES}/lost_sum.feed"]
 UNITS_PER_CYCLE = 1_171_875
-# What a part takes, at most, and each of those of the debug adapter, which wait where a wrong program has no end.
-MOST_SECONDS, MOST_OF_EDITOR = 120, 60
+# What a part takes, at most.
+MOST_SECONDS = 120
 
 
 def same(label, got, wanted):
@@ -863,9 +863,7 @@ def main():
             check_calls,
             check_talk,
             check_watches,
-            adapter.check_dap,
-            adapter.check_hostile,
-            adapter.check_emacs,
+            *adapter.PARTS,
             check_shake,
             check_chain,
             check_wave,
@@ -878,7 +876,7 @@ def main():
             check_web,
             check_readme,
         ):
-            tried(part, room, most_seconds=MOST_OF_EDITOR if part.__module__ == adapter.__name__ else MOST_SECONDS)
+            tried(part, room, most_seconds=MOST_SECONDS)
     for part in (check_dsky, check_grammar, check_package):
         tried(part, most_seconds=MOST_SECONDS)
     return end()

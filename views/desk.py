@@ -49,6 +49,7 @@ class Desk:
             self.session.end()
             raise
         self.worded = [row for row in self.rows if row.word]
+        self.lines = [row.line for row in self.worded]
         self.at = {row.place: row for row in self.worded}
         self.position, self.cycles, self.made = 0, 0, 0
         self.kept, self.outputs, self.watched, self.part = [], set(), {}, 1 << 12
@@ -247,7 +248,7 @@ class Desk:
 
     def place_of_line(self, line):
         """The first row from a line on that has a word, or None."""
-        at = bisect.bisect_left(self.worded, line, key=lambda row: row.line)
+        at = bisect.bisect_left(self.lines, line)
         return self.worded[at] if at < len(self.worded) else None
 
     def arrays(self):

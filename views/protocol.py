@@ -13,6 +13,7 @@ MOST_BYTES, MOST_LINE, MOST_WAITING = 1 << 20, 1 << 12, 64
 MOST_DIGITS = 12
 
 LENGTH = re.compile(rb"content-length:[ \t]*([^\r\n]*)", re.I)
+SEQ, COMMAND = re.compile(rb'"seq"\s*:\s*(\d{1,15})\b'), re.compile(rb'"command"\s*:\s*"(\w{1,64})"')
 FIELD = re.compile(rb"[A-Za-z-]+:[^{]*")
 
 
@@ -87,7 +88,8 @@ class Messages:
             if not part:
                 return None
             tail, left = (tail + part)[-MOST_LINE:], left - len(part)
-        seq, command = (next((it[1].decode() for text in (head, tail) if (it := re.search(form, text))), "") for form in (rb'"seq"\s*:\s*(\d{1,15})\b', rb'"command"\s*:\s*"(\w{1,64})"'))
+        found = [[it[1].decode() for text in (head, tail) if (it := form.search(text))] for form in (SEQ, COMMAND)]
+        seq, command = (it[0] if it else "" for it in found)
         return Wrong(f"a message has {MOST_BYTES} bytes at most, and this one {length}", int(seq or 0), command)
 
 

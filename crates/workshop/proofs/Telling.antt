@@ -4,8 +4,8 @@ use Rattle.std.proofs.lemmas.Bool.Decides.{nat_tests}
 use Rattle.words.specs.Devices.{IsBeginning, WritesBeginning, failures_after}
 use Rattle.words.specs.declared.device.WriteFailed.{WriteFailed}
 use Rattle.words.proofs.Texts.{Writes-after, beginning-longer, begins_after, whole_begins}
-use Rattle.workshop.specs.Failures.{Writer}
-use Rattle.workshop.specs.Progress.{progress_line, progress_lines, progress_text, progress_at, TellsNext, Tells, TellsSome, TellsUntil, Telling, TellsMade}
+use Rattle.workshop.specs.Failures.{Writer, is_write_failed}
+use Rattle.workshop.specs.Progress.{progress_line, progress_lines, progress_text, progress_at, TellsNext, Tells, TellsProfile, Telling, TellsMade}
 use Rattle.workshop.specs.declared.fault.WorkshopFault.{WorkshopFault}
 use Rattle.workshop.specs.declared.fault.WorkshopFault.TheVariants as fault
 
@@ -54,20 +54,16 @@ tells_more done n a b c (Err e) next whole low high same before more =
       failures = before.failures;
     }
 
--- where a run stands in the midst of its steps, it has told a slice or more
-pub tells_some : (steps n : ℕ) (a b : Writer) (told : Result (Unit {0}) WriteFailed) → n ≤ steps → Tells n a b told → TellsSome steps a b
-tells_some steps n a b told within tells = record { made = n; within = within; told = told; tells = tells }
-
--- a run of no step has told nothing, whatever ended it
-pub tells_none : (steps : ℕ) (w : Writer) (why : WorkshopFault) → TellsUntil steps w w why
-tells_none steps w fault.NoMemory = refl
-tells_none steps w fault.ReadFailed = refl
-tells_none steps w fault.WriteFailed = tells_some steps 0 w w (Ok tt) (omega arith) (tells_at_start w)
-tells_none steps w (fault.Source _) = refl
-tells_none steps w (fault.Feed _) = refl
-tells_none steps w (fault.Rope _) = refl
-tells_none steps w (fault.Table _) = refl
-tells_none steps w fault.TooLong = refl
+-- where a program or a feed is refused nothing is told
+pub tells_refused : (T : Type 0) (steps : ℕ) (w : Writer) (why : WorkshopFault) → is_write_failed why ≡ false → TellsProfile {T = T} steps w w (Err why)
+tells_refused T steps w fault.NoMemory e = refl
+tells_refused T steps w fault.ReadFailed e = refl
+tells_refused T steps w fault.WriteFailed e = absurd (cc)
+tells_refused T steps w (fault.Source _) e = refl
+tells_refused T steps w (fault.Feed _) e = refl
+tells_refused T steps w (fault.Rope _) e = refl
+tells_refused T steps w (fault.Table _) e = refl
+tells_refused T steps w fault.TooLong e = refl
 
 -- in the midst of a slice as much is told as at its beginning
 tells_further : (done n : ℕ) (a b : Writer) (told : Result (Unit {0}) WriteFailed) → done % 2 ^ 20 ≡ 0 → done ≤ n → n < done + 2 ^ 20 → Tells done a b told → Tells n a b told

@@ -13,4 +13,5 @@ pub mod Ropes
 pub mod Runs
 pub mod Traces
 pub mod Progress
+pub mod NotedProgress
 pub mod CommandsEnd

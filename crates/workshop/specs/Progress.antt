@@ -1,5 +1,5 @@
 -- What a run tells while it goes: how many steps it has made.
-use Rattle.std.specs.Prelude.{◌≡◌, ℕ, zero, suc, ◌+◌, ◌*◌, ◌/◌, ◌%◌, ◌^◌, ◌≤◌, ◌<◌, ◌==◌, true, List, [], ◌++◌, codes, decimal, Result, Ok, Err, if◌then◌else◌}
+use Rattle.std.specs.Prelude.{◌≡◌, ℕ, zero, suc, ◌+◌, ◌*◌, ◌/◌, ◌%◌, ◌^◌, ◌<◌, ◌==◌, true, List, [], ◌++◌, codes, decimal, Result, Ok, Err, if◌then◌else◌}
 use Rattle.words.specs.Devices.{IsBeginning, Writes, WritesBeginning, failures_after}
 use Rattle.words.specs.declared.device.WriteFailed as device
 use Rattle.cpu.specs.ChannelLines.{channel_lines}
@@ -46,27 +46,17 @@ pub record Tells (n : ℕ) (before after : Writer) (told : Result (Unit {0}) dev
   pub bytes : before.told ≡ true → Writes before.written after.written (progress_text n) told
   pub failures : after.failures ≡ failures_after before.failures told
 
--- the same, of some steps of a run
-pub record TellsSome (steps : ℕ) (before after : Writer) : Type 0 where
-  pub made : ℕ
-  pub within : made ≤ steps
-  pub told : Result (Unit {0}) device.WriteFailed
-  pub tells : Tells made before after told
-
 -- what was told by a run: where it has made all steps, of these
 pub record TellsAll (steps : ℕ) (before after : Writer) : Type 0 where
   pub told : Result (Unit {0}) device.WriteFailed
   pub tells : Tells steps before after told
 
--- what was told by a run that a fault has ended: of some steps, where a write of the run's own has failed; else nothing, as where
--- the program or the feed is refused
-abbrev pub TellsUntil : ℕ → Writer → Writer → WorkshopFault → Type 0
-TellsUntil steps before after WriteFailed = TellsSome steps before after
-TellsUntil steps before after _ = after ≡ before
-
-abbrev pub TellsRun : {T : Type 0} → ℕ → Writer → Writer → Result T WorkshopFault → Type 0
-TellsRun steps before after (Ok x) = TellsAll steps before after
-TellsRun steps before after (Err fault) = TellsUntil steps before after fault
+-- ## Of a run whose text is written when its steps are made
+-- all steps are told, whether the text could be written or not; and after any other fault, as where the program or the feed is refused, nothing is
+abbrev pub TellsProfile : {T : Type 0} → ℕ → Writer → Writer → Result T WorkshopFault → Type 0
+TellsProfile steps before after (Ok x) = TellsAll steps before after
+TellsProfile steps before after (Err WriteFailed) = TellsAll steps before after
+TellsProfile steps before after (Err _) = after ≡ before
 
 -- ## Of a run that writes while it goes
 -- where it writes, and where it tells its steps

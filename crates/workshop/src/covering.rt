@@ -8,7 +8,7 @@ ghost use Rattle.cpu.specs.Run.{run};
 ghost use Rattle.workshop.specs.Covers.{Covers, CoversRun, ReadsImaged, ReadsSubject};
 ghost use Rattle.workshop.specs.Failures.{reader, writer};
 ghost use Rattle.workshop.specs.Loading.{Reads};
-ghost use Rattle.workshop.specs.Progress.{TellsAll, TellsRun};
+ghost use Rattle.workshop.specs.Progress.{TellsAll, TellsProfile};
 
 use crate::engine::STEPS_BETWEEN_FLUSHES;
 use crate::fault::WorkshopFault;
@@ -59,7 +59,7 @@ pub fn cover_and_tell<P: Read, F: Read, W: Write, T: Write>(
     ensures covers { Covers origin steps
         (record { files = record { program = reader P.told P.left P.failures program.old; feed = reader F.told F.left F.failures feed.old }; out = writer W.told W.written W.failures out.old })
         (record { files = record { program = reader P.told P.left P.failures program.new; feed = reader F.told F.left F.failures feed.new }; out = writer W.told W.written W.failures out.new }) result }
-    ensures progress { TellsRun steps (writer T.told T.written T.failures progress.old) (writer T.told T.written T.failures progress.new) result }
+    ensures progress { TellsProfile steps (writer T.told T.written T.failures progress.old) (writer T.told T.written T.failures progress.new) result }
 {
     let (rope, rows) = read_subject(alloc, origin, program)?;
     let mut processor = Processor::new(rope, read_feed(alloc, feed)?);
@@ -117,7 +117,7 @@ fn cover<W: Write, T: Write>(
     requires { steps ≤ 2 ^ 40 - 2 }
     ensures covers { CoversRun rows.now processor.old.scenario steps
         (writer W.told W.written W.failures out.old) (writer W.told W.written W.failures out.new) result }
-    ensures progress { TellsRun steps (writer T.told T.written T.failures progress.old) (writer T.told T.written T.failures progress.new) result }
+    ensures progress { TellsProfile steps (writer T.told T.written T.failures progress.old) (writer T.told T.written T.failures progress.new) result }
 {
     let Ok(mut tally) = Tally::new(alloc) else {
         return Err(WorkshopFault::NoMemory);

@@ -207,6 +207,7 @@ pub(crate) fn step_and_write<W: Write>(
     ensures written { W.told ≡ true →
         Writes (W.written out.old) (W.written out.new) (channel_lines (outputs_after processor.old.scenario machine.old)) result }
     ensures failures { W.failures out.new ≡ failures_after (W.failures out.old) result }
+    ensures meter { processor.new.meter ≤ processor.old.meter + 1 }
 {
     match processor.step(machine) {
         Some(output) => {

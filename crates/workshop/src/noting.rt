@@ -1,13 +1,14 @@
 //! The engine that runs a program, and notes what is seldom meant.
 
-ghost use Rattle.std.specs.Prelude.{◌≡◌, ◌-◌, ◌≤◌, ◌<◌, ◌^◌, true, IfOk, OnOk};
+ghost use Rattle.std.specs.Prelude.{◌≡◌, ◌+◌, ◌-◌, ◌*◌, ◌≤◌, ◌<◌, ◌^◌, true, IfOk, OnOk};
 ghost use Rattle.notes.specs.Counted.{Counted};
 ghost use Rattle.notes.specs.RunNotes.{notes_text};
 ghost use Rattle.workshop.specs.Failures.{reader, writer};
 ghost use Rattle.workshop.specs.Inputs.{assembled};
 ghost use Rattle.workshop.specs.Loading.{Reads, ReadsText};
 ghost use Rattle.workshop.specs.Notings.{EndsNoted, ReadsNamed, ReadsNamedImage, RunsNoted, named_of};
-ghost use Rattle.workshop.specs.Progress.{TellsRun};
+ghost use Rattle.workshop.specs.NotedProgress.{TellsNoted, TellsRead};
+ghost use Rattle.workshop.specs.Progress.{TellsWritten, run_text};
 ghost use Rattle.workshop.specs.Runs.{Makes, summary_of};
 ghost use Rattle.cpu.specs.State.{Scenario};
 
@@ -53,7 +54,11 @@ pub fn run_with_notes<P: Read, F: Read, W: Write, T: Write, N: Write>(
         (record { files = record { program = reader P.told P.left P.failures program.old; feed = reader F.told F.left F.failures feed.old }; texts = record { out = writer W.told W.written W.failures out.old; notes = writer N.told N.written N.failures notes.old } })
         (record { files = record { program = reader P.told P.left P.failures program.new; feed = reader F.told F.left F.failures feed.new }; texts = record { out = writer W.told W.written W.failures out.new; notes = writer N.told N.written N.failures notes.new } }) result }
     ensures handed_on { W.told ≡ true → 0 < steps → OnOk result (W.handed_on out.new ≡ W.written out.new) }
-    ensures progress { TellsRun steps (writer T.told T.written T.failures progress.old) (writer T.told T.written T.failures progress.new) result }
+    ensures progress { TellsRead origin steps
+        (record { program = reader P.told P.left P.failures program.old; feed = reader F.told F.left F.failures feed.old })
+        (record { program = reader P.told P.left P.failures program.new; feed = reader F.told F.left F.failures feed.new })
+        (record { out = writer W.told W.written W.failures out.old; progress = writer T.told T.written T.failures progress.old })
+        (record { out = writer W.told W.written W.failures out.new; progress = writer T.told T.written T.failures progress.new }) result }
 {
     let code = read_named(alloc, origin, program)?;
     let feed = read_feed(alloc, feed)?;
@@ -132,7 +137,7 @@ fn read_named_source<P: Read>(
     })
 }
 
-/// Makes some steps from the start, and then writes their notes.
+/// Makes some steps from the start, and then writes their notes: at most twice as many are made.
 fn run_then_note<W: Write, T: Write, N: Write>(
     processor: &mut Processor,
     names: &PlaceNames,
@@ -148,7 +153,10 @@ fn run_then_note<W: Write, T: Write, N: Write>(
         (record { out = writer W.told W.written W.failures out.old; notes = writer N.told N.written N.failures notes.old })
         (record { out = writer W.told W.written W.failures out.new; notes = writer N.told N.written N.failures notes.new }) result }
     ensures handed_on { W.told ≡ true → 0 < steps → OnOk result (W.handed_on out.new ≡ W.written out.new) }
-    ensures progress { TellsRun steps (writer T.told T.written T.failures progress.old) (writer T.told T.written T.failures progress.new) result }
+    ensures progress { TellsNoted (run_text processor.old.scenario) steps
+        (record { out = writer W.told W.written W.failures out.old; progress = writer T.told T.written T.failures progress.old })
+        (record { out = writer W.told W.written W.failures out.new; progress = writer T.told T.written T.failures progress.new }) result }
+    ensures meter { processor.new.meter ≤ processor.old.meter + 2 * steps }
 {
     let summary = run_noting(processor, notebook, steps, out, progress)?;
     write_notes(notebook, names, processor, steps, notes)?;
@@ -172,7 +180,10 @@ fn run_noting<W: Write, T: Write>(
     ensures counted { OnOk result (Counted notebook.new.named processor.old.scenario steps notebook.new) }
     ensures summary { IfOk result (λ summary. summary ≡ summary_of processor.old.scenario steps) }
     ensures handed_on { W.told ≡ true → 0 < steps → OnOk result (W.handed_on out.new ≡ W.written out.new) }
-    ensures progress { TellsRun steps (writer T.told T.written T.failures progress.old) (writer T.told T.written T.failures progress.new) result }
+    ensures progress { TellsWritten (run_text processor.old.scenario) steps
+        (record { out = writer W.told W.written W.failures out.old; progress = writer T.told T.written T.failures progress.old })
+        (record { out = writer W.told W.written W.failures out.new; progress = writer T.told T.written T.failures progress.new }) result }
+    ensures meter { processor.new.meter ≤ processor.old.meter + steps }
 {
     let mut machine = Machine::start();
     let mut outputs = 0;

@@ -1,9 +1,8 @@
-use Rattle.std.proofs.Common.{◌≡◌, ◌∙◌, true, ap, inr, refl, arith}
+use Rattle.std.proofs.Common.{◌≡◌, ◌∙◌, true, ap, inr, refl}
 use Rattle.std.proofs.lemmas.Result.{err_from_is_err_and}
 use Rattle.words.specs.Devices.{WritesBeginning}
 use Rattle.cover.specs.CoverText.{cover_text}
 use Rattle.workshop.proofs.Profiles.{text_is}
-use Rattle.workshop.proofs.Telling.{tells_some}
 use Rattle.workshop.proofs.covering.cover.Goals as goal
 
 pub returns-in_err-write_profile-clause-covers : goal.returns-in_err-write_profile-clause-covers
@@ -30,4 +29,4 @@ pub returns-in_err-write_profile-clause-progress : goal.returns-in_err-write_pro
 returns-in_err-write_profile-clause-progress g c =
     let p = err_from_is_err_and c.from_residual.result c.from_residual.ensures.1 in
     let all = c.make_steps-cycles.ensures.progress in
-    rw (p.1, p.2) (tells_some c.args.steps c.args.steps _ _ all.told (omega arith) all.tells)
+    rw (p.1, p.2) all

@@ -1,13 +1,17 @@
 use Rattle.std.proofs.lemmas.Result.{err_from_is_err_and}
 use Rattle.workshop.proofs.ProfileWritten.{covers_by}
-use Rattle.workshop.proofs.Telling.{tells_none}
+use Rattle.workshop.proofs.Telling.{tells_refused}
 use Rattle.workshop.proofs.covering.cover_and_tell.Goals as goal
 
 pub returns-in_err-rope-clause-progress : goal.returns-in_err-rope-clause-progress
-returns-in_err-rope-clause-progress g c = rw (err_from_is_err_and c.from_residual.result c.from_residual.ensures.1).1 (tells_none c.args.steps _ _)
+returns-in_err-rope-clause-progress g c =
+    let p = err_from_is_err_and c.from_residual.result c.from_residual.ensures.1 in
+    rw (p.1, p.2) (tells_refused (Unit {0}) c.args.steps _ _ (rw c.in_err-rope.was at c.read_subject.ensures.writer))
 
 pub returns-in_err-read_feed-clause-progress : goal.returns-in_err-read_feed-clause-progress
-returns-in_err-read_feed-clause-progress g c = rw (err_from_is_err_and c.from_residual-in_err-read_feed.result c.from_residual-in_err-read_feed.ensures.1).1 (tells_none c.args.steps _ _)
+returns-in_err-read_feed-clause-progress g c =
+    let p = err_from_is_err_and c.from_residual-in_err-read_feed.result c.from_residual-in_err-read_feed.ensures.1 in
+    rw (p.1, p.2) (tells_refused (Unit {0}) c.args.steps _ _ (rw c.in_err-read_feed.was at c.read_feed.ensures.writer))
 
 pub returns-clause-covers : goal.returns-clause-covers
 returns-clause-covers g c =

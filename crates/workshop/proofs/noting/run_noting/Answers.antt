@@ -3,8 +3,9 @@ use Rattle.std.proofs.lemmas.Result.{err_from_is_err_and}
 use Rattle.cpu.proofs.RunLaws.{run-zero}
 use Rattle.words.specs.Devices.{one_more}
 use Rattle.workshop.specs.Runs.{BreaksOff}
-use Rattle.workshop.proofs.Telling.{tells_at_start, tells_more, tells_some}
-use Rattle.workshop.proofs.RunSteps.{few_cycles, fits_after, stands_at_start, stands_breaks_off, breaks_off_after}
+use Rattle.workshop.specs.Progress.{run_text}
+use Rattle.workshop.proofs.Telling.{tells_at_start, tells_more, told_after_step, told_in_step}
+use Rattle.workshop.proofs.RunSteps.{few_cycles, fits_after, stands_at_start, stands_breaks_off, stands_broken, stands_whole, breaks_off_after, run_text_grows}
 use Rattle.notes.proofs.Counting.{small}
 use Rattle.workshop.proofs.NotedSteps.{noted_after_step}
 use Rattle.workshop.proofs.noting.run_noting.Goals as goal
@@ -23,6 +24,7 @@ loop-done-init g c =
       handed_on = λ told some. absurd (omega (arith, some));
       tells = tells_at_start _;
       whole = λ more. refl;
+      meter = omega arith;
     }
 
 pub loop-done-2-init : goal.loop-done-2-init
@@ -34,6 +36,7 @@ loop-done-2-init g c =
       few_outputs = c.loop-done.invariant.few_outputs;
       within = omega arith;
       further = omega arith;
+      meter = λ m before. before;
     }
 
 pub step_and_write-requires-clause-cycles : goal.step_and_write-requires-clause-cycles
@@ -66,6 +69,7 @@ loop-done-2-preserved g c =
       few_outputs = omega (arith, c.in_ok-outputs.ensures.at_most_one, c.loop-done-2.invariant.few_outputs);
       within = omega arith;
       further = omega arith;
+      meter = λ m before. (let now = c.loop-done-2.invariant.meter m before in omega (arith, now, c.in_ok-outputs.ensures.meter));
     }
 
 pub returns-in_err-hand_on-clause-makes : goal.returns-in_err-hand_on-clause-makes
@@ -79,12 +83,20 @@ returns-in_err-hand_on-clause-makes g c =
 pub returns-in_err-outputs-clause-progress : goal.returns-in_err-outputs-clause-progress
 returns-in_err-outputs-clause-progress g c =
     let p = err_from_is_err_and c.from_residual.result c.from_residual.ensures.1 in
-    rw (p.1, p.2) (tells_some c.args.steps c.loop-done.done _ _ c.loop-done.told c.loop-done.invariant.within c.loop-done.invariant.tells)
+    let here = (c.loop-done-2.invariant.stands _ _ _ c.loop-done.invariant.scenario c.loop-done.invariant.stands).run in
+    let whole = c.loop-done.invariant.whole c.loop-done-test.true in
+    rw (p.1, p.2) (told_in_step (run_text c.args.processor.now.scenario) c.args.steps c.loop-done.done c.loop-done-2.done _ _ c.loop-done.told whole (omega arith) (omega arith) (omega arith)
+    (λ told. stands_whole _ c.args.processor.now.scenario _ _ _ _ _ _ _ here told (c.in_err-outputs.ensures.written told))
+    (λ told. stands_broken _ c.args.processor.now.scenario _ _ _ _ _ _ _ (c.loop-done-2.invariant.scenario ∙ c.loop-done.invariant.scenario) here told (c.in_err-outputs.ensures.written told))
+    c.loop-done.invariant.tells)
 
 pub returns-in_err-hand_on-clause-progress : goal.returns-in_err-hand_on-clause-progress
 returns-in_err-hand_on-clause-progress g c =
     let p = err_from_is_err_and c.from_residual-in_err-hand_on.result c.from_residual-in_err-hand_on.ensures.1 in
-    rw (p.1, p.2) (tells_some c.args.steps c.loop-done.done _ _ c.loop-done.told c.loop-done.invariant.within c.loop-done.invariant.tells)
+    let here = (c.loop-done-2.invariant.stands _ _ _ c.loop-done.invariant.scenario c.loop-done.invariant.stands).run in
+    let whole = c.loop-done.invariant.whole c.loop-done-test.true in
+    rw (p.1, p.2) (told_after_step (run_text c.args.processor.now.scenario) c.args.steps c.loop-done.done c.loop-done-2.done _ _ c.loop-done.told whole (omega arith) (omega arith) (omega arith)
+    (run_text_grows c.args.processor.now.scenario) (λ told. c.in_err-hand_on.ensures.written told ∙ here.written told) c.loop-done.invariant.tells)
 
 pub loop-done-preserved : goal.loop-done-preserved
 loop-done-preserved g c =
@@ -102,6 +114,7 @@ loop-done-preserved g c =
       handed_on = search rules;
       tells = tells_more c.loop-done.done c.loop-done-2.done _ _ _ _ _ whole (omega arith) (omega arith) refl c.loop-done.invariant.tells c.tell-told.ensures;
       whole = λ more. omega (arith, whole, more);
+      meter = c.loop-done-2.invariant.meter _ c.loop-done.invariant.meter;
     }
 
 pub returns-clause-progress : goal.returns-clause-progress
@@ -123,3 +136,12 @@ pub note-requires-clause-small : goal.note-requires-clause-small
 note-requires-clause-small g c =
     let here = c.loop-done-2.invariant.stands _ _ _ c.loop-done.invariant.scenario c.loop-done.invariant.stands in
     small c.args.notebook.now.named c.args.processor.now.scenario c.loop-done-2.done _ (omega arith) here.counted
+
+-- the steps that were made are no more than these
+pub returns-in_err-outputs-clause-meter : goal.returns-in_err-outputs-clause-meter
+returns-in_err-outputs-clause-meter g c =
+    let now = c.loop-done-2.invariant.meter _ c.loop-done.invariant.meter in
+    omega (arith, now, c.in_err-outputs.ensures.meter)
+
+pub returns-in_err-hand_on-clause-meter : goal.returns-in_err-hand_on-clause-meter
+returns-in_err-hand_on-clause-meter g c = let now = c.loop-done-2.invariant.meter _ c.loop-done.invariant.meter in omega (arith, now)

@@ -1,4 +1,4 @@
-use Rattle.std.proofs.Common.{◌-◌, ◌%◌, ◌^◌, ◌≡◌, ◌≤◌, ◌<◌, List, ℕ, true}
+use Rattle.std.proofs.Common.{◌+◌, ◌-◌, ◌%◌, ◌^◌, ◌≡◌, ◌≤◌, ◌<◌, List, ℕ, true}
 use Rattle.cpu.specs.State.{Scenario}
 use Rattle.yayul.specs.Named.{Named}
 use Rattle.workshop.proofs.NotedSteps.{StandsNoted}
@@ -16,6 +16,7 @@ invariant-loop-done g l = record {
   handed_on : g.W.Write.told ≡ true → 0 < l.done → g.W.Write.handed_on l.out ≡ g.W.Write.written l.out;
   tells : Tells l.done (writer g.T.Write.told g.T.Write.written g.T.Write.failures l.initial.progress) (writer g.T.Write.told g.T.Write.written g.T.Write.failures l.progress) l.told;
   whole : l.done < l.steps → l.done % 2 ^ 20 ≡ 0;
+  meter : l.processor.meter ≤ l.fn.processor.meter + l.done;
 }
 
 abbrev pub decreases-loop-done : goal.decreases-loop-done
@@ -32,6 +33,7 @@ invariant-loop-done-2 g l = record {
   few_outputs : l.outputs ≤ l.done;
   within : l.done ≤ l.stop;
   further : l.initial.done ≤ l.done;
+  meter : (m : ℕ) → l.initial.processor.meter ≤ m + l.initial.done → l.processor.meter ≤ m + l.done;
 }
 
 abbrev pub decreases-loop-done-2 : goal.decreases-loop-done-2
