@@ -6,7 +6,8 @@ usage: page/check.py [--all] [--seed SEED] [--module FILE] [PART ..]
 Without FILE the module is made first, in out/module: of the proved program's bitcode where a build has kept it, else of the quick program's. The native
 program has to be built. The parts, which run side by side:
 
-    examples      what examples/check.py tries, with the module in place of the program, but for what no page has: devices, links, terminals, signals
+    documents, traces, checks, rows, ropes     what examples/check.py tries, with the module in place of the program, but for what no page has: devices,
+                  links, terminals, signals
     refusals      images, wrong files, wrong words, help, and each refusal and warning explained
     sessions      sessions of random commands by SEED, over the examples
     hostile       hostile inputs of each kind by SEED (hostile/cases.py)
@@ -19,6 +20,7 @@ With --all there are more sessions and hostile inputs. What is not installed is 
 """
 import argparse
 import base64
+import functools
 import glob
 import hashlib
 import http.server
@@ -26,6 +28,7 @@ import json
 import os
 import random
 import re
+import resource
 import shutil
 import subprocess
 import sys
@@ -163,8 +166,8 @@ def example_runs():
 # The parts
 
 
-def check_examples(module, room, _):
-    """The parts of examples/check.py that use nothing of a system but files."""
+def check_examples(group, module, room, _):
+    """A group of the parts of examples/check.py that use nothing of a system but files."""
     import check as examples
 
     program = f"{room}/program/agcws"
@@ -179,7 +182,9 @@ def check_examples(module, room, _):
         plain = words[0] == program and set(how) <= simple and how.get("stdout", -1) == how.get("stderr", -1) == -1
         if not plain or how.get("stdin", subprocess.DEVNULL) != subprocess.DEVNULL:
             return run(words, **how)
-        status, out, err = by_module.call(words[1:], os.path.abspath(how.get("cwd", ".")), how.get("input") or b"")
+        given = how.get("input") or b""
+        given = given.encode() if isinstance(given, str) else given
+        status, out, err = by_module.call(words[1:], os.path.abspath(how.get("cwd", ".")), given)
         out, err = (out.decode(), err.decode()) if how.get("text") else (out, err)
         made = subprocess.CompletedProcess(words, status, out, err)
         if how.get("check"):
@@ -187,7 +192,7 @@ def check_examples(module, room, _):
         return made
 
     subprocess.run, examples.PROGRAM, examples.Session.waits = run_by_module, program, waits
-    for name, wants in PARTS_OF_EXAMPLES.items():
+    for name, wants in PARTS_OF_EXAMPLES[group].items():
         part = getattr(examples, name)
         with tempfile.TemporaryDirectory(dir=room) as own:
             what = {"R": own, "P": program, "T": told, "M": examples.text_of("docs/MANUAL.md"), "E": EXAMPLES}
@@ -203,10 +208,14 @@ def waits(session):
 
 # Those parts, by the names of their functions, and what each is given: the folder (R), the program (P), told (T), the manual (M), the examples (E).
 PARTS_OF_EXAMPLES = {
-    "check_examples": "R", "check_flight": "R", "check_rows": "PTR", "check_traces": "R", "check_covers": "R", "check_checks": "PRTM", "check_slips": "PRTE",
-    "check_operators": "", "check_documents": "R", "check_long_texts": "R", "check_debugger": "R", "check_inputs": "R", "check_one_processor": "",
-    "check_upgrade": "R", "check_ropes": "R", "check_parities": "R", "check_sums_made": "R", "check_sources_of_ropes": "R", "check_form_sums": "R",
-    "check_names_of_images": "R", "check_command_line": "", "check_arguments": "PTR", "check_end": "R", "check_notes": "R", "check_likely_mistakes": "R",
+    "documents": {"check_documents": "R", "check_examples": "R", "check_flight": "R", "check_long_texts": "R", "check_likely_mistakes": "R"},
+    "traces": {"check_traces": "R", "check_covers": "R", "check_operators": "", "check_one_processor": "", "check_inputs": "R", "check_debugger": "R"},
+    "checks": {"check_checks": "PRTM", "check_slips": "PRTE", "check_notes": "R", "check_end": "R", "check_command_line": ""},
+    "rows": {"check_rows": "PTR", "check_arguments": "PTR"},
+    "ropes": {
+        "check_upgrade": "R", "check_ropes": "R", "check_parities": "R", "check_sums_made": "R", "check_sources_of_ropes": "R", "check_form_sums": "R",
+        "check_names_of_images": "R",
+    },
 }
 
 
@@ -561,7 +570,7 @@ def differing(wanted, got):
 
 
 PARTS = {
-    "examples": check_examples, "chromium": lambda *given: check_browser("chromium", *given), "firefox": lambda *given: check_browser("firefox", *given),
+    **{group: functools.partial(check_examples, group) for group in PARTS_OF_EXAMPLES}, "chromium": lambda *given: check_browser("chromium", *given), "firefox": lambda *given: check_browser("firefox", *given),
     "webkit": lambda *given: check_browser("webkit", *given), "refusals": check_refusals, "sessions": check_sessions, "hostile": check_hostile, "inputs": check_inputs,
     "memory": check_memory, "arithmetic": check_arithmetic,
 }
@@ -585,6 +594,8 @@ def run_all(given, parts):
             print(f"{seconds:4.0f} s  {part}: {passes} passed, {fails} failed", flush=True)
             tally.passed += passes
             tally.failed += [part] * fails
+    used = resource.getrusage(resource.RUSAGE_CHILDREN)
+    print(f"{used.ru_utime + used.ru_stime:.0f} s of processor time", flush=True)
 
 
 def main():
@@ -602,7 +613,9 @@ def main():
         return tally.end()
     if given.one:
         with tempfile.TemporaryDirectory(prefix="agcws-page-") as room:
-            tally.tried(PARTS[given.parts[0]], given.module, room, given, most_seconds=MOST_SECONDS)
+            part = PARTS[given.parts[0]]
+            part.__name__ = given.parts[0]
+            tally.tried(part, given.module, room, given, most_seconds=MOST_SECONDS)
         return tally.end()
     if not given.module:
         import build

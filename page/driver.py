@@ -37,8 +37,15 @@ class Browser:
     def __init__(self, width=1280, height=800, scale=1, **more):
         self.room = tempfile.mkdtemp(prefix="agcws-browser-")
         self.port = free_port()
-        self.driver = subprocess.Popen(["chromedriver", f"--port={self.port}"], stdin=subprocess.DEVNULL, stdout=subprocess.DEVNULL, stderr=subprocess.DEVNULL, start_new_session=True)
+        self.driver = subprocess.Popen(["chromedriver", f"--port={self.port}"], stdin=subprocess.DEVNULL, stdout=subprocess.DEVNULL, stderr=subprocess.DEVNULL)
         self.session = None
+        try:
+            self.begin(width, height, scale, more)
+        except BaseException:
+            self.close()
+            raise
+
+    def begin(self, width, height, scale, more):
         words = ["--headless=new", "--no-sandbox", "--disable-gpu", "--hide-scrollbars", "--no-first-run", f"--window-size={width},{height}", f"--force-device-scale-factor={scale}", f"--user-data-dir={self.room}/profile"]
         wanted = {"browserName": "chrome", "goog:chromeOptions": {"args": words, "binary": shutil.which("chromium"), "prefs": {"download.default_directory": self.room}}, "goog:loggingPrefs": {"browser": "ALL"}, **more}
         until = time.monotonic() + 20

@@ -7,7 +7,7 @@ import { INTERRUPTS } from './words.js';
 
 const SOURCE = "source.agc", FEED = "inputs.feed", MARK = "--";
 // The length of a part of a long move, by the clock and by what it writes; the steps of a part at first.
-const PART_MS = 90, PART_BYTES = 300_000, FIRST_PART = 1 << 14, MOST_PART = 1 << 24;
+const PART_MS = 90, PART_BYTES = 300_000, FIRST_PART = 1 << 18, LEAST_PART = 1 << 20, MOST_PART = 1 << 24;
 // What a step back costs in steps, and the start of a session; how far a view ends beyond the position.
 const BACK = 10, START = 300_000, BEYOND = 64, MOST_VIEWS = 3;
 export const AROUND = 24, MOST_STEPS = 1_099_511_627_774;
@@ -236,15 +236,13 @@ export class Session {
   async parts(kind, count, mine) {
     const line = await this.atPosition(), goal = kind === "until" ? 0 : (kind === "run" ? this.n : this.p) + count;
     let left = count, told = performance.now();
-    // (what a question costs that makes no step: on a busy machine more than the steps of a part)
-    await line.ask();
-    const trip = performance.now() - told;
     while (kind === "until" ? this.cycles !== count : left > 0) {
       const size = Math.min(this.part, kind === "until" ? Math.max(0, count - this.cycles) : left), began = performance.now();
       const [reply] = await line.ask(kind === "until" ? `until ${size ? this.cycles + size : count}` : `${kind} ${size}`);
-      const rest = this.hear(reply), took = performance.now() - began - trip;
-      if (took < PART_MS && reply.length < PART_BYTES / 2) this.part = Math.min(this.part * 2, MOST_PART);
-      else if (took > PART_MS * 3 || reply.length > PART_BYTES) this.part = Math.max(this.part >> 1, 256);
+      const rest = this.hear(reply), took = performance.now() - began;
+      // (on a busy machine a question takes long, however few steps are asked for: so a part is never small for that)
+      this.part = took < PART_MS ? Math.min(this.part * 2, MOST_PART) : took > PART_MS * 3 ? Math.max(this.part >> 1, LEAST_PART) : this.part;
+      this.part = Math.min(this.part, Math.max(256, Math.round((PART_BYTES * size) / (reply.length + 1))));
       left -= size;
       if (rest.length) return rest[0];
       if (kind === "until" && (!size || this.cycles >= count)) return "";

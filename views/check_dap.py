@@ -308,6 +308,10 @@ def check_stops(_):
         while client.go("reverseContinue")[1] == 30 and len(there) < 9:
             there.append(client.step())
         same(f"and back, {asked}", there, steps[::-1])
+        client.goto(0)
+        same(f"and again, {asked}", (client.go("continue")[1], client.step()), (30, steps[0]))
+        client.go("continue")
+        same(f"and on, {asked}", client.step(), [*steps, 47][1])
     client.goto(0)
     client.outputs()
     client.breaks({"line": 30, "logMessage": "SUM {SUM}, {COUNT +1}, {NONE}"}, 35)
@@ -346,7 +350,10 @@ def check_changes(_):
     same("each by itself", got, [True, "Z changes at each step", fixed, "what is read is not watched: changes are", True, "no symbol NOPE"])
     same("a change", (client.go("continue")[0], client.stopped["text"], client.step()), ("data breakpoint", "changed: SUM 00000 -> 77715", 10))
     told("it is told", "changed: SUM 00000 -> 77715\n" in client.outputs())
-    client.watch({"dataId": "SUM", "condition": "SUM = 37"}, "CH012", "0")
+    client.breaks(30)
+    client.goto(0)
+    same("with a line", (client.go("continue"), client.stopped["text"], len(client.stopped["hitBreakpointIds"])), (("data breakpoint", 30, "LOOP +5"), "changed: SUM 00000 -> 77715", 2))
+    client.breaks()
     client.watch({"dataId": "SUM", "condition": "SUM = 37"}, "CH012")
     same("a change with a condition", (client.go("continue")[0], client.stopped["text"], client.step()), ("data breakpoint", "changed: SUM 00001 -> 00037", 29))
     same("of a channel", (client.go("continue")[0], client.stopped["text"], client.step()), ("data breakpoint", "changed: CH012 00000 -> 00075", 47))
@@ -389,12 +396,13 @@ def pace(client):
     return client.step() / (time.monotonic() - begin)
 
 
-def check_calls(_):
+def check_calls(room):
     """Frames by calls and interrupts, over and out, up to a breakpoint; targets of a step and of a goto; a frame from its beginning."""
     client = begun(**PRODUCT)
     client.goto(6)
     same("at the call", client.frames(), [(25, "02,4006")])
     same("over it", (client.go("next"), client.step()), (("step", 26, "02,4007"), 28))
+    same("it is over", client.frames(), [(26, "02,4007")])
     client.goto(6)
     same("into it", client.go("stepIn"), ("step", 34, "DMP"))
     client.goto(10)
@@ -429,12 +437,19 @@ def check_calls(_):
     same("targets of a step", [it["label"] for it in client.ask("stepInTargets", frameId=1)["targets"]], ["ENTRY T3RUPT", "TS SUM"])
     same("past the interrupt", (client.go("stepIn", targetId=2), client.step()), (("step", 30, "LOOP +5"), 22))
     client.breaks(30)
+    client.evaluate("break word SUM 1")
     last, following = client.ask("gotoTargets", source={"path": LOST["program"]}, line=17)["targets"]
     same("where it was last", (client.go("goto", targetId=last["id"]), client.step()), (("goto", 17, "T3RUPT +1"), 19))
     targets = client.ask("gotoTargets", source={"path": LOST["program"]}, line=32)["targets"]
     same("where it is next", (client.go("goto", targetId=targets[1]["id"]), client.step()), (("goto", 32, "LOOP +7"), 44))
     same("breakpoints stay", (client.go("reverseContinue"), client.step()), (("breakpoint", 30, "LOOP +5"), 43))
+    # (SUM is 1 up to step 28)
+    same("those of the console too", [(client.go("reverseContinue")[0], client.step()) for _ in range(3)], [("breakpoint", 36), ("breakpoint", 29), ("breakpoint", 28)])
     told("a target that is not there", client.ask("goto", threadId=1, targetId=following["id"]) == "gotoTargets tells the targets")
+    client.end()
+    client = begun(program=write(f"{room}/idle.agc", b" SETLOC 4000\nIDLE TC IDLE\n"))
+    client.goto(5)
+    same("TC to itself", client.frames(), [(2, "IDLE")])
     client.end()
     check_waitlist()
 
