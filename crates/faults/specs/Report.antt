@@ -79,9 +79,17 @@ caused_text name text parts label severity f c = place_text name text f ++ messa
 abbrev pub finding_text : Language → List ℕ → List ℕ → Parts → Option (List ℕ) → Severity → Finding → List ℕ
 finding_text language name text parts near severity f = caused_text name text parts (unwrap_or near []) severity f (cause_of language severity (is_some near) text parts f)
 
--- a line has a label
+-- operators that take no label
+abbrev pub bare_operators : List (List ℕ)
+bare_operators = codes "SETLOC" ∷ codes "BANK" ∷ codes "BLOCK" ∷ codes "EBANK=" ∷ []
+
+-- a line takes a label
+abbrev pub takes_label : Parts → Bool
+takes_label parts = not (has_operator bare_operators parts)
+
+-- a line has a label, and takes one
 abbrev pub has_label : Language → List ℕ → List ℕ → Bool
-has_label language label text = same_name (text_of (parts_for language text).label) label
+has_label language label text = takes_label (parts_for language text) && same_name (text_of (parts_for language text).label) label
 
 -- the number of the first line that has a label
 abbrev pub first_line : Language → List (List ℕ) → List ℕ → ℕ
@@ -135,9 +143,9 @@ shown_finding language name labels texts f = shown_line language name labels tex
 abbrev pub may_be_label : List ℕ → Bool
 may_be_label text = not (is_digits text) && not (is_count text) && not (holds 0o44 text)
 
--- some names, and the label of a line, where that may have the form of one
+-- some names, and the label of a line, where that takes one and the label may have the form of one
 abbrev pub with_label : List (List ℕ) → Parts → List (List ℕ)
-with_label labels parts = if may_be_label (text_of parts.label) then with_field labels parts.label else labels
+with_label labels parts = if takes_label parts && may_be_label (text_of parts.label) then with_field labels parts.label else labels
 
 -- the labels of some lines, each once
 abbrev pub labels_of : Language → List (List ℕ) → List (List ℕ)

@@ -6,7 +6,7 @@ ghost use Rattle.agc_text.specs.Lines.{lines};
 ghost use Rattle.faults.specs.Kinds.{kind_of_source};
 ghost use Rattle.faults.specs.Warnings.{parts_in};
 ghost use Rattle.faults.specs.Causes.{below_cause};
-ghost use Rattle.faults.specs.Report.{caused_text, text_at, shown_finding, shown_line, beside_text, line_beside, needs_value, line_below, as_label, told_by_line, may_be_label, with_label, labels_of, sought_labels, has_label, first_line, count_before, as_warning, merged, counted, count_text, interpretive_text, warned_before, listed_from, listed_around, told_around, told_text, refused_file, report};
+ghost use Rattle.faults.specs.Report.{caused_text, text_at, shown_finding, shown_line, beside_text, line_beside, needs_value, line_below, as_label, told_by_line, may_be_label, with_label, labels_of, sought_labels, bare_operators, takes_label, has_label, first_line, count_before, as_warning, merged, counted, count_text, interpretive_text, warned_before, listed_from, listed_around, told_around, told_text, refused_file, report};
 
 use crate::causes::{below_cause, holds, near_label, text_of};
 use crate::flight_causes::equalities;
@@ -253,11 +253,11 @@ fn labels_of(alloc: Global, language: Language, texts: &[&[u8]]) -> Result<NameS
     Ok(labels)
 }
 
-// Adds the label of a line, where it may have the form of one.
+// Adds the label of a line, where that takes one and the label may have the form of one.
 fn add_label(labels: &mut NameSet, parts: &Line<'_>) -> Result<(), AllocError>
     ensures { OnOk result (labels.new ≡ with_label labels.old (parts_in parts.now)) }
 {
-    if may_be_label(text_of(parts.label)) {
+    if takes_label(parts) && may_be_label(text_of(parts.label)) {
         add_field(labels, parts.label)
     } else {
         Ok(())
@@ -530,11 +530,27 @@ fn first_line(language: Language, texts: &[&[u8]], label: &[u8]) -> u64
     texts.len() as u64 + 1
 }
 
-// Whether a line has a label.
+// Whether a line has a label, and takes one.
 fn has_label(language: Language, text: &[u8], label: &[u8]) -> bool
     ensures { result ≡ has_label language label.now text.now }
 {
-    text_of(parts_for(language, text).label) == label
+    let parts = parts_for(language, text);
+    takes_label(&parts) && text_of(parts.label) == label
+}
+
+// Whether a line takes a label.
+fn takes_label(parts: &Line<'_>) -> bool
+    ensures { result ≡ takes_label (parts_in parts.now) }
+{
+    !has_operator(bare_operators(), parts)
+}
+
+const BARE_OPERATORS: [&str; 4] = ["SETLOC", "BANK", "BLOCK", "EBANK="];
+
+fn bare_operators() -> &'static [&'static str]
+    ensures { map (λ name. name.now) result.now ≡ bare_operators }
+{
+    &BARE_OPERATORS
 }
 
 /// The line of a number; one that does not stand is empty.
