@@ -147,6 +147,7 @@ class Arguments:
         self.program, self.told, self.folder = program, told, folder
         for name, text in FILES.items():
             write(f"{folder}/{name}", (text.replace(";", "\n") + "\n").encode() if text else b"")
+        os.mkdir(f"{folder}/folder")
         write(f"{folder}/five.lst", self.call("asm five.agc five.rope")[1])
         self.call("asm six.agc six.rope")
         self.call("asm --rope 1 five.agc one.rope")
@@ -258,8 +259,21 @@ class Arguments:
         """The files of a check are each told by their own names, and all are counted."""
         for words, status, files, tally in CHECKS:
             self.same(f"check {words}", status, "".join(TOLD[it] for it in files.split()) + f"{tally}\n")
-        missing = "none.feed: error E6: a file could not be opened or read\n"
-        self.same("check five.agc good.feed none.feed", 3, "", missing)
+        for name in ("none.feed", "folder"):
+            unread = f"{name}: error E6: a file could not be opened or read\n"
+            self.same(f"check five.agc good.feed {name}", 3, "", unread)
+            self.same(f"check five.agc {name} good.feed", 3, "", unread)
+            told = TOLD["wrong.agc"] + TOLD["one.feed"] if name == "folder" else ""
+            self.same(f"check wrong.agc one.feed {name} two.feed", 3, told, unread)
+
+    def try_unread(self):
+        """A file that cannot be read is told by its own name, whichever of two it is, and nothing of where it is refused."""
+        self.same("words --where none.rope", 3, "", "agcws: E6\n")
+        for command, one, other in (("compare", "five.rope", "six.rope"), ("compare --only", "five.agc", "five.rope")):
+            for name in ("none.rope", "folder"):
+                unread = f"{name}: error E6: a file could not be opened or read\n"
+                self.same(f"{command} {name} {other}", 3, "", unread)
+                self.same(f"{command} {one} {name}", 3, "", unread)
 
     def try_bounds(self):
         """--from and --to: the steps that are shown, by their numbers."""
@@ -285,4 +299,5 @@ def check_arguments(program, told, room):
     tried.try_flight()
     tried.try_flight_images()
     tried.try_checks()
+    tried.try_unread()
     tried.try_bounds()

@@ -856,29 +856,30 @@ def text_of(name):
 
 def check_targets(room):
     """A file that is read, or has the name of a source or a feed, is not written over: that is told before anything is opened."""
-    for command, (read_name, written) in {"asm": ("SRC", "ROPE"), "upgrade": ("OLD", "NEW")}.items():
-        folder = f"{room}/{command}.folder"
+    for command, (read_name, written) in {"asm": ("SRC", "ROPE"), "asm --sums": ("SRC", "ROPE"), "upgrade": ("OLD", "NEW")}.items():
+        words, kind = command.split(), command.replace(" --", "_")
+        folder = f"{room}/{kind}.folder"
         os.mkdir(folder)
         path = f"{folder}/kept"
         error = f"error: {read_name} and {written} are the same path\n".encode()
-        compare(f"agcws {command} with one path that is not there", agcws(command, path, path), 2, b"", error)
+        compare(f"agcws {command} with one path that is not there", agcws(*words, path, path), 2, b"", error)
         told(f"agcws {command} makes no file of that path", os.listdir(folder) == [])
         write(path, b" FROB 1\n")
-        compare(f"agcws {command} with one path", agcws(command, path, path), 2, b"", error)
+        compare(f"agcws {command} with one path", agcws(*words, path, path), 2, b"", error)
         os.symlink("kept", f"{folder}/symbolic")
         os.link(path, f"{folder}/hard")
-        os.symlink(folder, f"{room}/{command}.linked")
+        os.symlink(folder, f"{room}/{kind}.linked")
         error = f"error: {read_name} and {written} are the same file\n".encode()
-        others = [f"{folder}/./kept", f"{folder}//kept", f"{folder}/../{command}.folder/kept", f"{folder}/symbolic", f"{folder}/hard", f"{room}/{command}.linked/kept"]
+        others = [f"{folder}/./kept", f"{folder}//kept", f"{folder}/../{kind}.folder/kept", f"{folder}/symbolic", f"{folder}/hard", f"{room}/{kind}.linked/kept"]
         for one, other in [(path, it) for it in others] + [(it, path) for it in others]:
-            compare(f"agcws {command} {os.path.relpath(one, room)} {os.path.relpath(other, room)}", agcws(command, one, other), 2, b"", error)
+            compare(f"agcws {command} {os.path.relpath(one, room)} {os.path.relpath(other, room)}", agcws(*words, one, other), 2, b"", error)
         error = f"error: {written} has the name of a source or a feed: no image is written to a file whose name ends in .agc or .feed\n".encode()
         for name in ("b.agc", "b.feed", ".agc"):
             for there in (False, True):
                 if there:
                     write(f"{folder}/{name}", b"kept")
                 for source in (path, f"{folder}/none"):
-                    compare(f"agcws {command} to {name}", agcws(command, source, f"{folder}/{name}"), 2, b"", error)
+                    compare(f"agcws {command} to {name}", agcws(*words, source, f"{folder}/{name}"), 2, b"", error)
             told(f"agcws {command} keeps {name}", read(f"{folder}/{name}") == b"kept")
         told(f"agcws {command} keeps the file", read(path) == b" FROB 1\n")
         told(f"agcws {command} makes no other", sorted(os.listdir(folder)) == [".agc", "b.agc", "b.feed", "hard", "kept", "symbolic"])

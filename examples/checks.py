@@ -48,6 +48,9 @@ SAID = [
     (" TS SUM|SUM OCT 0", [(1, 5, "E25: TS writes to erasable memory, and SUM, of line 2, is not there", "reserve the word there: SETLOC and a place below 4000, and ERASE")]),
     (" SETLOC 4024| TC 0| TC 0| TC 0| TC 0| TC 0| SETLOC 4030| TC 0", [(8, 2, "E21: line 6 has a word at this place already", "")]),
     (" OCT 1| OCT 2| SETLOC 4000| 2CADR 4000| SETLOC 4001| OCT 3", [(4, 2, "E21: line 1 has a word at this place already", ""), (6, 2, "E21: line 2 has a word at this place already", "")]),
+    ("SUM SETLOC 4000|SUM OCT 0| TS SUM|D TCF D", [
+        (1, 1, "E13: SETLOC takes no label", "put SUM on the next line"), (3, 5, "E25: TS writes to erasable memory, and SUM, of line 2, is not there", "reserve the word there: SETLOC and a place below 4000, and ERASE")]),
+    (" SETLOC X|X SETLOC 4000", [(1, 9, "E18: SETLOC needs the value of X here, and no earlier line defines it", ""), (2, 1, "E13: SETLOC takes no label", "put X on the next line")]),
     (" TS 4000|4000 OCT 1", [(1, 5, "E25: TS writes to erasable memory, and 4000 is not there", "reserve the word there: SETLOC and a place below 4000, and ERASE"), (2, 1, "E13: 4000 is a number, and no label", "")]),
     (" CA 12E|12D OCT 5", [(1, 5, "E17: no line defines 12E", ""), (2, 1, "E13: 12D is a number, and no label", "")]),
     (" TC START|START: OCT 1", [(1, 5, "E17: no line defines START", "did you mean START:?")]),
@@ -166,8 +169,21 @@ WARNINGS = [
     (" TC R;D TCF D;A FCADR R; CA A; TCF D; BANK 10;R CA B; RETURN;B OCT 1", [(1, 5, 9), (3, 1, 7)]),
     (" TC R; CA 4;D TCF D; BANK 0;R RETURN", [(2, 5, 2)]),
     (" TS FB; TC R;D TCF D; BANK 10;R RETURN;FB EQUALS 4", []),
+    # a line that leads to the very next place, and to another
+    (" CA Y; BANK 2; TCF 4000;Y EQUALS 100", []),
+    (" CA Y; SETLOC 4001; TCF 4000;Y EQUALS 100", []),
+    (" CA Y; SETLOC 4002; TCF 4000;Y EQUALS 100", [(1, 2, 4)]),
+    (" CA Y; SETLOC 4001; SETLOC 4001; BANK 5; TCF 4000;Y EQUALS 100", [(1, 2, 4)]),
+    (" CA Y; BANK 3; TCF 4000;Y EQUALS 100", [(1, 2, 4)]),
+    (" SETLOC 4000; CA Y; BANK 2; TCF 4000;Y EQUALS 100", [(2, 2, 4)]),
+    (" BANK 5; CA Y; BLOCK 2; BANK 5; TCF 4000;Y EQUALS 100", [(2, 2, 4)]),
+    (" BANK 5;A 2CADR 4000; CA A; CA Y;; BANK 5;# on; BANK 5; OCT 1; TCF 4000;Y EQUALS 100", [(2, 1, 7), (4, 2, 4)]),
+    (" SETLOC 4000;X 2CADR 4000; CA X; SETLOC 4003; TCF 4000", []),
     # a register's name at another place
     (" SETLOC 100;Q ERASE; SETLOC 4000; TS Q;D TCF D;ZERO OCT 0; CA ZERO; TCF D", [(2, 1, 7)]),
+    (" SETLOC 0;A ERASE;Q ERASE; SETLOC 4000; TC A; TC Q", [(3, 1, 7)]),
+    (" SETLOC 17;BRUPT ERASE;CYR ERASE; ERASE +1;EDOP ERASE;TIME2 ERASE; SETLOC 4000; TC BRUPT; TC CYR; TC EDOP; TC TIME2", [(5, 1, 7), (6, 1, 7)]),
+    (" SETLOC 2;# one;; SETLOC 2;Q ERASE; SETLOC 4000; TC Q", []),
     ("Q EQUALS 2;L EQUALS 00001;BB EQUALS 4;EB = L +2; TC Q; TC L; TC BB; TC EB", [(3, 1, 7)]),
 ]
 # Mistakes that are no faults, a stroke between two lines, and what is said of each with --unused; of those of which nothing is, what does say it stands in front.

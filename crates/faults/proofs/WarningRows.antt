@@ -36,6 +36,12 @@ warned_rows =
     -- a routine without its way back, and a word that is read and executed elsewhere
     ∷ (codes " TC F;D TCF D;F CA O;O OCT 1", (3, 3, 2, 4) ∷ [])
     ∷ (codes " CAF C; XXALQ;C CA X;X OCT 1", [])
+    -- SETLOC and BANK to the very next place, and to another
+    ∷ (codes " CA Y; BANK 2; TCF 4000;Y EQUALS 100", [])
+    ∷ (codes " CA Y; SETLOC 4001; TCF 4000;Y EQUALS 100", [])
+    ∷ (codes " CA Y; SETLOC 4002; TCF 4000;Y EQUALS 100", (1, 2, 2, 4) ∷ [])
+    ∷ (codes " CA Y; BANK 3; TCF 4000;Y EQUALS 100", (1, 2, 2, 4) ∷ [])
+    ∷ (codes " SETLOC 4000; CA Y; BANK 2; TCF 4000;Y EQUALS 100", (2, 2, 2, 4) ∷ [])
     -- the fifth word of a vector, and one that begins another
     ∷ (codes " SETLOC 4004; CA X; CA X; CA X; CA X; TS X;D TCF D;X OCT 1", (6, 2, 2, 5) ∷ [])
     ∷ (codes " SETLOC 4004; CA X; CA X; CA X; TCF D; CA X;D TCF D;X OCT 1", [])
@@ -45,6 +51,7 @@ warned_rows =
     ∷ (codes "EB EQUALS 3; SETLOC 2000;V ERASE; SETLOC 4000; TS EB; TS V;D TCF D", [])
     -- names of registers
     ∷ (codes " SETLOC 100;Q ERASE; SETLOC 4000; TS Q;D TCF D", (2, 1, 1, 7) ∷ [])
+    ∷ (codes " SETLOC 0;A ERASE;Q ERASE; SETLOC 4000; TC A; TC Q", (3, 1, 1, 7) ∷ [])
     ∷ (codes "Q EQUALS 2;L EQUALS 00001;Z EQUALS 6; TC Q; TC L; TC Z", (3, 1, 1, 7) ∷ [])
     ∷ []
 
@@ -82,6 +89,14 @@ told_below : report Standard (codes "a") (source (codes " SETLOC SUX; OCT 1;SUX 
     ++ codes "a:5:2: error E18: EQUALS needs the value of P here, and no earlier line defines it;    5 | P EQUALS P;      |  ^^;")
 unfolding report told_text fault_cause shown_line beside_text kind_of_source lines digits runs operators parsed
 told_below = refl
+
+-- a label of a line that takes none defines nothing: neither above the line that does, nor below
+told_without_bare : report Standard (codes "a") (source (codes "SUM SETLOC 4000;SUM OCT 0; TS SUM; EBANK= P;P BANK 5")) (placed 3 25 ∷ placed 4 18 ∷ []) []
+    ≡ source (codes "a:3:2: error E25: TS writes to erasable memory, and SUM, of line 2, is not there;    3 |  TS SUM;      |  ^^;"
+    ++ codes "      = reserve the word there: SETLOC and a place below 4000, and ERASE;"
+    ++ codes "a:4:2: error E18: EBANK= needs the value of P here, and no earlier line defines it;    4 |  EBANK= P;      |  ^^;")
+unfolding report told_text fault_cause shown_line beside_text kind_of_source lines digits runs operators parsed
+told_without_bare = refl
 
 -- of a place that is taken the line is told whose word stands there, and where none is known what the fault is
 told_taken : report Standard (codes "a") (source (codes " OCT 1;X OCT 2; SETLOC 4000;X OCT 3")) (record (placed 4 21) { taken_by = Some 1 } ∷ placed 4 14 ∷ placed 4 21 ∷ []) []

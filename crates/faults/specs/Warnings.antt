@@ -184,11 +184,68 @@ is_jump_place p = is_among jumping_names p.text || is_register_number p.text
 abbrev pub leaves : Parts → Bool
 leaves parts = has_operator leaving_operators parts || (has_operator storing_operators parts && option_map_or is_jump_place parts.operand false)
 
--- of some lines the first that gives words or moves the location gives an instruction
-abbrev pub goes_on_to_instruction : List Parts → Bool
-goes_on_to_instruction [] = false
-goes_on_to_instruction (parts ∷ rest) =
-    if gives_word parts || has_operator moving_operators parts then is_instruction parts else goes_on_to_instruction rest
+-- 2CADR, which gives two words
+abbrev pub double_operators : List (List ℕ)
+double_operators = codes "2CADR" ∷ []
+
+-- how many words a line gives
+abbrev pub word_count : Parts → ℕ
+word_count parts = if has_operator double_operators parts then 2 else if gives_word parts then 1 else 0
+
+abbrev pub setting_operators : List (List ℕ)
+setting_operators = codes "SETLOC" ∷ []
+
+abbrev pub bank_operators : List (List ℕ)
+bank_operators = codes "BANK" ∷ codes "BLOCK" ∷ []
+
+-- a number in octal, where it is below 2 ^ 32
+abbrev pub small_number : Option Number → Option ℕ
+small_number (Some (Small n)) = Some n
+small_number _ = None
+
+abbrev pub number_in : Option Piece → Option ℕ
+number_in field = option_and_then (λ p. small_number (option_map sized (digits_value 8 p.text))) field
+
+-- the number of a line's operand, where an operator is one of some and no offset stands
+abbrev pub number_beside : List (List ℕ) → Parts → Option ℕ
+number_beside names parts = if has_alone names parts then number_in parts.operand else None
+
+-- the place after so many words, below the end of bank 3
+abbrev pub place_past : ℕ → Option ℕ → Option ℕ
+place_past count place = option_and_then (λ n. if nat_lt n 0o10000 then Some (n + count) else None) place
+
+-- the number of the place that follows a line, as SETLOC takes it, by that of the place before it, where the fields of the lines tell it
+abbrev pub place_after : Option ℕ → Parts → Option ℕ
+place_after place parts =
+    if has_operator setting_operators parts then number_beside setting_operators parts
+    else if has_operator bank_operators parts then None
+    else if has_operator erase_operators parts then (if reserves_one parts then place_past 1 place else None)
+    else place_past (word_count parts) place
+
+-- the bank behind whose words the next stands, after a line
+abbrev pub bank_after : Option ℕ → Parts → Option ℕ
+bank_after bank parts =
+    if has_operator setting_operators parts then None
+    else if has_operator bank_operators parts then number_beside bank_operators parts
+    else bank
+
+-- two numbers that are known are the same
+abbrev pub is_same_known : Option ℕ → Option ℕ → Bool
+is_same_known (Some a) (Some b) = a == b
+is_same_known _ _ = false
+
+-- a line leads to the place where it stands: SETLOC to that place, or BANK of the bank behind whose words it is
+abbrev pub leads_on : Option ℕ → Option ℕ → Parts → Bool
+leads_on place bank parts =
+    is_same_known place (number_beside setting_operators parts) || is_same_known bank (number_beside bank_operators parts)
+
+-- of some lines the first that gives words or moves the location to another place gives an instruction
+abbrev pub goes_on_to_instruction : Option ℕ → Option ℕ → List Parts → Bool
+goes_on_to_instruction place bank [] = false
+goes_on_to_instruction place bank (parts ∷ rest) =
+    if leads_on place bank parts then goes_on_to_instruction place bank rest
+    else if gives_word parts || has_operator moving_operators parts then is_instruction parts
+    else goes_on_to_instruction place bank rest
 
 -- operators that read a word, an instruction as well as any
 abbrev pub word_readers : List (List ℕ)
@@ -199,30 +256,19 @@ abbrev pub with_read : List (List ℕ) → Parts → List (List ℕ)
 with_read names parts = if has_operator word_readers parts then with_field names parts.operand else names
 
 -- an instruction, none that is read as a word, is not left, and the lines after it do not go on with another
-abbrev pub end_warnings : List (List ℕ) → List Parts → ℕ → Parts → List Finding
-end_warnings read after line parts =
+abbrev pub end_warnings : List (List ℕ) → Before → List Parts → ℕ → Parts → List Finding
+end_warnings read before after line parts =
     at_field (λ p. warned_if (is_among operator_names p.text && is_instruction parts && not (leaves parts) && not (option_map_or (λ l. is_among read l.text) parts.label false)
-    && not (goes_on_to_instruction after)) line 4 p) parts.operator
+    && not (goes_on_to_instruction (place_after before.place parts) (bank_after before.bank parts) after)) line 4 p) parts.operator
 
 -- ## 5: a vector's words that run on into the next vector
 -- the place of a vector where an interrupt enters: 4004, 4010 and so on to 4050
 abbrev pub is_vector : ℕ → Bool
 is_vector place = place % 4 == 0 && nat_le 0o4004 place && nat_le place 0o4050
 
-abbrev pub setting_operators : List (List ℕ)
-setting_operators = codes "SETLOC" ∷ []
-
 -- SETLOC and the place of a vector
 abbrev pub sets_vector : Parts → Bool
 sets_vector parts = has_alone setting_operators parts && option_map_or (λ p. option_map_or is_vector (digits_value 8 p.text) false) parts.operand false
-
--- 2CADR, which gives two words
-abbrev pub double_operators : List (List ℕ)
-double_operators = codes "2CADR" ∷ []
-
--- how many words a line gives
-abbrev pub word_count : Parts → ℕ
-word_count parts = if has_operator double_operators parts then 2 else if gives_word parts then 1 else 0
 
 -- after the four words of a vector another stands, and the fourth is not left
 abbrev pub is_overrun : Option ℕ → Bool → Bool
@@ -243,9 +289,6 @@ region_of_bank bank = if bank == 2 || bank == 3 then Common else if nat_lt 0 ban
 -- the region of a number in octal, and elsewhere by any other field
 abbrev pub region_at : (ℕ → Region) → Option Piece → Region
 region_at region_of field = option_map_or (λ p. option_map_or region_of (digits_value 8 p.text) Elsewhere) field Elsewhere
-
-abbrev pub bank_operators : List (List ℕ)
-bank_operators = codes "BANK" ∷ codes "BLOCK" ∷ []
 
 -- where words stand after a line, by where they do before it
 abbrev pub region_after : Region → Parts → Region
@@ -362,16 +405,16 @@ is_same_number a b = is_same_small (option_map sized (digits_value 8 a)) (option
 abbrev pub common_names : List (List ℕ)
 common_names = codes "ZERO" ∷ []
 
--- a line that stands for a place or has a word; or one that gives another number than this
-abbrev pub is_elsewhere : List ℕ → Parts → Bool
-is_elsewhere place parts =
+-- a line gives another number than that of a register; or it stands for a place or has a word, and its place is not known to be the register's
+abbrev pub is_elsewhere : Option ℕ → List ℕ → Parts → Bool
+is_elsewhere place register parts =
     if has_operator value_operators parts
-    then has_alone value_operators parts && option_map_or (λ p. is_some (digits_value 8 p.text) && not (is_same_number p.text place)) parts.operand false
-    else true
+    then has_alone value_operators parts && option_map_or (λ p. is_some (digits_value 8 p.text) && not (is_same_number p.text register)) parts.operand false
+    else not (is_same_known place (small_number (option_map sized (digits_value 8 register))))
 
-abbrev pub register_warnings : ℕ → Parts → List Finding
-register_warnings line parts =
-    at_field (λ p. warned_if (not (is_among common_names p.text) && option_map_or (λ place. is_elsewhere place parts) (value_in registers p.text) false) line 7 p) parts.label
+abbrev pub register_warnings : Option ℕ → ℕ → Parts → List Finding
+register_warnings place line parts =
+    at_field (λ p. warned_if (not (is_among common_names p.text) && option_map_or (λ register. is_elsewhere place register parts) (value_in registers p.text) false) line 7 p) parts.label
 
 -- ## 8: a label that no operand names
 abbrev pub unused_warnings : List (List ℕ) → ℕ → Parts → List Finding
@@ -391,10 +434,12 @@ before_next before parts = record {
   filled = filled_after before.filled parts;
   left = if gives_word parts then leaves parts else before.left;
   region = region_after before.region parts;
+  place = place_after before.place parts;
+  bank = bank_after before.bank parts;
 }
 
 abbrev pub at_start : Before
-at_start = record { indexed = false; filled = None; left = false; region = Common }
+at_start = record { indexed = false; filled = None; left = false; region = Common; place = Some 0o4000; bank = Some 2 }
 
 -- ## All
 -- the names of some lines: those for which one word is reserved, those that an operand is and those that are read; and what is known of banks
@@ -414,12 +459,12 @@ is_standard Standard = true
 is_standard Flight = false
 
 -- the warnings of a line's label; of one that nothing names where they are asked for
-abbrev pub name_warnings : Bool → Names → ℕ → Parts → List Finding
-name_warnings unused names line parts = label_warnings line parts ++ register_warnings line parts ++ (if unused then unused_warnings names.operands line parts else [])
+abbrev pub name_warnings : Bool → Names → Before → ℕ → Parts → List Finding
+name_warnings unused names before line parts = label_warnings line parts ++ register_warnings before.place line parts ++ (if unused then unused_warnings names.operands line parts else [])
 
 -- the warnings of its operator, by what stands before it and the lines after it
 abbrev pub flow_warnings : Language → Names → Before → List Parts → ℕ → Parts → List Finding
-flow_warnings language names before after line parts = (if is_standard language then end_warnings names.read after line parts else []) ++ vector_warnings before line parts
+flow_warnings language names before after line parts = (if is_standard language then end_warnings names.read before after line parts else []) ++ vector_warnings before line parts
 
 -- the warnings of its operand
 abbrev pub operand_warnings : Names → Before → ℕ → Parts → List Finding
@@ -429,7 +474,7 @@ operand_warnings names before line parts =
 -- the warnings of a line, in the order of its fields
 abbrev pub line_warnings : Language → Bool → Names → Before → List Parts → ℕ → Parts → List Finding
 line_warnings language unused names before after line parts =
-    name_warnings unused names line parts ++ flow_warnings language names before after line parts ++ operand_warnings names before line parts
+    name_warnings unused names before line parts ++ flow_warnings language names before after line parts ++ operand_warnings names before line parts
 
 -- the warnings of some lines of a source of a language, the first of them with a number
 abbrev pub warned_lines : Language → Bool → Names → Before → ℕ → List Parts → List Finding

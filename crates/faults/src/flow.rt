@@ -10,6 +10,7 @@ ghost use Rattle.std.specs.Option.{option_map, option_map_or};
 use crate::mistakes::{has_alone, has_operator, indexed_after, is_register_number, warn_if};
 use crate::names::{NameSet, is_among};
 use crate::operators::is_operator;
+use crate::standing::{bank_after, leads_on, place_after};
 use crate::switched::{Region, region_after};
 use agc_text::{Field, Line, Number, octal_value};
 use std::alloc::AllocError;
@@ -29,6 +30,10 @@ pub(crate) struct Before {
     pub(crate) left: bool,
     /// Where words stand.
     pub(crate) region: Region,
+    /// The number of the place where the line stands, as SETLOC takes it, where the fields of the lines tell it.
+    pub(crate) place: Option<u32>,
+    /// The bank behind whose words it stands, likewise.
+    pub(crate) bank: Option<u32>,
 }
 
 impl Before {
@@ -41,6 +46,8 @@ impl Before {
             filled: None,
             left: false,
             region: Region::Common,
+            place: Some(0o4000),
+            bank: Some(2),
         }
     }
 
@@ -57,6 +64,8 @@ impl Before {
                 self.left
             },
             region: region_after(self.region, parts),
+            place: place_after(self.place, parts),
+            bank: bank_after(self.bank, parts),
         }
     }
 }
@@ -75,8 +84,8 @@ fn filled_after(filled: Option<u8>, parts: &Line<'_>) -> Option<u8>
     }
 }
 
-// How many words a line gives.
-fn word_count(parts: &Line<'_>) -> u8
+/// How many words a line gives.
+pub(crate) fn word_count(parts: &Line<'_>) -> u8
     ensures count { result ≡ word_count (parts_in parts.now) }
     ensures few { result ≤ 2 }
 {
@@ -133,12 +142,13 @@ fn is_vector(text: &[u8]) -> bool
 /// An instruction that goes on to a constant, or where no word stands.
 pub(crate) fn warn_of_end(
     read: &NameSet,
+    before: Before,
     after: &[Line<'_>],
     line: u32,
     parts: &Line<'_>,
     found: &mut Vec<Finding>,
 ) -> Result<(), AllocError>
-    ensures { OnOk result (found.new.items ≡ found.old.items ++ end_warnings read.now (map parts_in after.now) line (parts_in parts.now)) }
+    ensures { OnOk result (found.new.items ≡ found.old.items ++ end_warnings read.now before (map parts_in after.now) line (parts_in parts.now)) }
 {
     match parts.operator {
         Some(operator) => {
@@ -146,7 +156,11 @@ pub(crate) fn warn_of_end(
                 && is_instruction(parts)
                 && !leaves(parts)
                 && !is_read(read, parts)
-                && !goes_on_to_instruction(after);
+                && !goes_on_to_instruction(
+                    place_after(before.place, parts),
+                    bank_after(before.bank, parts),
+                    after,
+                );
             warn_if(ends, line, 4, operator, found)
         }
         None => Ok(()),
@@ -163,11 +177,14 @@ fn is_read(read: &NameSet, parts: &Line<'_>) -> bool
     }
 }
 
-// Whether of some lines the first that gives words or moves the location gives an instruction.
-fn goes_on_to_instruction(lines: &[Line<'_>]) -> bool
-    ensures { result ≡ goes_on_to_instruction (map parts_in lines.now) }
+// Whether of some lines the first that gives words or moves the location to another place gives an instruction.
+fn goes_on_to_instruction(place: Option<u32>, bank: Option<u32>, lines: &[Line<'_>]) -> bool
+    ensures { result ≡ goes_on_to_instruction place bank (map parts_in lines.now) }
 {
     for parts in lines {
+        if leads_on(place, bank, parts) {
+            continue;
+        }
         if gives_word(parts) || has_operator(moving_operators(), parts) {
             return is_instruction(parts);
         }

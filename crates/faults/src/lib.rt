@@ -18,6 +18,7 @@ mod parts;
 mod refusals;
 mod registers;
 mod slips;
+mod standing;
 mod switched;
 mod texts;
 

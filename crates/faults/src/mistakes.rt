@@ -161,7 +161,7 @@ impl Names {
     ) -> Result<(), AllocError>
         ensures { OnOk result (found.new.items ≡ found.old.items ++ line_warnings language unused self.now before (map parts_in after.now) line (parts_in parts.now)) }
     {
-        self.warn_of_names(unused, line, parts, found)?;
+        self.warn_of_names(unused, before, line, parts, found)?;
         self.warn_of_flow(language, before, after, line, parts, found)?;
         self.warn_of_operand(before, line, parts, found)
     }
@@ -170,14 +170,15 @@ impl Names {
     fn warn_of_names(
         &self,
         unused: bool,
+        before: Before,
         line: u32,
         parts: &Line<'_>,
         found: &mut Vec<Finding>,
     ) -> Result<(), AllocError>
-        ensures { OnOk result (found.new.items ≡ found.old.items ++ name_warnings unused self.now line (parts_in parts.now)) }
+        ensures { OnOk result (found.new.items ≡ found.old.items ++ name_warnings unused self.now before line (parts_in parts.now)) }
     {
         warn_of_label(line, parts, found)?;
-        warn_of_register(line, parts, found)?;
+        warn_of_register(before.place, line, parts, found)?;
         if unused {
             warn_of_unused(&self.operands, line, parts, found)?;
         }
@@ -197,7 +198,7 @@ impl Names {
         ensures { OnOk result (found.new.items ≡ found.old.items ++ flow_warnings language self.now before (map parts_in after.now) line (parts_in parts.now)) }
     {
         if matches!(language, Language::Standard) {
-            warn_of_end(&self.read, after, line, parts, found)?;
+            warn_of_end(&self.read, before, after, line, parts, found)?;
         }
         warn_of_vector(before, line, parts, found)
     }
@@ -411,8 +412,8 @@ fn warn_of_pair(
     }
 }
 
-// ERASE without an operand.
-fn reserves_one(parts: &Line<'_>) -> bool
+/// ERASE without an operand.
+pub(crate) fn reserves_one(parts: &Line<'_>) -> bool
     ensures { result ≡ reserves_one (parts_in parts.now) }
 {
     has_operator(erase_operators(), parts) && parts.operand.is_none()

@@ -10,6 +10,7 @@ ghost use Rattle.faults.specs.Warnings.{parts_in, is_same_number, common_names, 
 use crate::causes::value_in;
 use crate::mistakes::{has_alone, has_operator, warn_if};
 use crate::names::is_among;
+use crate::standing::{is_same_known, small_number};
 use crate::switched::value_operators;
 use agc_text::{Line, Number, octal_value};
 use std::alloc::AllocError;
@@ -17,15 +18,16 @@ use yayul::Finding;
 
 /// A register's name that stands for another place.
 pub(crate) fn warn_of_register(
+    place: Option<u32>,
     line: u32,
     parts: &Line<'_>,
     found: &mut Vec<Finding>,
 ) -> Result<(), AllocError>
-    ensures { OnOk result (found.new.items ≡ found.old.items ++ register_warnings line (parts_in parts.now)) }
+    ensures { OnOk result (found.new.items ≡ found.old.items ++ register_warnings place line (parts_in parts.now)) }
 {
     match parts.label {
         Some(label) => {
-            let taken = !is_among(common_names(), label.text) && is_taken(label.text, parts);
+            let taken = !is_among(common_names(), label.text) && is_taken(place, label.text, parts);
             warn_if(taken, line, 7, label, found)
         }
         None => Ok(()),
@@ -33,27 +35,28 @@ pub(crate) fn warn_of_register(
 }
 
 // Whether a register's name stands for another place on a line.
-fn is_taken(name: &[u8], parts: &Line<'_>) -> bool
-    ensures { result ≡ option_map_or (λ place. is_elsewhere place (parts_in parts.now)) (value_in registers name.now) false }
+fn is_taken(place: Option<u32>, name: &[u8], parts: &Line<'_>) -> bool
+    ensures { result ≡ option_map_or (λ register. is_elsewhere place register (parts_in parts.now)) (value_in registers name.now) false }
 {
     match value_in(registers(), name) {
-        Some(place) => is_elsewhere(place, parts),
+        Some(register) => is_elsewhere(place, register, parts),
         None => false,
     }
 }
 
-// Whether a line stands for a place or has a word, or gives another number than this.
-fn is_elsewhere(place: &[u8], parts: &Line<'_>) -> bool
-    ensures { result ≡ is_elsewhere place.now (parts_in parts.now) }
+// Whether a line gives another number than that of a register; or stands for a place or has a word, and its place is not known to
+// be the register's.
+fn is_elsewhere(place: Option<u32>, register: &[u8], parts: &Line<'_>) -> bool
+    ensures { result ≡ is_elsewhere place register.now (parts_in parts.now) }
 {
     if !has_operator(value_operators(), parts) {
-        return true;
+        return !is_same_known(place, small_number(octal_value(register)));
     }
     match parts.operand {
         Some(operand) => {
             has_alone(value_operators(), parts)
                 && octal_value(operand.text).is_some()
-                && !is_same_number(operand.text, place)
+                && !is_same_number(operand.text, register)
         }
         None => false,
     }

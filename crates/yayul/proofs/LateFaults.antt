@@ -36,7 +36,7 @@ abbrev pub IsLateIf : Option FaultKind → Type 0
 IsLateIf None = Unit {0}
 IsLateIf (Some k) = is_of_fields k ≡ true
 
-abbrev FailsLate : {A : Type 0} → Result A FaultKind → Type 0
+abbrev pub FailsLate : {A : Type 0} → Result A FaultKind → Type 0
 FailsLate (Ok x) = Unit {0}
 FailsLate (Err k) = is_of_fields k ≡ true
 
@@ -52,15 +52,15 @@ late_err : {A : Type 0} (r : Result A FaultKind) → FailsLate r → IsLateIf (r
 late_err (Ok x) late = tt
 late_err (Err k) late = late
 
-then_late : {A B : Type 0} (f : A → Result B FaultKind) (r : Result A FaultKind) → FailsLate r → ((x : A) → FailsLate (f x)) → FailsLate (and_then f r)
+pub then_late : {A B : Type 0} (f : A → Result B FaultKind) (r : Result A FaultKind) → FailsLate r → ((x : A) → FailsLate (f x)) → FailsLate (and_then f r)
 then_late f (Ok x) late each = each x
 then_late f (Err k) late each = late
 
-choice_late : {A : Type 0} (b : Bool) (r q : Result A FaultKind) → FailsLate r → FailsLate q → FailsLate (if b then r else q)
+pub choice_late : {A : Type 0} (b : Bool) (r q : Result A FaultKind) → FailsLate r → FailsLate q → FailsLate (if b then r else q)
 choice_late true r q r_late q_late = r_late
 choice_late false r q r_late q_late = q_late
 
-ok_or_late : {A : Type 0} (o : Option A) (k : FaultKind) → is_of_fields k ≡ true → FailsLate (ok_or o k)
+pub ok_or_late : {A : Type 0} (o : Option A) (k : FaultKind) → is_of_fields k ≡ true → FailsLate (ok_or o k)
 ok_or_late None k late = late
 ok_or_late (Some x) k late = tt
 
@@ -70,7 +70,7 @@ moved_late most n (Plus (Some count)) = choice_late (nat_le (n + count) most) (O
 moved_late most n (Minus None) = refl
 moved_late most n (Minus (Some count)) = choice_late (nat_le count n && nat_le (n - count) most) (Ok (n - count)) (Err OutOfRange) tt refl
 
-moved_value_late : (shift : Shift) (value : Value) → FailsLate (moved_value shift value)
+pub moved_value_late : (shift : Shift) (value : Value) → FailsLate (moved_value shift value)
 moved_value_late shift (Num n) = then_late (λ m. Ok (Num m)) (moved greatest_number n shift) (moved_late greatest_number n shift) (λ m. tt)
 moved_value_late shift (Erasable n) = then_late (λ m. Ok (Erasable m)) (moved 0o3777 n shift) (moved_late 0o3777 n shift) (λ m. tt)
 moved_value_late shift (Fixed bank n) = then_late (λ m. Ok (Fixed bank m)) (moved 0o1777 n shift) (moved_late 0o1777 n shift) (λ m. tt)
@@ -86,10 +86,10 @@ early_late s operand =
     then_late (value_of UsedTooEarly s.symbols (value_here s.location)) (ok_or operand BadOperand) (ok_or_late operand BadOperand refl)
     (λ o. then_late (moved_value o.shift) (term_value UsedTooEarly s.symbols (value_here s.location) o.term) (term_late s.symbols (value_here s.location) o.term) (moved_value_late o.shift))
 
-location_late : (value : Value) → FailsLate (location_at value)
+pub location_late : (value : Value) → FailsLate (location_at value)
 location_late value = ok_or_late (option_map location_of (place_of value)) OutOfRange refl
 
-erasable_late : (here : Location) → FailsLate (erasable_number here)
+pub erasable_late : (here : Location) → FailsLate (erasable_number here)
 erasable_late (Location.Erasable n) = tt
 erasable_late (Location.Fixed bank n) = refl
 

@@ -36,6 +36,8 @@ mod LinesOfWords
 mod SurveyByLine
 mod LeastTold
 mod ToldOnce
+mod Sure
+mod NoLabel
 mod SurveyRows
 mod PatchedRequest
 mod NoneWaits

@@ -1,15 +1,15 @@
 -- What the definitions of the source language come to.
-use Rattle.std.specs.Prelude.{◌≡◌, ◌≢◌, ℕ, ◌+◌, ◌*◌, ◌^◌, ◌<◌, ◌≤◌, ◌==◌, ◌&&◌, not, Bool, true, false, List, [], ◌∷◌, AllPairs, filter, slice_get, codes, Some, Result, Ok, Err, IfOk}
+use Rattle.std.specs.Prelude.{◌≡◌, ◌≢◌, ℕ, ◌+◌, ◌-◌, ◌*◌, ◌^◌, ◌<◌, ◌≤◌, ◌==◌, ◌&&◌, ◌||◌, not, Bool, true, false, List, [], ◌∷◌, All, AllPairs, length, filter, slice_get, take, codes, Option, Some, None, option_and_then, unwrap_or, Result, Ok, Err, IfOk, IfSome}
 use Rattle.std.specs.List.{list_any}
 use Rattle.agc_text.specs.Lines.{lines}
 use Rattle.agc_text.specs.Tables.{same_name}
 use Rattle.yayul.specs.Forms.{scaled}
-use Rattle.yayul.specs.Layout.{Request, start, extends, stands_at, layout_after, layout_faults}
+use Rattle.yayul.specs.Layout.{Request, start, extends, stands_at, fault_number, layout_after, layout_faults, statement_on}
 use Rattle.yayul.specs.Operators.{operators}
 use Rattle.yayul.specs.Program.{Program, program}
-use Rattle.yayul.specs.Survey.{told}
+use Rattle.yayul.specs.Survey.{Survey, counts_from_here, erases, looked_at, operand_of, operation_on, passed_lines, told, unmarked}
 use Rattle.yayul.specs.Words.{addressed_word}
-use Rattle.yayul.specs.Language.{AddressedCode, Channel, Content, Either, Extracode, Fault, Language, No, Num, Operand, Operator, Takes, Value, Yes}
+use Rattle.yayul.specs.Language.{AddressedCode, BankFull, Channel, CodeInErasable, Content, Either, Extracode, Fault, Label, Language, Named, No, Num, Operand, Operation, Operator, OutOfRange, PlaceTaken, Takes, Term, Undefined, Value, WrongKindOfAddress, Yes}
 use Rattle.yayul.specs.declared.finding.Finding.{Finding}
 
 -- ## The words of instructions
@@ -115,3 +115,63 @@ StandEachOnce (f ∷ fs) = (list_any (same_fault f) fs ≡ false) × StandEachOn
 -- each fault of a source is told once
 abbrev pub FindingsStandOnce : Language → List ℕ → Type 0
 FindingsStandOnce language source = StandEachOnce (told language source)
+
+-- ## What is sure
+-- what stands before a line of a source, by its number
+abbrev pub before_line : Language → List ℕ → ℕ → Survey
+before_line language source line = passed_lines 1 (unmarked language) (take (line - 1) (looked_at language source))
+
+-- a line of a source, by its number
+abbrev pub text_of_line : Language → List ℕ → ℕ → List ℕ
+text_of_line language source line = unwrap_or (slice_get (looked_at language source) (line - 1)) []
+
+-- what it says
+abbrev pub said_on : Language → List ℕ → ℕ → Operation
+said_on language source line = operation_on (before_line language source line).layout (text_of_line language source line)
+
+-- where it stands is known: no line that moves the location on to it is refused
+abbrev pub IsPlaced : Language → List ℕ → ℕ → Type 0
+IsPlaced language source line = (before_line language source line).known.location ≡ true
+
+-- a fault is one of where words stand
+abbrev pub is_of_place : ℕ → Bool
+is_of_place number = number == fault_number BankFull || (number == fault_number PlaceTaken || number == fault_number CodeInErasable)
+
+-- a fault is one of an address that its line itself gives: of what ERASE passes, or of an operand that counts from its own line
+abbrev pub is_of_own_address : ℕ → Operation → Bool
+is_of_own_address number operation =
+    (number == fault_number WrongKindOfAddress && (erases operation || counts_from_here operation)) || (number == fault_number OutOfRange && counts_from_here operation)
+
+-- a fault that rests on where its line stands is told where that is known; and a line that a fault names stands above, where it is known too
+pub record IsSure (language : Language) (source : List ℕ) (f : Finding) : Type 0 where
+  pub own : (is_of_place f.number || is_of_own_address f.number (said_on language source f.line)) ≡ true → IsPlaced language source f.line
+  pub named : IfSome f.taken_by (λ line. (line < f.line) × IsPlaced language source line)
+
+-- each fault that is told of a source is sure
+abbrev pub FindingsAreSure : Language → List ℕ → Type 0
+FindingsAreSure language source = All (IsSure language source) (told language source)
+
+-- the label of a line, by its number
+abbrev pub label_on : Language → List ℕ → ℕ → Label
+label_on language source line = (statement_on (before_line language source line).layout (text_of_line language source line)).label
+
+-- the symbol that a term is
+abbrev pub symbol_in : Term → Option (List ℕ)
+symbol_in (Term.Named name) = Some name
+symbol_in _ = None
+
+-- the symbol that the operand of a line is
+abbrev pub symbol_of : Operation → Option (List ℕ)
+symbol_of operation = option_and_then (λ operand. symbol_in operand.term) (operand_of operation)
+
+-- a name is the label of no line of a source, a refused one among them
+abbrev pub IsNoLabel : Language → List ℕ → List ℕ → Type 0
+IsNoLabel language source name = (line : ℕ) → 1 ≤ line → line ≤ length (looked_at language source) → label_on language source line ≢ Named name
+
+-- the operand of a line is a symbol, and that is the label of no line
+abbrev pub NamesNoLabel : Language → List ℕ → ℕ → Type 0
+NamesNoLabel language source line = (name : List ℕ) × ((symbol_of (said_on language source line) ≡ Some name) × IsNoLabel language source name)
+
+-- that no line defines a symbol is told only where none has it as its label
+abbrev pub UndefinedIsSure : Language → List ℕ → Type 0
+UndefinedIsSure language source = All (λ f. f.number ≡ fault_number Undefined → NamesNoLabel language source f.line) (told language source)

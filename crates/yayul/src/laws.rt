@@ -1,6 +1,6 @@
 //! Laws of the source language. Each is the contract of a call that does nothing.
 
-ghost use Rattle.yayul.specs.Laws.{ScalesToNearest, WordsShareNoPlace, NamesStandOnce, FindingsAgree, FindingsStandOnce};
+ghost use Rattle.yayul.specs.Laws.{ScalesToNearest, WordsShareNoPlace, NamesStandOnce, FindingsAgree, FindingsAreSure, FindingsStandOnce, UndefinedIsSure};
 
 use crate::language::Language;
 
@@ -44,6 +44,24 @@ pub fn findings_agree(language: Language, source: &[u8])
 #[tactic(auto, using(crate::proofs::ToldOnce::findings_stand_once))]
 pub fn findings_stand_once(language: Language, source: &[u8])
     ensures { FindingsStandOnce language source.now }
+{
+    let _language = language;
+    let _source = source;
+}
+
+/// What is told is sure: no fault that rests on where its line stands is told of a line of which that is not known, since a line
+/// before it is refused, and none names such a line.
+pub fn findings_are_sure(language: Language, source: &[u8])
+    ensures { FindingsAreSure language source.now }
+{
+    let _language = language;
+    let _source = source;
+}
+
+/// That no line defines a symbol is told only where this is so: no line has it as its label, a refused one neither.
+#[tactic(auto, using(crate::proofs::NoLabel::undefined_is_sure))]
+pub fn undefined_is_sure(language: Language, source: &[u8])
+    ensures { UndefinedIsSure language source.now }
 {
     let _language = language;
     let _source = source;

@@ -1,0 +1,102 @@
+//! Where a line stands, as far as the fields of the lines before it tell.
+
+ghost use Rattle.std.specs.Prelude.{◌≡◌, ◌||◌, map, option_and_then};
+ghost use Rattle.std.specs.Option.{option_map};
+ghost use Rattle.agc_text.specs.Views.{piece};
+ghost use Rattle.faults.specs.Warnings.{parts_in, number_in, number_beside, place_past, place_after, bank_after, is_same_known, leads_on, small_number};
+
+use crate::causes::bank_operators;
+use crate::flow::{setting_operators, word_count};
+use crate::mistakes::{erase_operators, has_alone, has_operator, reserves_one};
+use agc_text::{Field, Line, Number, octal_value};
+
+/// One past the last place of bank 3, as SETLOC takes it.
+const END: u32 = 0o10000;
+
+/// The number of the place that follows a line, by that of the place before it.
+pub(crate) fn place_after(place: Option<u32>, parts: &Line<'_>) -> Option<u32>
+    ensures { result ≡ place_after place (parts_in parts.now) }
+{
+    if has_operator(setting_operators(), parts) {
+        number_beside(setting_operators(), parts)
+    } else if has_operator(bank_operators(), parts) {
+        None
+    } else if has_operator(erase_operators(), parts) {
+        if reserves_one(parts) {
+            place_past(1, place)
+        } else {
+            None
+        }
+    } else {
+        place_past(word_count(parts), place)
+    }
+}
+
+/// The bank behind whose words the next stands, after a line.
+pub(crate) fn bank_after(bank: Option<u32>, parts: &Line<'_>) -> Option<u32>
+    ensures { result ≡ bank_after bank (parts_in parts.now) }
+{
+    if has_operator(setting_operators(), parts) {
+        None
+    } else if has_operator(bank_operators(), parts) {
+        number_beside(bank_operators(), parts)
+    } else {
+        bank
+    }
+}
+
+/// Whether a line leads to the place where it stands.
+pub(crate) fn leads_on(place: Option<u32>, bank: Option<u32>, parts: &Line<'_>) -> bool
+    ensures { result ≡ leads_on place bank (parts_in parts.now) }
+{
+    is_same_known(place, number_beside(setting_operators(), parts))
+        || is_same_known(bank, number_beside(bank_operators(), parts))
+}
+
+/// Whether two numbers are known and the same.
+pub(crate) fn is_same_known(one: Option<u32>, other: Option<u32>) -> bool
+    ensures { result ≡ is_same_known one other }
+{
+    match (one, other) {
+        (Some(one), Some(other)) => one == other,
+        _ => false,
+    }
+}
+
+// The place after so many words.
+fn place_past(count: u8, place: Option<u32>) -> Option<u32>
+    ensures { result ≡ place_past count place }
+{
+    match place {
+        Some(number) if number < END => Some(number + u32::from(count)),
+        _ => None,
+    }
+}
+
+// The number of a line's operand, where its operator is one of some and no offset stands.
+fn number_beside(names: &[&str], parts: &Line<'_>) -> Option<u32>
+    ensures { result ≡ number_beside (map (λ name. name.now) names.now) (parts_in parts.now) }
+{
+    if has_alone(names, parts) {
+        number_in(parts.operand)
+    } else {
+        None
+    }
+}
+
+// The number that a field is in octal.
+fn number_in(field: Option<Field<'_>>) -> Option<u32>
+    ensures { result ≡ number_in (option_map piece field.entry) }
+{
+    small_number(octal_value(field?.text))
+}
+
+/// A number that is told itself.
+pub(crate) fn small_number(number: Option<Number>) -> Option<u32>
+    ensures { result ≡ small_number number }
+{
+    match number {
+        Some(Number::Small(number)) => Some(number),
+        _ => None,
+    }
+}
