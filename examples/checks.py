@@ -151,6 +151,7 @@ WARNINGS = [
     ("X OCT 1; CA Y;Y OCT 2", [(1, 1, 8), (2, 2, 4)]),
     # an address to which INDEX adds is no number
     (" INDEX X; CA 0; NDX X;; MASK 1; CA 2;X OCT 1", [(6, 2, 4), (6, 5, 2)]),
+    (" INDEX X;Y EQUALS 5; EBANK= 400; CA 0; TS Y; CA 0;X OCT 1", [(6, 2, 4), (6, 5, 2)]),
     # a routine without its way back; a word that is read, and executed elsewhere; a jump by Z
     (" TC F;D TCF D;F CA O;# it;E EQUALS 5;O OCT 1; TS E", [(3, 3, 4), (7, 2, 4)]),
     (" CAF C; XXALQ;C CA X;X OCT 1", []),

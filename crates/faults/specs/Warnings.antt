@@ -111,9 +111,13 @@ is_register_number text = option_map_or (λ number. nat_lt number 0o61) (digits_
 abbrev pub index_operators : List (List ℕ)
 index_operators = codes "INDEX" ∷ codes "NDX" ∷ []
 
--- whether one of them stands last before what follows a line, by whether one does before it
+-- operators that give no word and leave the location as it is
+abbrev pub still_operators : List (List ℕ)
+still_operators = codes "EQUALS" ∷ codes "=" ∷ codes "EBANK=" ∷ []
+
+-- whether one of those that add stands last before the word that follows a line, by whether one does before it
 abbrev pub indexed_after : Bool → Parts → Bool
-indexed_after indexed parts = if is_some parts.operator then has_operator index_operators parts else indexed
+indexed_after indexed parts = if is_some parts.operator && not (has_operator still_operators parts) then has_operator index_operators parts else indexed
 
 -- after one of them the number is a part of an address alone
 abbrev pub number_warnings : Bool → ℕ → Parts → List Finding
@@ -147,13 +151,9 @@ pair_warnings singles line parts = at_field (λ p. warned_if (has_alone pair_ope
 abbrev pub constant_operators : List (List ℕ)
 constant_operators = codes "OCT" ∷ codes "DEC" ∷ codes "ADRES" ∷ codes "ECADR" ∷ codes "CADR" ∷ codes "FCADR" ∷ codes "2CADR" ∷ []
 
--- operators that move the location and give no word
+-- operators that give no word, and move the location
 abbrev pub moving_operators : List (List ℕ)
 moving_operators = codes "SETLOC" ∷ codes "BANK" ∷ codes "BLOCK" ∷ codes "ERASE" ∷ []
-
--- operators that do neither
-abbrev pub still_operators : List (List ℕ)
-still_operators = codes "EQUALS" ∷ codes "=" ∷ codes "EBANK=" ∷ []
 
 -- operators that give words
 abbrev pub gives_word : Parts → Bool

@@ -255,7 +255,7 @@ fn moving_operators() -> &'static [&'static str]
     &MOVING_OPERATORS
 }
 
-fn still_operators() -> &'static [&'static str]
+pub(crate) fn still_operators() -> &'static [&'static str]
     ensures { map (λ name. name.now) result.now ≡ still_operators }
 {
     &STILL_OPERATORS

@@ -8,7 +8,7 @@ ghost use Rattle.agc_text.specs.Views.{piece};
 ghost use Rattle.yayul.specs.Survey.{field_at, span_of};
 ghost use Rattle.faults.specs.Warnings.{parts_of, parts_for, parts_in, is_among, has_operator, has_alone, warned_if, at_field, operator_names, label_warnings, readers, is_register_number, index_operators, indexed_after, number_warnings, pair_operators, erase_operators, reserves_one, with_field, with_single, pair_warnings, unused_warnings, name_warnings, flow_warnings, operand_warnings, erasable_warnings, fixed_warnings, word_readers, with_read, banks_after, names_of, at_start, line_warnings, lines_apart, warned_lines, warnings};
 
-use crate::flow::{Before, is_instruction, warn_of_end, warn_of_vector};
+use crate::flow::{Before, is_instruction, still_operators, warn_of_end, warn_of_vector};
 use crate::names::{NameSet, is_among, is_short};
 use crate::operators::is_operator;
 use crate::parts::parts_for;
@@ -365,11 +365,11 @@ fn warn_of_unused(
     }
 }
 
-/// Whether a word that adds to the next address stands last before what follows a line.
+/// Whether a word that adds to the next address stands last before the word that follows a line.
 pub(crate) fn indexed_after(indexed: bool, parts: &Line<'_>) -> bool
     ensures { result ≡ indexed_after indexed (parts_in parts.now) }
 {
-    if parts.operator.is_some() {
+    if parts.operator.is_some() && !has_operator(still_operators(), parts) {
         has_operator(index_operators(), parts)
     } else {
         indexed
