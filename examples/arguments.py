@@ -267,8 +267,11 @@ class Arguments:
             self.same(f"check wrong.agc one.feed {name} two.feed", 3, told, unread)
 
     def try_unread(self):
-        """A file that cannot be read is told by its own name, whichever of two it is, and nothing of where it is refused."""
+        """What cannot be read: a file, told by its own name, whichever of two it is; and a number."""
         self.same("words --where none.rope", 3, "", "agcws: E6\n")
+        for number in ("EE17", "WW4", "EW4", "WE17", "4W", "E", "W", "E256"):
+            none = "error: no refusal and no warning has this number; agcws explain lists them\n"
+            self.same(f"explain {number}", 2, "", none)
         for command, one, other in (("compare", "five.rope", "six.rope"), ("compare --only", "five.agc", "five.rope")):
             for name in ("none.rope", "folder"):
                 unread = f"{name}: error E6: a file could not be opened or read\n"
