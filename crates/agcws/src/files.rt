@@ -6,7 +6,7 @@ use std::alloc::AllocError;
 use std::cell::Cell;
 use std::{fs, io};
 use words::{ReadAhead, Std, Write, write_all};
-use workshop::{InForm, Origin, Symbols, WorkshopFault, read_names, unread_text};
+use workshop::{Form, InForm, Origin, Symbols, WorkshopFault, read_names, unread_text};
 
 /// A file that is read.
 pub type ReadFile = ReadAhead<Std<fs::File>>;
@@ -14,11 +14,13 @@ pub type ReadFile = ReadAhead<Std<fs::File>>;
 /// Standard output, with what is to be written gathered.
 type StandardOutput<'a> = Std<Gathered<'a>>;
 
-/// A program whose files are open: where its words come from, its file and that of its feed.
+/// A program whose files are open: where its words come from, its file with the form in which its bytes are taken, and that of its
+/// feed.
 #[derive(Drop)]
 pub struct OpenProgram {
     pub origin: Origin,
-    pub file: InForm<ReadFile>,
+    pub file: Std<fs::File>,
+    pub form: Form,
     pub feed: Std<fs::File>,
 }
 
@@ -27,13 +29,14 @@ pub fn opened_program(
     rt: &HostRuntime,
     program: &Program<'_>,
 ) -> Result<OpenProgram, WorkshopFault> {
-    let mut table = opened_table(rt, program.symbols)?;
-    let file = InForm::new(opened(rt, program.path)?, program.form);
-    let feed = Std::new(fs::open(rt, program.feed).map_err(not_opened)?);
-    let names = names_of(rt, &mut table)?;
+    let table = opened_table(rt, program.symbols)?;
+    let file = opened_file(rt, program.path)?;
+    let feed = opened_file(rt, program.feed)?;
+    let names = names_of(rt, table)?;
     Ok(OpenProgram {
         origin: origin(program.kind, names),
         file,
+        form: program.form,
         feed,
     })
 }
@@ -48,9 +51,12 @@ fn origin(kind: Kind, names: Option<Symbols>) -> Origin {
 }
 
 /// A table of names, where there is one: it is opened, and read later.
-fn opened_table(rt: &HostRuntime, path: Option<&str>) -> Result<Option<ReadFile>, WorkshopFault> {
+fn opened_table(
+    rt: &HostRuntime,
+    path: Option<&str>,
+) -> Result<Option<Std<fs::File>>, WorkshopFault> {
     match path {
-        Some(path) => Ok(Some(opened(rt, path)?)),
+        Some(path) => Ok(Some(opened_file(rt, path)?)),
         None => Ok(None),
     }
 }
@@ -58,10 +64,10 @@ fn opened_table(rt: &HostRuntime, path: Option<&str>) -> Result<Option<ReadFile>
 /// The names of a table, where there is one.
 fn names_of(
     rt: &HostRuntime,
-    table: &mut Option<ReadFile>,
+    table: Option<Std<fs::File>>,
 ) -> Result<Option<Symbols>, WorkshopFault> {
     match table {
-        Some(table) => Ok(Some(read_names(rt.alloc(), table)?)),
+        Some(table) => Ok(Some(read_names(rt.alloc(), &mut ReadAhead::new(table))?)),
         None => Ok(None),
     }
 }
@@ -71,13 +77,23 @@ pub fn opened_image(
     rt: &HostRuntime,
     image: &Image<'_>,
 ) -> Result<InForm<ReadFile>, WorkshopFault> {
-    Ok(InForm::new(opened(rt, image.path)?, image.form))
+    Ok(taken_in(opened_file(rt, image.path)?, image.form))
 }
 
 /// A file that is read, from its beginning on.
 pub fn opened(rt: &HostRuntime, path: &str) -> Result<ReadFile, WorkshopFault> {
-    let file = fs::open(rt, path).map_err(not_opened)?;
-    Ok(ReadAhead::new(Std::new(file)))
+    Ok(ReadAhead::new(opened_file(rt, path)?))
+}
+
+/// A file, before room is made for what is read ahead of it.
+fn opened_file(rt: &HostRuntime, path: &str) -> Result<Std<fs::File>, WorkshopFault> {
+    Ok(Std::new(fs::open(rt, path).map_err(not_opened)?))
+}
+
+/// A file whose bytes are taken in a form. It is made where it is read, since what is read ahead lies in it: each move takes as long
+/// as reading so many bytes.
+pub fn taken_in(file: Std<fs::File>, form: Form) -> InForm<ReadFile> {
+    InForm::new(ReadAhead::new(file), form)
 }
 
 /// Calls an engine with standard output, which is flushed then. That it can't be is told whatever the engine has answered.

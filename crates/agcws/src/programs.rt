@@ -3,7 +3,7 @@
 ghost use Rattle.std.specs.Prelude.{◌≤◌, ◌-◌, ◌^◌};
 
 use crate::DONE;
-use crate::files::{OpenProgram, opened_program, with_stdout};
+use crate::files::{OpenProgram, opened_program, taken_in, with_stdout};
 use plans::{Profile, Program, Run, Telling, Tracing};
 use words::{Std, Write};
 use workshop::{
@@ -35,9 +35,11 @@ fn run_told<W: Write>(
 {
     let OpenProgram {
         origin,
-        mut file,
+        file,
+        form,
         mut feed,
     } = program;
+    let mut file = taken_in(file, form);
     let mut progress = Std::new(rt.stderr());
     let mut notes = Std::new(rt.stderr());
     match telling {
@@ -78,9 +80,11 @@ fn run_told<W: Write>(
 pub fn trace(rt: &HostRuntime, asked: &Tracing<'_>) -> Result<u8, WorkshopFault> {
     let OpenProgram {
         origin,
-        mut file,
+        file,
+        form,
         mut feed,
     } = opened_program(rt, &asked.program)?;
+    let mut file = taken_in(file, form);
     let (first, last) = (asked.first, asked.last.count());
     with_stdout(rt, |out| {
         if asked.tells_progress {
@@ -106,9 +110,11 @@ pub fn trace(rt: &HostRuntime, asked: &Tracing<'_>) -> Result<u8, WorkshopFault>
 pub fn cover(rt: &HostRuntime, asked: &Profile<'_>) -> Result<u8, WorkshopFault> {
     let OpenProgram {
         origin,
-        mut file,
+        file,
+        form,
         mut feed,
     } = opened_program(rt, &asked.program)?;
+    let mut file = taken_in(file, form);
     let steps = asked.steps.count();
     with_stdout(rt, |out| {
         if asked.tells_progress {
@@ -133,9 +139,11 @@ pub fn cover(rt: &HostRuntime, asked: &Profile<'_>) -> Result<u8, WorkshopFault>
 pub fn debug(rt: &HostRuntime, program: &Program<'_>) -> Result<u8, WorkshopFault> {
     let OpenProgram {
         origin,
-        mut file,
+        file,
+        form,
         mut feed,
     } = opened_program(rt, program)?;
+    let mut file = taken_in(file, form);
     let mut commands = Counted::new(Std::new(rt.stdin()));
     with_stdout(rt, |out| {
         debug_program(rt.alloc(), origin, &mut file, &mut feed, &mut commands, out)
@@ -148,9 +156,11 @@ pub fn debug(rt: &HostRuntime, program: &Program<'_>) -> Result<u8, WorkshopFaul
 pub fn debug_extended(rt: &HostRuntime, program: &Program<'_>) -> Result<u8, WorkshopFault> {
     let OpenProgram {
         origin,
-        mut file,
+        file,
+        form,
         mut feed,
     } = opened_program(rt, program)?;
+    let mut file = taken_in(file, form);
     let mut commands = Std::new(rt.stdin());
     with_stdout(rt, |out| {
         workshop::debug_extended(rt.alloc(), origin, &mut file, &mut feed, &mut commands, out)

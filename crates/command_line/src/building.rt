@@ -8,14 +8,24 @@ use std::alloc::{AllocError, Global};
 /// The version of the program, as `--version` tells it.
 const PROGRAM_VERSION: &str = "0.1.0";
 
-/// The program with its subcommands and their arguments.
-pub fn command<'a>(alloc: Global) -> Result<Command<'a>, AllocError> {
+/// The program with its subcommands and their arguments: the one alone that the words of a call name, or all where they name
+/// none. What is said of the words of one does not depend on the others.
+pub fn command<'a>(alloc: Global, words: &[String]) -> Result<Command<'a>, AllocError> {
     let command = Command::new(alloc, "agcws")
         .about("Assembles, runs and debugs programs for the Apollo Guidance Computer")
         .version(PROGRAM_VERSION)
         .after_help("See the --help of each for its files, its output and its exit statuses.")
         .subcommand_required(true);
-    with_subcommands(alloc, command, &subcommands())
+    let table = subcommands();
+    match table.iter().find(|it| is_named(words, it)) {
+        Some(it) => command.subcommand(subcommand(alloc, it)?),
+        None => with_subcommands(alloc, command, &table),
+    }
+}
+
+/// Whether the words of a call name a subcommand.
+fn is_named(words: &[String], it: &Subcommand) -> bool {
+    words.get(1).is_some_and(|name| name.as_str() == it.name)
 }
 
 /// A command with the subcommands of a table.

@@ -26,7 +26,7 @@ pub enum Parsed<'a> {
 
 /// Parses the words of a call, of which the first is the program's name.
 pub fn parse<'a>(alloc: Global, words: &'a [String]) -> Result<Parsed<'a>, AllocError> {
-    match building::command(alloc)?.try_get_matches_from(words) {
+    match building::command(alloc, words)?.try_get_matches_from(words) {
         Ok(matches) => match found::arguments(alloc, &matches)? {
             Some(arguments) => Ok(Parsed::Arguments(arguments)),
             None => Ok(Parsed::Wrong(String::new(alloc))),

@@ -88,6 +88,7 @@ impl Tally {
         requires state { machine.old ≡ run processor.old.scenario done }
         requires counts { Counts processor.old.scenario done self.old }
         ensures scenario { processor.new.scenario ≡ processor.old.scenario }
+        ensures meter { processor.new.meter + done ≤ processor.old.meter + stop }
         ensures state { machine.new ≡ run processor.old.scenario stop }
         ensures counts { Counts processor.old.scenario stop self.new }
         ensures adds_up { AllAddUp processor.old.scenario stop }
@@ -104,6 +105,7 @@ impl Tally {
         requires fits { FitsRun processor.old.scenario machine.old }
         requires small { (a : Account) → IsAccount a → AreSmall (figures_at self.old a) }
         ensures scenario { processor.new.scenario ≡ processor.old.scenario }
+        ensures meter { processor.new.meter ≤ processor.old.meter + 1 }
         ensures state { machine.new ≡ (next processor.old.scenario machine.old).0 }
         ensures known { IsAccount (account_of processor.old.scenario machine.old) }
         ensures counted { self.new ≡ put_down self.old (account_of processor.old.scenario machine.old) (step_cycles processor.old.scenario machine.old) }

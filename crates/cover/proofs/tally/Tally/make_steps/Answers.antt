@@ -14,6 +14,7 @@ step-requires-clause-small c = small c.args.processor.now.scenario c.loop.counte
 pub loop-preserved : goal.loop-preserved
 loop-preserved c = record {
   scenario = c.step.ensures.scenario ∙ c.loop.invariant.scenario;
+  meter = omega (arith, c.step.ensures.meter, c.loop.invariant.meter);
   state = state_more c.args.processor.now.scenario _ c.loop.counter _ _ c.loop.invariant.scenario c.loop.invariant.state c.step.ensures.state;
   counts = counts_more c.args.processor.now.scenario _ c.loop.counter _ _ _ c.loop.invariant.scenario c.loop.invariant.state c.loop.invariant.counts c.step.ensures.known c.step.ensures.counted;
 }

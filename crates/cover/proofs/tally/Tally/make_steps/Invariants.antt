@@ -1,4 +1,4 @@
-use Rattle.std.proofs.Common.{◌≡◌}
+use Rattle.std.proofs.Common.{◌≡◌, ◌+◌, ◌≤◌}
 use Rattle.cpu.specs.Run.{run}
 use Rattle.cover.specs.Tallies.{Counts}
 use Rattle.cover.proofs.tally.Tally.make_steps.Given as goal
@@ -6,6 +6,7 @@ use Rattle.cover.proofs.tally.Tally.make_steps.Given as goal
 abbrev pub invariant-loop : goal.invariant-loop
 invariant-loop l = record {
   scenario : l.processor.scenario ≡ l.initial.processor.scenario;
+  meter : l.processor.meter + l.done ≤ l.initial.processor.meter + l.counter;
   state : l.machine ≡ run l.initial.processor.scenario l.counter;
   counts : Counts l.initial.processor.scenario l.counter l.self;
 }
