@@ -162,7 +162,7 @@ class Arguments:
     def call(self, words):
         """The status of the program, its output and its error output."""
         ran = subprocess.run(
-            [self.program, *words.split()], cwd=self.folder, input=COMMANDS, capture_output=True, timeout=60
+            [self.program, *words.split()], cwd=self.folder, input=COMMANDS, capture_output=True, timeout=300
         )
         return ran.returncode, ran.stdout, ran.stderr
 

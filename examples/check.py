@@ -52,7 +52,7 @@ from traces import check_trace
 PROGRAM = f"{ROOT}/crates/agcws/out/agcws"
 IMAGE_BYTES = 73728
 # The most seconds that a reply is awaited while the program goes on, and that one is after such a wait in vain.
-WAIT, WAIT_LATER = 60, 2
+WAIT, WAIT_LATER = 300, 2
 # So many seconds pass until a program that is silent is looked at.
 LOOK = 0.02
 # The most parts of a wrong reply that are read, so that the next reply is told apart.
@@ -61,7 +61,7 @@ MOST_PARTS = 1000
 
 def agcws(*words):
     """Runs the program, and answers its status, its output and its error output."""
-    ran = subprocess.run([PROGRAM, *words], stdin=subprocess.DEVNULL, capture_output=True, timeout=60)
+    ran = subprocess.run([PROGRAM, *words], stdin=subprocess.DEVNULL, capture_output=True, timeout=300)
     return ran.returncode, ran.stdout, ran.stderr
 
 
@@ -374,7 +374,7 @@ class Document:
     def try_shell(self, label, words, body):
         for command, wanted in asked(body.decode(), r"\$ "):
             ran = subprocess.run(["bash", "-c", command], cwd=self.room, env={**os.environ, "PATH": f"{self.room}:{os.environ['PATH']}"},
-                                 stdin=subprocess.DEVNULL, stdout=subprocess.PIPE, stderr=subprocess.STDOUT, timeout=60)
+                                 stdin=subprocess.DEVNULL, stdout=subprocess.PIPE, stderr=subprocess.STDOUT, timeout=300)
             is_right = ran.stdout.startswith(wanted[:-3]) if wanted.endswith(b"\n..\n") else ran.stdout == wanted
             told(f"{label}: {command!r}", is_right, f"wanted {wanted!r}, got {ran.stdout!r}")
 
@@ -452,7 +452,7 @@ def check_devices(room):
     compare("a source that is a folder", agcws("asm", room, f"{room}/x"), 3, b"", b"agcws: E6\n")
     compare("an image that cannot be made", agcws("asm", source, f"{room}/none/x"), 3, b"", b"agcws: E7\n")
     with open("/dev/full", "wb") as full:
-        ran = subprocess.run([PROGRAM, "asm", source, f"{room}/kept"], stdin=subprocess.DEVNULL, stdout=full, stderr=subprocess.PIPE, timeout=60)
+        ran = subprocess.run([PROGRAM, "asm", source, f"{room}/kept"], stdin=subprocess.DEVNULL, stdout=full, stderr=subprocess.PIPE, timeout=300)
     told("a listing that cannot be written", (ran.returncode, ran.stderr) == (3, b"agcws: E7\n"))
     told("its image is whole", os.path.getsize(f"{room}/kept") == IMAGE_BYTES)
     status, _, _ = agcws("asm", source, f"{room}/image")
@@ -638,7 +638,7 @@ def check_ropes(room):
     compare("a feed that is refused after an image", agcws("run", "--image", other, other, "4"), 1, b"", b"agcws: E30 LINE 1\n")
     compare("words of an image that is not there", agcws("words", f"{room}/none"), 3, b"", b"agcws: E6\n")
     with open("/dev/full", "wb") as full:
-        ran = subprocess.run([PROGRAM, "words", other], stdin=subprocess.DEVNULL, stdout=full, stderr=subprocess.PIPE, timeout=60)
+        ran = subprocess.run([PROGRAM, "words", other], stdin=subprocess.DEVNULL, stdout=full, stderr=subprocess.PIPE, timeout=300)
     told("words that cannot be written", (ran.returncode, ran.stderr) == (3, b"agcws: E7\n"))
     ran = subprocess.run([PROGRAM, "debug", "--image", other, f"{EXAMPLES}/empty.feed"], input=b"step 4\nsym FIVE\n", capture_output=True, timeout=WAIT)
     compare("a session over an image", (ran.returncode, ran.stdout, ran.stderr), 0, b"7 CH 010 00012\nAT 4 7 4004\nE17 UNDEFINED\n")
@@ -894,7 +894,7 @@ def with_short_files(words, most):
         signal.signal(signal.SIGXFSZ, signal.SIG_IGN)
         resource.setrlimit(resource.RLIMIT_FSIZE, (most, most))
 
-    ran = subprocess.run([PROGRAM, *words], stdin=subprocess.DEVNULL, capture_output=True, timeout=60, preexec_fn=limit)
+    ran = subprocess.run([PROGRAM, *words], stdin=subprocess.DEVNULL, capture_output=True, timeout=300, preexec_fn=limit)
     return ran.returncode, ran.stdout, ran.stderr
 
 
@@ -929,7 +929,7 @@ def check_whole_images(room):
     long = f"{folder}/{'x' * 255}"
     status, _, err = agcws("asm", source, long)
     told("an image of the longest name", (status, err) == (0, b"") and read(long) == read(two) and sorted(os.listdir(folder)) == ["my.rope", "x" * 255])
-    ran = subprocess.run([PROGRAM, "asm", source, "/dev/stdout"], stdin=subprocess.DEVNULL, capture_output=True, timeout=60)
+    ran = subprocess.run([PROGRAM, "asm", source, "/dev/stdout"], stdin=subprocess.DEVNULL, capture_output=True, timeout=300)
     told("an image into a pipe", (ran.returncode, ran.stderr) == (0, b"") and ran.stdout.startswith(read(two)))
 
 
@@ -962,9 +962,9 @@ def check_end(room):
     write(wrong, b" FROB 1\n")
     compare("a refused run's end", agcws("run", "--end", wrong, empty, "4"), 1, b"", b"agcws: E15 LINE 1\n")
     with open("/dev/full", "wb") as full:
-        ran = subprocess.run([PROGRAM, "run", "--end", source, empty, "4"], stdout=full, stderr=subprocess.PIPE, timeout=60)
+        ran = subprocess.run([PROGRAM, "run", "--end", source, empty, "4"], stdout=full, stderr=subprocess.PIPE, timeout=300)
         told("the end of a run that cannot be written", (ran.returncode, ran.stderr) == (3, b"agcws: E7\n"))
-        ran = subprocess.run([PROGRAM, "run", "--end", source, empty, "4"], stdout=subprocess.PIPE, stderr=full, timeout=60)
+        ran = subprocess.run([PROGRAM, "run", "--end", source, empty, "4"], stdout=subprocess.PIPE, stderr=full, timeout=300)
         told("an end that cannot be told", (ran.returncode, ran.stdout) == (3, line))
 
 
@@ -980,7 +980,7 @@ def check_progress(room):
     compare("the progress of a profile", agcws("cover", "--progress", source, feed, "2097152"), 0, agcws("cover", source, feed, "2097152")[1], lines)
     compare("progress, and then the end", agcws("run", "--progress", "--end", source, feed, "1048576"), 0, line, lines[:21] + b"END STEPS 1048576 CYCLES 1048578 OUTPUTS 1 Z 4003\n")
     with open("/dev/full", "wb") as full:
-        ran = subprocess.run([PROGRAM, "run", "--progress", source, feed, "2097152"], stdout=subprocess.PIPE, stderr=full, timeout=60)
+        ran = subprocess.run([PROGRAM, "run", "--progress", source, feed, "2097152"], stdout=subprocess.PIPE, stderr=full, timeout=300)
         told("progress that cannot be told", (ran.returncode, ran.stdout) == (0, line))
     compare("no progress that is not asked for", agcws("run", source, feed, "1048576"), 0, line)
 
@@ -1011,7 +1011,7 @@ def check_notes(room):
     compare("notes of an image", agcws("run", "--image", "--notes", rope, empty, "10"), 0, b"", note.replace(b"DV D   ", b"DV 0100"))
     compare("notes of a refused feed", agcws("run", "--notes", five, five, "4"), 1, b"", b"agcws: E30 LINE 1\n")
     with open("/dev/full", "wb") as full:
-        ran = subprocess.run([PROGRAM, "run", "--notes", five, empty, "10"], stdout=subprocess.PIPE, stderr=full, timeout=60)
+        ran = subprocess.run([PROGRAM, "run", "--notes", five, empty, "10"], stdout=subprocess.PIPE, stderr=full, timeout=300)
         told("notes that cannot be told", (ran.returncode, ran.stdout) == (3, b""))
     noted = set()
     for line in text_of("examples/runs.txt").split("\n"):
@@ -1064,7 +1064,7 @@ def check_handed_on(room):
         ran.kill()
     told("a long run that is broken off has written its line", read(out) == line, f"{read(out)!r}")
     with open("/dev/full", "wb") as full:
-        ran = subprocess.run([PROGRAM, "run", source, feed, "1099511627774"], stdin=subprocess.DEVNULL, stdout=full, stderr=subprocess.PIPE, timeout=60)
+        ran = subprocess.run([PROGRAM, "run", source, feed, "1099511627774"], stdin=subprocess.DEVNULL, stdout=full, stderr=subprocess.PIPE, timeout=300)
     told("a long run whose lines cannot be written ends", (ran.returncode, ran.stderr) == (3, b"agcws: E7\n"))
 
 

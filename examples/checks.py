@@ -215,7 +215,7 @@ WORDS = ["CA", "TS", "TC", "TCF", "EXTEND", "MP", "READ", "INDEX", "OCT", "DEC",
 
 def told_by(program, path):
     """The status of a check, and what it tells: line, column and number of each, and the count."""
-    ran = subprocess.run([program, "check", path], capture_output=True, timeout=60)
+    ran = subprocess.run([program, "check", path], capture_output=True, timeout=300)
     rows = [TOLD.match(it) for it in ran.stdout.split(b"\n")]
     found = [tuple(int(it[i]) for i in (2, 3, 4)) for it in rows if it and it[1] == path.encode()]
     return ran.returncode, found, ran.stdout.split(b"\n")[-2:-1], ran.stderr
@@ -230,7 +230,7 @@ WARNED = re.compile(rb"^(.*):(\d+):(\d+): (error E|warning W)(\d+): (.+)$")
 
 def warned_by(program, path, *options):
     """The status of a check, and all that it tells: line, column, and the number behind its letter; and the count."""
-    ran = subprocess.run([program, "check", *options, path], capture_output=True, timeout=60)
+    ran = subprocess.run([program, "check", *options, path], capture_output=True, timeout=300)
     rows = [WARNED.match(it) for it in ran.stdout.split(b"\n")]
     found = [(int(it[2]), int(it[3]), it[4][-1:].decode() + it[5].decode()) for it in rows if it and it[1] == path.encode()]
     return ran.returncode, found, ran.stdout.split(b"\n")[-2:-1], ran.stderr
@@ -259,7 +259,7 @@ def check_examples_quiet(program, told, folder):
     names = sorted({line.split()[0] for line in open(f"{folder}/runs.txt") if line.strip() and not line.startswith("#")})
     for name in [*names, "flight/downlist", "flight/bankcall"]:
         path = f"{folder}/{name}.agc"
-        ran = subprocess.run([program, "check", *(["--flight"] if "/" in name else []), path], capture_output=True, timeout=60)
+        ran = subprocess.run([program, "check", *(["--flight"] if "/" in name else []), path], capture_output=True, timeout=300)
         told(f"no warning in {name}.agc", (ran.returncode, ran.stdout) == (0, b"0 errors, 0 warnings\n"), str(ran.stdout[:300]))
 
 
@@ -275,7 +275,7 @@ def check_mistakes(program, room, told):
 
 def said_by(program, path, *before, kind="error"):
     """What a check says of each fault of a file, or of each warning, after others: line and column, the number with its words, and the cure."""
-    ran = subprocess.run([program, "check", *before, path], capture_output=True, timeout=60)
+    ran = subprocess.run([program, "check", *before, path], capture_output=True, timeout=300)
     found = []
     for row in ran.stdout.decode("latin-1").split("\n"):
         if said := re.match(re.escape(path) + r":(\d+):(\d+): (\w+) (\w\d+: .+)$", row):
@@ -312,9 +312,9 @@ def check_silent(program, room, told):
         path = written(f"{room}/silent.agc", shown.replace("|", "\n").encode() + b"\n")
         got = said_by(program, path, "--unused", kind="warning")
         told(f"what check says of {shown}", (got, bool(wanted)) == (wanted, not elsewhere), f"wanted {wanted}, got {got}")
-        told(f"asm takes {shown}", subprocess.run([program, "asm", path, "/dev/null"], capture_output=True, timeout=60).returncode == 0)
+        told(f"asm takes {shown}", subprocess.run([program, "asm", path, "/dev/null"], capture_output=True, timeout=300).returncode == 0)
         if elsewhere.startswith("run --notes"):
-            notes = subprocess.run([program, "run", "--notes", path, written(f"{room}/silent.feed", b"5 RUPT 3\n"), "40"], capture_output=True, timeout=60).stderr
+            notes = subprocess.run([program, "run", "--notes", path, written(f"{room}/silent.feed", b"5 RUPT 3\n"), "40"], capture_output=True, timeout=300).stderr
             told(f"run --notes of {shown}", notes.startswith((b"NOTE NOHANDLER", b"NOTE INSIDE")), str(notes))
 
 
@@ -324,14 +324,14 @@ def check_feeds(program, room, told):
         feed = written(f"{room}/said.feed", shown.replace("|", "\n").encode() + b"\n")
         got = said_by(program, feed, source)
         told(f"what check says of the feed {shown[:40]}", got == ([wanted] if wanted else []), f"wanted {wanted}, got {got}")
-        refused = subprocess.run([program, "run", source, feed, "0"], capture_output=True, timeout=60).stderr
+        refused = subprocess.run([program, "run", source, feed, "0"], capture_output=True, timeout=300).stderr
         told(f"check and run of the feed {shown[:40]}", bool(refused) == bool(wanted) and (not wanted or refused.startswith(b"agcws: " + wanted[2].partition(":")[0].encode())), f"{refused}")
 
 
 def check_files(program, room, told):
     """What is told of several files, what stays told where a file cannot be read, and files of another kind."""
     source, good, bad = written(f"{room}/a.agc", b" TC FIV\n"), written(f"{room}/good.feed", b"5 RUPT 1\n"), written(f"{room}/bad.feed", b"5 RUPT 11\n")
-    ran = lambda *files: subprocess.run([program, "check", *files], capture_output=True, timeout=60)
+    ran = lambda *files: subprocess.run([program, "check", *files], capture_output=True, timeout=300)
     of_source = f"{source}:1:5: error E17: no line defines FIV\n    1 |  TC FIV\n      |     ^^^\n"
     of_feed = f"{bad}:1:8: error E30: 11 is no interrupt, which are 1 to 10\n    1 | 5 RUPT 11\n      |        ^^\n"
     got = ran(source, bad, good, bad)
@@ -374,13 +374,13 @@ def check_excerpt(program, room, told):
       |     ^^^
 2 errors, 0 warnings
 """.encode()
-    got = subprocess.run([program, "check", path], capture_output=True, timeout=60)
+    got = subprocess.run([program, "check", path], capture_output=True, timeout=300)
     told("what check writes", (got.returncode, got.stdout, got.stderr) == (1, wanted, b""), f"got {got}")
 
 
 def rows_explained(program, number):
     """What is explained of a number, as E17: each mistake, the source that draws it, and its line."""
-    text = subprocess.run([program, "explain", number], capture_output=True, text=True, timeout=60).stdout
+    text = subprocess.run([program, "explain", number], capture_output=True, text=True, timeout=300).stdout
     for part in text.split("\n- ")[1:]:
         mistake, *rest = part.rstrip("\n").split("\n")
         source = [it for it in rest if it.startswith("    ") or it.startswith("  > ")]
@@ -402,7 +402,7 @@ def check_rows(program, manual, told):
     headings = re.findall(r"^\| E(\d+) \| ([^|]*) \| \d \|$", manual, re.M)
     told("the manual's refusals of images, memory and devices", sorted(int(it[0]) for it in headings) == [*range(2, 8), 34], str(headings))
     for number, meaning in headings:
-        got = subprocess.run([program, "explain", f"E{number}"], capture_output=True, text=True, timeout=60).stdout.split("\n")[0]
+        got = subprocess.run([program, "explain", f"E{number}"], capture_output=True, text=True, timeout=300).stdout.split("\n")[0]
         told(f"explain E{number} and the manual", got == f"E{number}: {meaning}", f"wanted {meaning}, got {got}")
 
 
@@ -418,7 +418,7 @@ def check_warning_rows(program, room, manual, told):
 
 
 def check_numbers(program, told):
-    ran = lambda *words: subprocess.run([program, "explain", *words], capture_output=True, timeout=60)
+    ran = lambda *words: subprocess.run([program, "explain", *words], capture_output=True, timeout=300)
     numbers = [int(it) for it in re.findall(rb"^E(\d+): .", ran().stdout, re.M)]
     told("explain lists the numbers", numbers == [*range(2, 8), *range(10, 27), *range(30, 37)], str(numbers))
     told("explain 17 is explain E17", ran("17") == ran("E17") or ran("17").stdout == ran("E17").stdout)
@@ -444,7 +444,7 @@ def check_agreement(program, room, told, count=400, seed="agreement"):
     for text in sources(count, seed):
         with open(path, "wb") as file:
             file.write(text)
-        fault = FAULT.match(subprocess.run([program, "asm", path, "/dev/null"], capture_output=True, timeout=60).stderr)
+        fault = FAULT.match(subprocess.run([program, "asm", path, "/dev/null"], capture_output=True, timeout=300).stderr)
         status, found, _, _ = told_by(program, path)
         refused += bool(fault)
         if status != int(bool(fault)) or bool(found) != bool(fault) or fault and (int(fault[2]), int(fault[1])) not in {(it[0], it[2]) for it in found}:

@@ -7,7 +7,7 @@ END = ["INPUT", "ENTRY", "BRUPT", "TOTAL"]
 
 
 def lines_of(program, *words):
-    return subprocess.run([program, *words], capture_output=True, text=True, timeout=60).stdout.splitlines()
+    return subprocess.run([program, *words], capture_output=True, text=True, timeout=300).stdout.splitlines()
 
 
 def traced(program, files):

@@ -33,7 +33,7 @@ class Rows:
 
     def ran(self, *words, commands=""):
         """The status of the program, its output and its error output."""
-        ran = subprocess.run([self.program, *words], input=commands.encode(), capture_output=True, timeout=60)
+        ran = subprocess.run([self.program, *words], input=commands.encode(), capture_output=True, timeout=300)
         return ran.returncode, ran.stdout.decode(), ran.stderr.decode()
 
     def session(self, commands):
@@ -94,7 +94,7 @@ class RowsInAVector(Rows):
 
     def session(self, commands):
         parts = [read(self.source), read(self.feed), "".join(f"{it}\n" for it in commands).encode()]
-        ran = subprocess.run([self.program], input=b"---\n".join(parts), capture_output=True, timeout=60)
+        ran = subprocess.run([self.program], input=b"---\n".join(parts), capture_output=True, timeout=300)
         return ran.returncode, ran.stdout.decode().partition("DONE\n")[2], ran.stderr.decode()
 
 

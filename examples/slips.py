@@ -45,7 +45,7 @@ TAKE_ALL = ("COUNT", "COUNT*", "BNKSUM", "SUBRO", "MEMORY")
 
 def errors_of(program, path, flight):
     words = [program, "check", *(["--flight"] if flight else []), path]
-    text = subprocess.run(words, capture_output=True, text=True, timeout=60).stdout
+    text = subprocess.run(words, capture_output=True, text=True, timeout=300).stdout
     return [tuple(map(int, it)) for it in re.findall(rf"^{re.escape(path)}:(\d+):(\d+): error E(\d+):", text, re.M)]
 
 

@@ -15,7 +15,7 @@ def replies(program, files, commands):
 
 def symbols_of(program, source):
     """The symbols that stand for places, each with the erasable place or the address of the fixed one."""
-    listing = subprocess.run([program, "asm", source, "/dev/null"], capture_output=True, text=True, timeout=60).stdout
+    listing = subprocess.run([program, "asm", source, "/dev/null"], capture_output=True, text=True, timeout=300).stdout
     found = {}
     for name, kind, value in re.findall(r"^(\S+) +(ERASABLE|FIXED) (\S+)$", listing.split("\nSYMBOLS ")[-1], re.M):
         if kind == "ERASABLE":
@@ -104,7 +104,7 @@ def is_right(line, before, after, symbols):
 
 def check_trace(program, told, name, files):
     """Compares the first steps of a program."""
-    text = subprocess.run([program, "trace", *files, str(STEPS)], capture_output=True, text=True, timeout=60).stdout
+    text = subprocess.run([program, "trace", *files, str(STEPS)], capture_output=True, text=True, timeout=300).stdout
     lines = [Line(it) for it in text.splitlines()]
     symbols, steps = symbols_of(program, files[0]), steps_of(program, files)
     wrong = [it for it, before, after in zip(lines, steps, steps[1:]) if not is_right(it, before, after, symbols)]

@@ -377,19 +377,19 @@ def outputs_that_fail(writing):
     """A full device, a pipe that is closed, and outputs that are closed from the beginning. The session comes last in each."""
     with open("/dev/full", "wb") as full:
         for words in writing:
-            ran = subprocess.run([PROGRAM, *words], input=b"run 100\n", stdout=full, stderr=subprocess.PIPE, timeout=60)
+            ran = subprocess.run([PROGRAM, *words], input=b"run 100\n", stdout=full, stderr=subprocess.PIPE, timeout=300)
             told(f"devices: {name_of(words)}, on a full device", (ran.returncode, ran.stderr) == (3, E7), f"{ran.returncode} {ran.stderr!r}")
-            ran = subprocess.run([PROGRAM, *words], input=b"run 100\n", stdout=subprocess.DEVNULL, stderr=subprocess.PIPE, timeout=60, preexec_fn=lambda: os.close(1))
+            ran = subprocess.run([PROGRAM, *words], input=b"run 100\n", stdout=subprocess.DEVNULL, stderr=subprocess.PIPE, timeout=300, preexec_fn=lambda: os.close(1))
             told(f"devices: {name_of(words)}, with its output closed", (ran.returncode, ran.stderr) == (3, E7), f"{ran.returncode} {ran.stderr!r}")
         for words in (("run", "--end", FIVE, EMPTY, "9"), ("run", FIVE, FIVE, "9"), ("words", FIVE), ("words", "--where", FIVE), ("check", FIVE, FIVE, "/dev/zero"), ("explain", "E99"), ("trace", FIVE, EMPTY, "9", "--from=5", "--to=4"), ("run",), ("debug", FIVE, FIVE), ("debug", "--extended", FIVE, FIVE)):
             right = agcws(*words)
             for label, settings in (("full", {"stderr": full}), ("closed", {"preexec_fn": lambda: os.close(2)})):
-                ran = subprocess.run([PROGRAM, *words], stdin=subprocess.DEVNULL, stdout=subprocess.PIPE, timeout=60, **settings)
+                ran = subprocess.run([PROGRAM, *words], stdin=subprocess.DEVNULL, stdout=subprocess.PIPE, timeout=300, **settings)
                 told(f"devices: {name_of(words)}, with its error output {label}", (ran.returncode, ran.stdout) == (3, right[1]), f"{ran}")
     for words in writing:
         reader, writer = os.pipe()
         os.close(reader)
-        ran = subprocess.run([PROGRAM, *words], input=b"run 100\n", stdout=writer, stderr=subprocess.PIPE, timeout=60)
+        ran = subprocess.run([PROGRAM, *words], input=b"run 100\n", stdout=writer, stderr=subprocess.PIPE, timeout=300)
         os.close(writer)
         told(f"devices: {name_of(words)}, into a closed pipe", (ran.returncode, ran.stderr) == (3, E7), f"{ran.returncode} {ran.stderr!r}")
 
@@ -397,12 +397,12 @@ def outputs_that_fail(writing):
 def inputs_that_fail(folder, sessions):
     """Standard input that is closed ends a session at once, as an empty one does; a folder cannot be read."""
     for words in sessions:
-        answer = subprocess.run([PROGRAM, *words], stdin=None, stdout=subprocess.PIPE, stderr=subprocess.PIPE, timeout=60, preexec_fn=lambda: os.close(0))
+        answer = subprocess.run([PROGRAM, *words], stdin=None, stdout=subprocess.PIPE, stderr=subprocess.PIPE, timeout=300, preexec_fn=lambda: os.close(0))
         told(f"devices: {name_of(words)}, with its input closed", (answer.returncode, answer.stdout, answer.stderr) in ((0, b"", b""), (3, b"", E6)), f"{answer}")
-        ran = subprocess.run([PROGRAM, *words], stdin=os.open(folder, os.O_RDONLY), stdout=subprocess.PIPE, stderr=subprocess.PIPE, timeout=60)
+        ran = subprocess.run([PROGRAM, *words], stdin=os.open(folder, os.O_RDONLY), stdout=subprocess.PIPE, stderr=subprocess.PIPE, timeout=300)
         told(f"devices: {name_of(words)}, with a folder as its input", (ran.returncode, ran.stdout, ran.stderr) == (3, b"", E6), f"{ran}")
     for words in (("run", "--end", FIVE, EMPTY, "100"), ("run", FIVE, FIVE, "100"), ("--help",)):
-        answer = subprocess.run([PROGRAM, *words], stdin=None, stdout=subprocess.PIPE, stderr=subprocess.PIPE, timeout=60, preexec_fn=lambda: os.close(0))
+        answer = subprocess.run([PROGRAM, *words], stdin=None, stdout=subprocess.PIPE, stderr=subprocess.PIPE, timeout=300, preexec_fn=lambda: os.close(0))
         told(f"devices: {name_of(words)}, with its input closed", (answer.returncode, answer.stdout, answer.stderr) == agcws(*words), f"{answer}")
 
 
@@ -412,7 +412,7 @@ def no_streams(made):
     image = read(made)
     for closed in ((0, 1), (0, 2), (0, 1, 2)):
         os.remove(made)
-        ran = subprocess.run([PROGRAM, "asm", FIVE, made], stdin=None, stdout=subprocess.PIPE, stderr=subprocess.PIPE, timeout=60, preexec_fn=lambda closed=closed: [os.close(it) for it in closed])
+        ran = subprocess.run([PROGRAM, "asm", FIVE, made], stdin=None, stdout=subprocess.PIPE, stderr=subprocess.PIPE, timeout=300, preexec_fn=lambda closed=closed: [os.close(it) for it in closed])
         status, error = (3, E7 if 2 not in closed else b"") if 1 in closed else (0, b"")
         told(f"devices: asm with {closed} closed", (ran.returncode, ran.stderr) == (status, error) and read(made) == image, f"{ran} {os.path.getsize(made)} bytes")
 
@@ -452,7 +452,7 @@ def endless_inputs(made):
         answer = agcws(*words)
         told(f"devices: {name_of(words)}, which has no end", answer == (1, b"", refused(words, zeros, error)) and not os.path.exists(made), f"{answer}")
     with open(zeros, "rb") as endless:
-        ran = subprocess.run([PROGRAM, "debug", FIVE, EMPTY], stdin=endless, capture_output=True, timeout=60)
+        ran = subprocess.run([PROGRAM, "debug", FIVE, EMPTY], stdin=endless, capture_output=True, timeout=300)
     told("devices: commands without an end", (ran.returncode, ran.stdout, ran.stderr) == (0, b"E51 LONG\n", b"agcws: commands end after 16777216 bytes\n"), f"{ran.returncode} {ran.stdout[-200:]} {ran.stderr}")
 
 
@@ -480,7 +480,7 @@ def few_of_the_system(writing):
 
 
 def limited(words, limit, most):
-    ran = subprocess.run([PROGRAM, *words], stdin=subprocess.DEVNULL, capture_output=True, timeout=60, preexec_fn=lambda: resource.setrlimit(limit, (most, most)))
+    ran = subprocess.run([PROGRAM, *words], stdin=subprocess.DEVNULL, capture_output=True, timeout=300, preexec_fn=lambda: resource.setrlimit(limit, (most, most)))
     return ran.returncode, ran.stdout, ran.stderr
 
 

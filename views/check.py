@@ -121,7 +121,7 @@ def check_calls(room):
         ran.stdout.close()
         same("an output that nobody reads", ran.stderr.read(), b"")
     with open("/dev/full", "wb") as full:
-        ran = subprocess.run([f"{VIEWS}/report", *LOST, "4"], stdout=full, stderr=subprocess.PIPE, timeout=60, check=False)
+        ran = subprocess.run([f"{VIEWS}/report", *LOST, "4"], stdout=full, stderr=subprocess.PIPE, timeout=300, check=False)
         same("an output that cannot be written", (ran.returncode, ran.stderr), (3, b"report: the output: No space left on device\n"))
 
 
@@ -489,7 +489,7 @@ class Display:
     10 and 11 with six bits of the word each."""
 
     def __init__(self, port):
-        self.connection, self.words = socket.create_connection(("127.0.0.1", port), timeout=60), []
+        self.connection, self.words = socket.create_connection(("127.0.0.1", port), timeout=300), []
 
     def send(self, channel, word, mask=""):
         bits = f"{channel:08b}{word:015b}"
@@ -550,7 +550,7 @@ def check_bridge(room):
         got = third.until(0o10, 0o4001)
         told("what a new client gets", {(0o10, 0o11), (0o10, 0o4000), (0o14, 0o37776), (0o13, 0o12345)} <= {*got}, f"{got}")
         ran.send_signal(signal.SIGINT)
-        lines, said = ran.communicate(timeout=60)
+        lines, said = ran.communicate(timeout=300)
     same("the end of a bridge", ran.returncode, 0)
     told("a pulse that no counter takes", "not taken: " in said and "TIME3 PCDU: E33 COUNTER" in said, said)
     run = re.search(r"bridge: agcws (run .*)\n", said)[1].split()
@@ -813,7 +813,7 @@ def check_package():
     package = json.loads(text_at(f"{folder}/package.json"))["contributes"]
     [language], [grammar], [matcher], [debugger] = (package[it] for it in ("languages", "grammars", "problemMatchers", "debuggers"))
     adapters = [f"{VIEWS}/dap", os.path.normpath(f"{folder}/{debugger['program']}")]
-    answers = [subprocess.run([it], input=INITIALIZE, capture_output=True, timeout=60).stdout for it in adapters]
+    answers = [subprocess.run([it], input=INITIALIZE, capture_output=True, timeout=300).stdout for it in adapters]
     same("the package's debugger", (debugger["languages"], answers[1]), ([language["id"]], answers[0]))
     told("the package's debugger answers", b'"initialize"' in answers[1])
     properties = debugger["configurationAttributes"]["launch"]["properties"]

@@ -799,7 +799,7 @@ def check_hostile(room):
         client.ran.stdin.close()
         same(f"{label}, and the end", (client.ran.wait(MOST_SECONDS), client.ran.stderr.read()), (0, b""))
         client.close()
-    ran = subprocess.run([f"{VIEWS}/dap"], input=framed(b"???"), capture_output=True, timeout=60, check=False)
+    ran = subprocess.run([f"{VIEWS}/dap"], input=framed(b"???"), capture_output=True, timeout=300, check=False)
     same("no message before the first request", (ran.returncode, ran.stdout, ran.stderr), (0, b"", b"dap: a message that is no JSON is passed over\n"))
 
 
@@ -837,7 +837,7 @@ def check_emacs(room):
         print(f"dap-mode of Emacs: skipped, since it is not there: {APT}")
         return
     env = {**os.environ, "HOME": room, "AGCWS": pipe.program(), "VIEWS": VIEWS}
-    ran = subprocess.run(["emacs", "--batch", "-l", script], cwd=room, env=env, capture_output=True, text=True, errors="replace", timeout=60, check=False, stdin=subprocess.DEVNULL)
+    ran = subprocess.run(["emacs", "--batch", "-l", script], cwd=room, env=env, capture_output=True, text=True, errors="replace", timeout=300, check=False, stdin=subprocess.DEVNULL)
     shown = [it.removeprefix("## ") for it in ran.stderr.splitlines() if it.startswith("## ")]
     wanted = []
     with open(script, encoding="utf-8") as file:
