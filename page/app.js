@@ -26,6 +26,8 @@ function say(text, isBad) {
   $("said").textContent = text || "";
   $("said").title = text || "";
   $("said").classList.toggle("bad", Boolean(isBad));
+  // (a small screen has no room for it below)
+  if (text && isBad && document.body.classList.contains("to70")) banner(text);
   if (text) soon("said", 9000, () => { $("said").textContent = ""; });
 }
 function banner(text, ...buttons) {
@@ -95,7 +97,7 @@ function setPosition(p, n, cycles) {
   const size = String(p).length;
   $("position").className = size > 11 ? "longest" : size > 8 ? "longer" : size > 5 ? "long" : "";
   $("made").textContent = group(n);
-  $("clock").replaceChildren(el("span", {}, T.cycle(group(cycles))), " · ", el("span", {}, timeOf(cycles)));
+  $("clock").replaceChildren(el("span", {}, `${T.cycle(group(cycles))} ·`), " ", el("span", {}, timeOf(cycles)));
 }
 const showSteps = () => { if (S.picture) panes.steps.show(S.picture, S.names, (line) => (/#.*/.exec(line ? editor.lines[editor.shownLine(line) - 1] || "" : "") || [""])[0].slice(0, 100)); };
 
@@ -209,7 +211,7 @@ async function check() {
   showFaults(faults);
   // (beside a long line there is no room for the cure)
   const here = faults.find((it) => it.kind === "error" && it.file === "source" && it.line === editor.caretLine());
-  if (here && document.activeElement === editor.area) say(saidOf(here), true);
+  if (here && document.activeElement === editor.area && !document.body.classList.contains("to70")) say(saidOf(here), true);
 }
 const saidOf = (it) => `${it.number} ${it.text}${it.cure ? `: ${it.cure}` : ""}`;
 let allFaults = [];

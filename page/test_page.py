@@ -176,6 +176,7 @@ class Search(Workbench):
         self.wait("return document.querySelector('.why h2')")
         mended = read(f"{ROOT}/examples/lost_sum.agc").replace("        ADS     TICKS\n", "        ADS     TICKS\n        CA      KEPT\n", 1).replace("        CAF     ONE\n", "        TS      KEPT\n        CAF     ONE\n", 1).replace("TICKS   ERASE\n", "TICKS   ERASE\nKEPT    ERASE\n", 1)
         self.assertIn("KEPT", mended)
+        self.wait("return workbench.axis.survey?.kind === 'exact' && !workbench.S.isMoving")
         self.js("workbench.editor.area.focus(); workbench.editor.area.select(); document.execCommand('insertText', false, arguments[0])", mended)
         self.wait("return document.getElementById('run').textContent.startsWith('Build')")
         browser.click("#run")
