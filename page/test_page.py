@@ -460,7 +460,7 @@ def pictures(folder):
                 browser.media(prefers_color_scheme=theme)
                 for width in WIDTHS if folder else (1280,):
                     browser.size(width, {360: 740, 2560: 1300}.get(width, 800))
-                    for name, script in SCENES.items():
+                    for name, script in SCENES.items() if folder else [("lost_sum", SCENES["lost_sum"])]:
                         browser.open("about:blank")
                         browser.open(driver.url_of(page))
                         browser.wait(READY)
@@ -469,7 +469,7 @@ def pictures(folder):
                         time.sleep(0.9)
                         if folder:
                             browser.picture(f"{folder}/{name}_{width}_{theme}.png")
-                        elif name == "lost_sum":
+                        else:
                             browser.picture(f"{ROOT}/docs/pictures/workbench{'_dark' if theme == 'dark' else ''}.png")
         finally:
             browser.close()
