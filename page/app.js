@@ -26,6 +26,8 @@ function say(text, isBad) {
   $("said").textContent = text || "";
   $("said").title = text || "";
   $("said").classList.toggle("bad", Boolean(isBad));
+  // (a small screen has no room for it below)
+  if (text && isBad && document.body.classList.contains("to70")) banner(text);
   if (text) soon("said", 9000, () => { $("said").textContent = ""; });
 }
 function banner(text, ...buttons) {
@@ -56,7 +58,7 @@ const hovering = { line: (line) => toggleBreak(line), fault: explain, note: (not
 const editor = new Editor($("editor"), "source", { edited, ...hovering });
 const feed = new Editor($("feed"), "feed", { edited, fault: explain });
 const tests = new Editor($("tests"), "tests", { edited() { S.isOwn = true; keepSoon(); soon("tests", 400, readTests); } });
-const machine = new Machine($("state"), { why, seek, curve: chooseCell, lineText: (line) => editor.lines[editor.shownLine(line) - 1] });
+const machine = new Machine($("state"), { why, seek, astray: () => astray()?.step ?? null, toAstray, curve: chooseCell, lineText: (line) => editor.lines[editor.shownLine(line) - 1] });
 const chain = new Why($("why"), {
   seek, nameOf: (cell) => S.names.of(cell), isRope: (cell) => S.names.isRope(cell), more: () => why(S.chosen ?? "", (chain.asked?.count || 16) * 4),
   point(t) { axis.pointed = t; axis.draw(); editor.mark({ pointed: chain.asked?.steps[t]?.line || 0 }); },
@@ -95,7 +97,7 @@ function setPosition(p, n, cycles) {
   const size = String(p).length;
   $("position").className = size > 11 ? "longest" : size > 8 ? "longer" : size > 5 ? "long" : "";
   $("made").textContent = group(n);
-  $("clock").replaceChildren(el("span", {}, T.cycle(group(cycles))), " · ", el("span", {}, timeOf(cycles)));
+  $("clock").replaceChildren(el("span", {}, `${T.cycle(group(cycles))} ·`), " ", el("span", {}, timeOf(cycles)));
 }
 const showSteps = () => { if (S.picture) panes.steps.show(S.picture, S.names, (line) => (/#.*/.exec(line ? editor.lines[editor.shownLine(line) - 1] || "" : "") || [""])[0].slice(0, 100)); };
 
@@ -124,18 +126,19 @@ function tell(why) {
   else if (why === "stopped" && session.isStopped) say(T.stopped);
 }
 // Of many positions that are asked for while one is sought, the last counts.
-const sought = { goal: null, isBusy: false };
+const sought = { goal: null, last: 0, isBusy: false }, MOST_BY_KEYS = 1000;
 async function seek(step) {
   if (!S.isBuilt) return;
   step = Math.max(0, step);
-  if (step > S.picture.n) { await move("step", step - S.picture.p); return; }
-  axis.stand(step, S.picture.n);
-  setPosition(step, S.picture.n, axis.cyclesAt(step) ?? S.picture.cycles);
-  sought.goal = step;
+  if (step > S.picture.n + MOST_BY_KEYS) { sought.goal = null; await move("step", step - session.p); return; }
+  if (step <= S.picture.n) { axis.stand(step, S.picture.n); setPosition(step, S.picture.n, axis.cyclesAt(step) ?? S.picture.cycles); }
+  sought.goal = sought.last = step;
   if (sought.isBusy) return;
   sought.isBusy = true;
-  try { while (sought.goal !== null) { const { goal } = sought; sought.goal = null; await move("goto", goal); } } finally { sought.isBusy = false; }
+  try { while (sought.goal !== null) { const { goal } = sought; sought.goal = null; await (goal > session.n ? move("step", goal - session.p) : move("goto", goal)); } } finally { sought.isBusy = false; }
 }
+// Some steps on or back, of those that are under way already: no key that is pressed is lost.
+const by = (count) => seek((sought.isBusy ? sought.last : session.p) + count);
 async function run() {
   const steps = stepsOf($("count").value);
   if (steps === null) { $("count").focus(); say(T.howMany, true); return; }
@@ -147,10 +150,10 @@ async function run() {
   keepSoon();
 }
 const go = {
-  first: () => seek(0), last: () => seek(S.picture?.n ?? 0), back: () => move("back", 1), step: () => move("step", 1), back10: () => move("back", 10), step10: () => move("step", 10),
+  first: () => seek(0), last: () => seek(S.picture?.n ?? 0), back: () => by(-1), step: () => by(1), back10: () => by(-10), step10: () => by(10),
   over: () => move("over", 100_000_000), out: () => move("out", 100_000_000), prev: () => (S.picture?.breaks.length ? move("seek") : say(T.noBreaks)), next: () => (S.picture?.breaks.length ? move("on", 1_000_000_000) : say(T.noBreaks)),
 };
-async function stop() { await session.stop(); if (!S.isMoving) take(await session.look()); }
+async function stop() { sought.goal = null; await session.stop(); if (!S.isMoving) take(await session.look()); }
 async function pace() {
   if (S.isPacing) { await stop(); return; }
   if ((isEdited() || !S.isBuilt) && !(await build())) return;
@@ -198,11 +201,19 @@ function setFeed(text) { S.isOwn = true; feed.text = text; feed.built(); S.built
 const isEdited = () => S.isBuilt && !(editor.isBuilt && feed.text === S.builtFeed);
 function showEdited() {
   const is = isEdited() || !S.isBuilt;
-  $("edited").hidden = !is; $("edited").textContent = T.edited;
+  $("edited").hidden = !isEdited(); $("edited").textContent = T.edited;
   $("run").textContent = is ? T.build : T.run;
 }
 function edited() { S.isOwn = true; showEdited(); keepSoon(); soon("check", editor.lines.length > 20_000 ? 700 : 180, check); }
-async function check() { const faults = await session.check(editor.text, feed.text, S.flight); if (faults) showFaults(faults); }
+async function check() {
+  const faults = await session.check(editor.text, feed.text, S.flight);
+  if (!faults) return;
+  showFaults(faults);
+  // (beside a long line there is no room for the cure)
+  const here = faults.find((it) => it.kind === "error" && it.file === "source" && it.line === editor.caretLine());
+  if (here && document.activeElement === editor.area && !document.body.classList.contains("to70")) say(saidOf(here), true);
+}
+const saidOf = (it) => `${it.number} ${it.text}${it.cure ? `: ${it.cure}` : ""}`;
 let allFaults = [];
 function showFaults(faults) {
   allFaults = faults;
@@ -222,7 +233,7 @@ function nextFault() {
   const it = allFaults[faultAt];
   showFile(it.file);
   (it.file === "feed" ? feed : editor).showLine(it.line);
-  say(`${it.number} ${it.text}${it.cure ? `: ${it.cure}` : ""}`, it.kind === "error");
+  say(saidOf(it), it.kind === "error");
 }
 async function build() {
   const source = editor.text, breaks = [...editor.breaks].map((it) => editor.shownLine(it)).filter(Boolean), others = (S.picture?.breaks || []).filter((it) => !lineOfBreak(it)), wasBuilt = S.isBuilt, before = axis.survey, chosen = S.chosen;
@@ -244,6 +255,22 @@ async function build() {
   if (chosen && wasBuilt) S.again = chosen;
   showEdited();
   return true;
+}
+// Where a program cannot be built, nothing of the one before is left.
+function clear() {
+  Object.assign(S, { names: new Names([], []), picture: null, old: null, chosen: null, presses: [] });
+  listCells();
+  editor.mark({ places: S.names.rows, counts: new Map(), links: new Map(), breaks: new Set(), notes: new Map() });
+  editor.stand(0, false);
+  Object.assign(axis, { chain: [], notes: [], window: null, survey: null, ghost: null });
+  axis.whole.hidden = true;
+  axis.stand(0, 0);
+  setPosition(0, 0, 0);
+  chain.empty(); dsky.tell([]);
+  machine.picture = null;
+  for (const id of ["flags", "regs", "words", "chans"]) $(id).replaceChildren();
+  $("now").replaceChildren(el("p", { class: "says" }, T.notBuilt));
+  for (const it of ["steps", "output", "memory"]) $(`tab-${it}`).replaceChildren(el("p", { class: "empty-tab" }, T.notBuilt));
 }
 async function setBreak(line) {
   const row = S.names.rows.get(line) || [...S.names.rows.values()].filter((it) => it.line >= line).sort((a, b) => a.line - b.line)[0];
@@ -337,6 +364,17 @@ async function loadNotes() {
   editor.mark({ notes: grouped(notes.filter((it) => it.line)) });
   axis.notes = notes;
   axis.draw();
+  if (S.picture && astray()) machine.show(S.picture, S.old, S.names);
+}
+// Where the run has left the program first, as far as that is known.
+const astray = () => axis.notes.find((it) => ["ERASABLE", "NOWORD"].includes(it.kind)) || null;
+// To its last instruction before that.
+async function toAstray() {
+  const { step } = astray();
+  await seek(step - 1);
+  const last = S.picture.steps.filter((it) => it.t < step && it.line).pop();
+  if (last) await seek(last.t - 1);
+  say(T.leftProgram(group(step)), true);
 }
 
 // Tests.
@@ -370,6 +408,11 @@ async function openTest(test, result) {
   else if (wrong?.step) await seek(wrong.step);
   else await seek(steps);
   if (wrong?.place) await why(wrong.place);
+  else if (wrong && !wrong.step) {
+    // (what never comes is often lost where the run has left the program)
+    await loadNotes();
+    if (astray()) await toAstray();
+  }
 }
 
 // The tabs.
@@ -432,7 +475,7 @@ async function openDoc(doc, { id = null, isExample = false } = {}) {
     if (position != null && position !== session.p) await seek(position);
     if (asked) await why(asked);
     document.body.dataset.room = "source";
-  }
+  } else clear();
   keep();
 }
 async function openPicked(files) {
@@ -557,7 +600,12 @@ function bind() {
   $("position").addEventListener("blur", () => S.picture && setPosition(S.picture.p, S.picture.n, S.picture.cycles));
   $("cell").addEventListener("change", () => { loadSurvey(); keepSoon(); });
   for (const [list, key, work] of [[$("tabs"), "tab", showTab], [$("files"), "file", showFile]]) {
-    list.addEventListener("click", (event) => { const it = event.target.closest('[role="tab"]'); if (it) work(it.dataset[key]); });
+    list.addEventListener("click", (event) => {
+      const it = event.target.closest('[role="tab"]');
+      if (!it) return;
+      if (key === "tab") document.body.classList.toggle("unfolded", it.dataset.tab !== S.tab || !document.body.classList.contains("unfolded"));
+      work(it.dataset[key]);
+    });
     list.addEventListener("keydown", (event) => {
       const all = [...list.querySelectorAll('[role="tab"]')], at = all.indexOf(event.target), by = { ArrowRight: 1, ArrowLeft: -1 }[event.key];
       if (at < 0 || !by) return;
@@ -578,7 +626,7 @@ function bind() {
   addEventListener("drop", (event) => { event.preventDefault(); if (event.dataTransfer.files.length) openPicked(event.dataTransfer.files); });
   addEventListener("hashchange", openLink);
   addEventListener("resize", shape);
-  bindKeys({ go, run, stop, pace, seek, showTab, tabs: TABS, closeMenus, isBusy: () => S.isMoving || S.isPacing, isBuilt: () => S.isBuilt, why: () => why(S.chosen || cell()), toggleBreak: () => toggleBreak(document.activeElement === editor.area ? editor.builtLine(editor.caretLine()) : S.picture?.where.line), edit: () => { showFile("source"); editor.enter(); }, theme: () => setTheme(document.documentElement.dataset.theme === "dark" ? "light" : "dark"), lecture, save: saveSource, dsky: (event) => S.tab === "dsky" && dsky.key(event) });
+  bindKeys({ go, run, stop, pace, seek, showTab(name) { document.body.classList.add("unfolded"); showTab(name); }, tabs: TABS, closeMenus, isBusy: () => S.isMoving || S.isPacing, isBuilt: () => S.isBuilt, why: () => why(S.chosen || cell()), toggleBreak: () => toggleBreak(document.activeElement === editor.area ? editor.builtLine(editor.caretLine()) : S.picture?.where.line), edit: () => { showFile("source"); editor.enter(); }, theme: () => setTheme(document.documentElement.dataset.theme === "dark" ? "light" : "dark"), lecture, save: saveSource, dsky: (event) => S.tab === "dsky" && dsky.key(event) });
 }
 async function begin() {
   setTheme(setting.get("theme") || (matchMedia("(prefers-color-scheme: dark)").matches ? "dark" : "light"), false);

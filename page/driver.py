@@ -1,9 +1,12 @@
 """Drives a browser by WebDriver (W3C), as `chromedriver` and `WebKitWebDriver` speak it. The standard library alone."""
+import atexit
 import base64
 import contextlib
+import http.client
 import json
 import os
 import shutil
+import signal
 import socket
 import subprocess
 import tempfile
@@ -15,8 +18,18 @@ ELEMENT = "element-6066-11e4-a52e-4f735466cecf"
 KEYS = {"Enter": "\ue007", "Escape": "\ue00c", "Tab": "\ue004", "Left": "\ue012", "Right": "\ue014", "Up": "\ue013", "Down": "\ue015", "Home": "\ue011", "End": "\ue010", "F8": "\ue038", "F9": "\ue039", "Shift": "\ue008", "Control": "\ue009"}
 
 
+# What a driver says where its browser, or the page in it, has ended by itself.
+ENDS = ("invalid session id", "disconnected", "not reachable", "tab crashed", "page crash", "web view not found")
+# The most seconds of a script, of a page's loading, and of a browser's start.
+MOST_SECONDS = 300
+
+
 class Failed(Exception):
     """What the driver says where it cannot do what it is told."""
+
+
+class Gone(Failed):
+    """The browser has ended by itself."""
 
 
 def missing():
@@ -37,8 +50,9 @@ class Browser:
     def __init__(self, width=1280, height=800, scale=1, **more):
         self.room = tempfile.mkdtemp(prefix="agcws-browser-")
         self.port = free_port()
-        self.driver = subprocess.Popen(["chromedriver", f"--port={self.port}"], stdin=subprocess.DEVNULL, stdout=subprocess.DEVNULL, stderr=subprocess.DEVNULL)
-        self.session = None
+        self.driver = subprocess.Popen(["chromedriver", f"--port={self.port}"], stdin=subprocess.DEVNULL, stdout=subprocess.DEVNULL, stderr=subprocess.DEVNULL, start_new_session=True)
+        atexit.register(self.close)
+        self.session, self.has_ended = None, False
         try:
             self.begin(width, height, scale, more)
         except BaseException:
@@ -46,29 +60,34 @@ class Browser:
             raise
 
     def begin(self, width, height, scale, more):
-        words = ["--headless=new", "--no-sandbox", "--disable-gpu", "--hide-scrollbars", "--no-first-run", f"--window-size={width},{height}", f"--force-device-scale-factor={scale}", f"--user-data-dir={self.room}/profile"]
+        words = ["--headless=new", "--no-sandbox", "--disable-gpu", "--disable-dev-shm-usage", "--disable-background-networking", "--hide-scrollbars", "--no-first-run", f"--window-size={width},{height}", f"--force-device-scale-factor={scale}", f"--user-data-dir={self.room}/profile"]
         wanted = {"browserName": "chrome", "goog:chromeOptions": {"args": words, "binary": shutil.which("chromium"), "prefs": {"download.default_directory": self.room}}, "goog:loggingPrefs": {"browser": "ALL"}, **more}
-        until = time.monotonic() + 20
+        until = time.monotonic() + MOST_SECONDS
         while True:
             try:
                 made = self.ask("POST", "/session", {"capabilities": {"alwaysMatch": wanted}})
                 break
-            except (urllib.error.URLError, ConnectionError):
-                if time.monotonic() > until:
+            except Gone:
+                if self.driver.poll() is not None or time.monotonic() > until:
                     raise
                 time.sleep(0.05)
         self.session = made["sessionId"]
-        self.ask("POST", "/timeouts", {"script": 60_000, "pageLoad": 60_000})
+        self.ask("POST", "/timeouts", {"script": MOST_SECONDS * 1000, "pageLoad": MOST_SECONDS * 1000})
         self.size(width, height, scale)
 
     def ask(self, method, path, body=None):
         where = f"http://127.0.0.1:{self.port}" + (f"/session/{self.session}" if self.session else "") + path
         asked = urllib.request.Request(where, method=method, data=None if method != "POST" else json.dumps(body or {}).encode(), headers={"Content-Type": "application/json"})
         try:
-            with urllib.request.urlopen(asked, timeout=120) as told:
+            with urllib.request.urlopen(asked, timeout=2 * MOST_SECONDS) as told:
                 return json.load(told)["value"]
         except urllib.error.HTTPError as refused:
-            raise Failed(json.load(refused)["value"]["message"].split("\n")[0]) from None
+            why = json.load(refused)["value"]["message"].split("\n")[0]
+            self.has_ended |= any(it in why for it in ENDS)
+            raise (Gone if self.has_ended else Failed)(why) from None
+        except (OSError, http.client.HTTPException) as failed:
+            self.has_ended |= self.session is not None
+            raise Gone(f"the driver does not answer: {failed}") from None
 
     def open(self, url):
         self.ask("POST", "/url", {"url": url})
@@ -81,7 +100,7 @@ class Browser:
             raise Failed(told["failed"])
         return told.get("it")
 
-    def wait(self, text, seconds=20, what=None):
+    def wait(self, text, seconds=120, what=None):
         """Waits until a script of the page answers something, and returns that."""
         until = time.monotonic() + seconds
         while True:
@@ -95,11 +114,20 @@ class Browser:
     def find(self, selector):
         return self.ask("POST", "/element", {"using": "css selector", "value": selector})[ELEMENT]
 
+    def found(self, selector, method, path):
+        """Asks of what stands there now: a page draws a thing anew at any time."""
+        while True:
+            try:
+                return self.ask(method, f"/element/{self.find(selector)}/{path}")
+            except Failed as failed:
+                if "stale element" not in str(failed):
+                    raise
+
     def click(self, selector):
-        self.ask("POST", f"/element/{self.find(selector)}/click")
+        self.found(selector, "POST", "click")
 
     def text(self, selector):
-        return self.ask("GET", f"/element/{self.find(selector)}/text")
+        return self.found(selector, "GET", "text")
 
     def type(self, selector, text):
         self.ask("POST", f"/element/{self.find(selector)}/value", {"text": text})
@@ -149,8 +177,11 @@ class Browser:
                 self.ask("DELETE", "")
         except (Failed, OSError):
             pass
-        self.driver.terminate()
+        # (with all that it has started)
+        with contextlib.suppress(ProcessLookupError):
+            os.killpg(self.driver.pid, signal.SIGKILL)
         self.driver.wait()
+        atexit.unregister(self.close)
         shutil.rmtree(self.room, ignore_errors=True)
 
 

@@ -170,7 +170,7 @@ export class Editor {
     row.append(this.gutterOf(line, built), this.code(i, faults));
     const ghost = built === this.now && !faults.length && this.heard.ghost?.(this.lines[i]);
     if (ghost) row.append(el("span", { class: "ghost" }, ghost));
-    if (faults.length) row.append(el("span", { class: `told ${faults[0].kind}`, title: T.faultTitle }, `${faults[0].number} ${faults[0].text}`, faults[0].cure ? el("i", {}, faults[0].cure) : ""));
+    if (faults.length) row.append(el("span", { class: `told ${faults[0].kind}`, title: `${faults[0].text}${faults[0].cure ? `\n${faults[0].cure}` : ""}\n${T.faultTitle}` }, `${faults[0].number} ${faults[0].text}`, faults[0].cure ? el("i", {}, faults[0].cure) : ""));
     for (const note of notes.slice(0, 2)) row.append(el("button", { class: "told warning note", tabindex: -1, title: T.noteTitle, onclick: (event) => { event.stopPropagation(); this.heard.note?.(note); } }, T.noteKinds[note.kind] || note.kind, note.times > 1 ? el("i", {}, `${group(note.times)}×`) : ""));
     return row;
   }

@@ -91,11 +91,12 @@ export class Machine {
     return made;
   }
   showNext() {
-    const { picture, names, heard } = this, { where } = picture, parts = where.text ? codeOf(where.line ? this.heard.lineText(where.line) || where.text : ` ${where.text}`) : [];
+    const { picture, names, heard } = this, { where } = picture, isAstray = /^E\d,/.test(where.place) && !where.waits, text = where.text || picture.steps.find((it) => it.t === picture.p + 1)?.text || "", parts = text ? codeOf(where.line ? this.heard.lineText(where.line) || text : ` ${text}`) : [];
     const code = where.waits ? where.symbol.split(" ").slice(1).join(" ") : parts.join(" ");
-    const next = el("div", { class: "what" }, el("span", {}, code || T.nothingThere), el("small", { title: `${where.place} ${where.word}` }, where.waits ? T.waits : where.symbol ? `${T.at} ${where.symbol}` : `${where.place} ${where.word}`));
+    const next = el("div", { class: "what" }, el("span", {}, code || (isAstray ? T.erasableWord : T.nothingThere)), el("small", { title: `${where.place} ${where.word}` }, where.waits ? T.waits : where.symbol ? `${T.at} ${where.symbol}` : `${where.place} ${where.word}`));
     const lines = [next];
     if (where.interrupt) lines.push(el("button", { class: "badge", title: T.toEntry, onclick: () => heard.seek(where.interrupt.step) }, T.inSince(INTERRUPTS[where.interrupt.number] || where.interrupt.number, group(where.interrupt.step))));
+    if (isAstray) { const since = heard.astray(); lines.push(since === null ? el("div", { class: "line" }, T.astray) : el("button", { class: "badge odd", title: T.toAstray, onclick: () => heard.toAstray() }, T.astraySince(group(since)))); }
     if (where.waits) lines.push(el("div", { class: "line" }, T.nextWaits));
     const says = sentenceOf(where.waits ? code.split(" ") : parts, (name) => this.wordOf(name) ?? null);
     lines.push(el("p", { class: "says" }, says));

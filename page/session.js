@@ -100,7 +100,7 @@ function inputsOf(feed) {
 
 export class Session {
   constructor(engine, heard = {}) {
-    Object.assign(this, { engine, heard, turn: 0, last: Promise.resolve(), main: null, views: [], jobs: new Map(), number: 0 });
+    Object.assign(this, { engine, heard, turn: 0, last: Promise.resolve(), main: null, views: [], jobs: new Map(), number: 0, asked: 0 });
     this.clear();
   }
   clear() {
@@ -113,9 +113,12 @@ export class Session {
     const before = this.last;
     let done;
     this.last = new Promise((it) => { done = it; });
+    this.asked += 1;
     await before;
-    try { return await work(); } finally { done(); }
+    try { return await work(); } finally { this.asked -= 1; done(); }
   }
+  // What is made beside leaves the processor to what a person waits for.
+  async leisure(isOver) { while (this.asked && !isOver()) await new Promise((done) => { setTimeout(done, 40); }); }
   // A call beside the session. A newer one of its kind ends it; then it comes to null.
   async beside(kind, words, files = this.files, options) {
     this.jobs.get(kind)?.stop();
@@ -410,7 +413,7 @@ export class Session {
       const lines = linesOf(reply), wanted = new Set(), steps = {};
       for (const it of lines) for (const [, t] of it.matchAll(/^BY (\d+)| IN STEP (\d+)$/g)) if (t) wanted.add(Number(t));
       for (const it of lines) { const within = / IN STEP (\d+)$/.exec(it); if (within) wanted.add(Number(within[1])); }
-      const order = [...wanted].sort((a, b) => b - a), until = performance.now() + 700;
+      const order = [...wanted].sort((a, b) => b - a), until = performance.now() + 1500;
       for (let i = 0; i < order.length && performance.now() < until; i += 8) {
         const some = order.slice(i, i + 8), replies = await line.ask(...some.flatMap((t) => [`goto ${t}`, "trace 1"]));
         some.forEach((t, k) => { const told = replies[2 * k + 1]; if (/^\d/.test(told)) steps[t] = this.placed(stepOf(told.trimEnd())); });
@@ -515,6 +518,7 @@ export class Session {
     const line = this.surveyor;
     await line.ask("clear");
     while (line.n < step) {
+      await this.leisure(isOver);
       const size = Math.min(step - line.n, 1 << 22);
       await line.ask(`goto ${line.n}`, `step ${size}`);
       line.n += size;
@@ -559,6 +563,7 @@ export class Session {
     let at = from, shown = performance.now(), least = 0;
     const state = () => ({ kind: "sampled", from, to, soFar: at, cell, curve, cycles, interrupts, outputs, inputs: this.inputsNear(cycles), every: Math.round((to - from) / buckets) });
     for (let i = 1; i <= buckets; i += 1) {
+      await this.leisure(isOver);
       const goal = from + Math.floor(((to - from) * i) / buckets);
       if (this.vectors.length) {
         const [reply] = await line.ask(`on ${goal - at}`), hit = atOf(reply);

@@ -35,7 +35,7 @@ export const feedOf = (test, feed) => test.inputs.reduce((all, [cycle, text]) =>
 const say = (word) => `${word} (${decimalOf(word)})`;
 // What is wrong first, or null.
 export function judge(test, told) {
-  if (told.status) return { said: told.errors.trim() || T.refused };
+  if (told.status) return { said: [T.refused, told.errors.trim().replace(/^agcws: /, "")].filter(Boolean).join(": ") };
   const put = new Map();
   for (const it of test.wanted) {
     if (it.kind === "out") {

@@ -20,9 +20,9 @@ export const T = {
   errors: (number) => `${number} ${number === 1 ? "error" : "errors"}`, warnings: (number) => `${number} ${number === 1 ? "warning" : "warnings"}`, toFault: "To the next of them",
   faultTitle: "What it means, and its cures", noteTitle: "This has happened in the run: to the step",
   noteKinds: { QUOTIENT: "quotient does not fit", SKIP: "overflow: TS skips", NOWORD: "no word stands here", ERASABLE: "executed in erasable memory", NOHANDLER: "no handler at the vector", OTHERBANK: "another erasable bank", INSIDE: "the run ends in an interrupt", WAITING: "an interrupt waits", NOTKEPT: "a register is not kept", FIXEDBANK: "another fixed bank", BEYOND: "beyond the table", UNSET: "never set", MINUSZERO: "minus zero", NEVER: "never entered" },
-  hasFaults: "The source has errors: they are marked.", lineEdited: "The line was edited: build first (Run).", noWordBelow: "No word stands on this line or below.",
+  hasFaults: "The source has errors: they are marked.", notBuilt: "The source has errors. Once they are mended, Build & run makes a run.", lineEdited: "The line was edited: build first (Run).", noWordBelow: "No word stands on this line or below.",
   // The machine.
-  at: "at", nextWaits: "the word that RESUME brought back", waits: "waiting", nothingThere: "nothing", itsPlace: "its place",
+  at: "at", nextWaits: "the word that RESUME brought back", waits: "waiting", nothingThere: "nothing", erasableWord: "a word of erasable memory", astray: "The run has left the program.", astraySince: (t) => `left the program at step ${t}`, toAstray: "To the last instruction before that", leftProgram: (t) => `From here the run leaves the program, at step ${t}.`, itsPlace: "its place",
   inSince: (name, t) => `in ${name} since step ${t}`, toEntry: "To the step that entered it", nothingDone: "Nothing has been executed.", came: "came from", cameInput: "came from the input", cameEntry: "came from the interrupt", whyDid: "What this step did",
   flags: { EXT: "extracode: the next instruction is of the second set", INH: "interrupts are inhibited", INT: "an interrupt is served" }, askedFor: "Interrupts that are asked for", asked: (list) => `asked ${list}`,
   rooms: { source: "Source", state: "Machine", why: "Why", dock: "Views" },
