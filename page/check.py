@@ -92,22 +92,29 @@ def about(path):
 
 
 class Module:
-    """The module in a process of node, which takes call after call."""
+    """The module in a process of node, which takes call after call, one at a time."""
+
+    begun = []
 
     def __init__(self, path):
+        Module.begun.append(self)
+        self.is_free = threading.Lock()
         self.ran = subprocess.Popen(["node", COMMAND, "--calls", path], stdin=subprocess.PIPE, stdout=subprocess.PIPE)
 
     def call(self, words, folder, given=b"", most=MOST_MEMORY):
         """What the program answers in a folder: its status, its output and its error output. What the engine refuses is an error output of its own."""
         line = {"words": list(words), "folder": folder, "input": base64.b64encode(given).decode(), "most": most}
-        self.ran.stdin.write(json.dumps(line).encode() + b"\n")
-        self.ran.stdin.flush()
-        answer = json.loads(self.ran.stdout.readline())
+        # (parts of examples/check.py call side by side)
+        with self.is_free:
+            self.ran.stdin.write(json.dumps(line).encode() + b"\n")
+            self.ran.stdin.flush()
+            answer = json.loads(self.ran.stdout.readline())
         errors = base64.b64decode(answer["errors"])
         return answer["status"], base64.b64decode(answer["output"]), errors + answer["failed"].encode()
 
     def end(self):
-        self.ran.communicate()
+        self.ran.kill()
+        self.ran.wait()
 
 
 def natively(words, folder, given=b""):
@@ -179,6 +186,8 @@ def check_examples(group, module, room, _):
 
     def run_by_module(words, **how):
         """Calls the module where a part calls the program with pipes alone."""
+        if how.get("timeout"):
+            how["timeout"] = MOST_SECONDS_OF_CALL
         plain = words[0] == program and set(how) <= simple and how.get("stdout", -1) == how.get("stderr", -1) == -1
         if not plain or how.get("stdin", subprocess.DEVNULL) != subprocess.DEVNULL:
             return run(words, **how)
@@ -192,6 +201,7 @@ def check_examples(group, module, room, _):
         return made
 
     subprocess.run, examples.PROGRAM, examples.Session.waits = run_by_module, program, waits
+    examples.WAIT = examples.Session.longest = MOST_SECONDS_OF_CALL
     for name, wants in PARTS_OF_EXAMPLES[group].items():
         part = getattr(examples, name)
         with tempfile.TemporaryDirectory(dir=room) as own:
@@ -349,7 +359,6 @@ def check_memory(module, room, given):
     write(f"{folder}/mix.agc", read(f"{ROOT}/bench/mix.agc"))
     words = ["debug", "mix.agc", "/dev/null"]
     told("a session in 4 MB", own.call(words, folder, lines, 4 << 20) == natively(words, folder, lines))
-    own.end()
     check_heap(room, given)
 
 
@@ -677,6 +686,10 @@ def main():
             part = PARTS[given.parts[0]]
             part.__name__ = given.parts[0]
             tally.tried(part, given.module, room, given, most_seconds=MOST_SECONDS)
+        for it in Module.begun:
+            it.end()
+        used = [resource.getrusage(it) for it in (resource.RUSAGE_SELF, resource.RUSAGE_CHILDREN)]
+        print(f"{sum(it.ru_utime + it.ru_stime for it in used):4.0f} s of processor time", flush=True)
         return tally.end()
     if not given.module:
         import build
