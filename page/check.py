@@ -16,7 +16,7 @@ program has to be built. The parts, which run side by side:
     arithmetic    arithmetic of 128 bits by SEED
     chromium, firefox, webkit     a page from the disk in each of these browsers
 
-With --all there are more sessions and hostile inputs. What is not installed is told, with how it is had. The last line is 'N passed, M failed'.
+Without parts, documents, traces, checks and ropes are left to --all, which has more sessions and hostile inputs too. What is not installed is told, with how it is had. The last line is 'N passed, M failed'.
 """
 import argparse
 import base64
@@ -646,6 +646,10 @@ PARTS = {
 }
 
 
+# What ./check leaves out, so that it stays short.
+ONLY_WITH_ALL = {"documents", "traces", "checks", "ropes"}
+
+
 def run_part(words):
     """Runs a part in a process of its own. Returns what it said, and the seconds that it took."""
     started = time.monotonic()
@@ -703,7 +707,7 @@ def main():
     given.module = os.path.abspath(given.module)
     size = len(read(given.module))
     print(f"the module of the {'proved' if about(given.module)['proved'] else 'quick, unproved'} program, {size} bytes, by --seed {given.seed}", flush=True)
-    run_all(given, given.parts or PARTS)
+    run_all(given, given.parts or [it for it in PARTS if given.all or it not in ONLY_WITH_ALL])
     return tally.end()
 
 
