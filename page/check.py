@@ -16,7 +16,7 @@ program has to be built. The parts, which run side by side:
     arithmetic    arithmetic of 128 bits by SEED
     chromium, firefox, webkit     a page from the disk in each of these browsers
 
-With --all there are more sessions and hostile inputs. What is not installed is told, with how it is had. The last line is 'N passed, M failed'.
+Without parts, documents, traces, checks and ropes are left to --all, which has more sessions and hostile inputs too. What is not installed is told, with how it is had. The last line is 'N passed, M failed'.
 """
 import argparse
 import base64
@@ -52,8 +52,8 @@ COMMAND = f"{HERE}/module/command.js"
 # Of what a module is made beside its bitcode.
 SCRIPTS = [f"{HERE}/module/{it}" for it in ("build.py", "layer.c", "retarget.py")]
 MOST_MEMORY = 1 << 28
-# The most seconds of a part, and of a page in a browser.
-MOST_SECONDS, MOST_SECONDS_OF_PAGE = 600, 240
+# The most seconds of a part, of a page in a browser, and of a call: many times what they take, since a machine may be busy.
+MOST_SECONDS, MOST_SECONDS_OF_PAGE, MOST_SECONDS_OF_CALL = 1500, 900, 300
 
 
 # The module
@@ -92,27 +92,34 @@ def about(path):
 
 
 class Module:
-    """The module in a process of node, which takes call after call."""
+    """The module in a process of node, which takes call after call, one at a time."""
+
+    begun = []
 
     def __init__(self, path):
+        Module.begun.append(self)
+        self.is_free = threading.Lock()
         self.ran = subprocess.Popen(["node", COMMAND, "--calls", path], stdin=subprocess.PIPE, stdout=subprocess.PIPE)
 
     def call(self, words, folder, given=b"", most=MOST_MEMORY):
         """What the program answers in a folder: its status, its output and its error output. What the engine refuses is an error output of its own."""
         line = {"words": list(words), "folder": folder, "input": base64.b64encode(given).decode(), "most": most}
-        self.ran.stdin.write(json.dumps(line).encode() + b"\n")
-        self.ran.stdin.flush()
-        answer = json.loads(self.ran.stdout.readline())
+        # (parts of examples/check.py call side by side)
+        with self.is_free:
+            self.ran.stdin.write(json.dumps(line).encode() + b"\n")
+            self.ran.stdin.flush()
+            answer = json.loads(self.ran.stdout.readline())
         errors = base64.b64decode(answer["errors"])
         return answer["status"], base64.b64decode(answer["output"]), errors + answer["failed"].encode()
 
     def end(self):
-        self.ran.communicate()
+        self.ran.kill()
+        self.ran.wait()
 
 
 def natively(words, folder, given=b""):
     """What the native program answers in a folder."""
-    ran = subprocess.run([PROGRAM, *words], cwd=folder, input=given, capture_output=True, timeout=120)
+    ran = subprocess.run([PROGRAM, *words], cwd=folder, input=given, capture_output=True, timeout=MOST_SECONDS_OF_CALL)
     return ran.returncode, ran.stdout, ran.stderr
 
 
@@ -179,6 +186,8 @@ def check_examples(group, module, room, _):
 
     def run_by_module(words, **how):
         """Calls the module where a part calls the program with pipes alone."""
+        if how.get("timeout"):
+            how["timeout"] = MOST_SECONDS_OF_CALL
         plain = words[0] == program and set(how) <= simple and how.get("stdout", -1) == how.get("stderr", -1) == -1
         if not plain or how.get("stdin", subprocess.DEVNULL) != subprocess.DEVNULL:
             return run(words, **how)
@@ -192,6 +201,7 @@ def check_examples(group, module, room, _):
         return made
 
     subprocess.run, examples.PROGRAM, examples.Session.waits = run_by_module, program, waits
+    examples.WAIT = examples.Session.longest = MOST_SECONDS_OF_CALL
     for name, wants in PARTS_OF_EXAMPLES[group].items():
         part = getattr(examples, name)
         with tempfile.TemporaryDirectory(dir=room) as own:
@@ -329,7 +339,7 @@ def check_inputs(module, room, _):
     both.tell("greatest inputs")
 
 
-def check_memory(module, room, _):
+def check_memory(module, room, given):
     """With less and less memory a call answers as with all of it, or refuses by itself; and it does both."""
     import inputs
 
@@ -349,7 +359,67 @@ def check_memory(module, room, _):
     write(f"{folder}/mix.agc", read(f"{ROOT}/bench/mix.agc"))
     words = ["debug", "mix.agc", "/dev/null"]
     told("a session in 4 MB", own.call(words, folder, lines, 4 << 20) == natively(words, folder, lines))
-    own.end()
+    check_heap(room, given)
+
+
+# Takes blocks, makes them larger and smaller and gives them back, as lines say: NUMBER SIZE, where a size of 0 gives one back. Each is filled with its own bytes,
+# which are there until the end; and when all are given back, one of nearly all the memory is had without more.
+HEAP = """
+const fs = require('fs'), imports = new Proxy({}, {get: () => () => 0n});
+const it = new WebAssembly.Instance(new WebAssembly.Module(fs.readFileSync(process.argv[1])), {host: imports}).exports;
+const blocks = new Map(), ANSWER = 16n, wrong = [];
+const taken = () => {
+    const [isTaken, at] = new BigUint64Array(it.memory.buffer, Number(ANSWER), 2);
+    return isTaken && at % 16n === 0n ? Number(at) : wrong.push('refused');
+};
+const bytes = (at, size) => new Uint8Array(it.memory.buffer, at, size);
+let number = 0, most = 0, used = 0;
+for (const line of fs.readFileSync(0, 'utf8').trim().split('\\n')) {
+    const [name, size] = line.split(' ').map(Number), old = blocks.get(name), mark = ++number % 251;
+    if (old && bytes(old.at, old.size).some(byte => byte !== old.mark)) {
+        wrong.push(`changed ${name}`);
+    }
+    used += size - (old?.size ?? 0);
+    most = Math.max(most, used);
+    if (size === 0) {
+        it.rattle_dealloc(BigInt(old?.at ?? 0));
+        blocks.delete(name);
+        continue;
+    }
+    if (old) {
+        it.rattle_realloc(ANSWER, BigInt(old.at), BigInt(old.size), BigInt(size), 8n);
+    } else {
+        it.rattle_alloc(ANSWER, BigInt(size), 8n);
+    }
+    const at = taken(), kept = Math.min(old?.size ?? 0, size);
+    if (bytes(at, kept).some(byte => byte !== old.mark)) {
+        wrong.push(`moved ${name}`);
+    }
+    bytes(at, size).fill(mark);
+    blocks.set(name, {at, size, mark});
+}
+const all = it.memory.buffer.byteLength;
+[...blocks.values()].forEach(({at}) => it.rattle_dealloc(BigInt(at)));
+it.rattle_alloc(ANSWER, BigInt(all - 131072), 8n);
+taken();
+console.log(JSON.stringify({wrong: wrong.slice(0, 3), grown: it.memory.buffer.byteLength - all, share: all / most}));
+"""
+
+
+def check_heap(room, given):
+    """The heap of the layer by SEED, with blocks of all sizes."""
+    import build
+
+    if why := build.missing():
+        return print(f"the heap is not tried, since {why}")
+    chance = random.Random(f"heap {given.seed}")
+    build.layer_alone(f"{room}/layer.wasm", ["rattle_alloc", "rattle_realloc", "rattle_dealloc"])
+    sizes = lambda: chance.randrange(1, 1 << chance.randrange(1, 21 if chance.randrange(20) == 0 else 12)) if chance.randrange(3) else 0
+    lines = "".join(f"{chance.randrange(400)} {sizes()}\n" for _ in range(300000 if given.all else 30000))
+    ran = subprocess.run(["node", "-e", HEAP, f"{room}/layer.wasm"], input=lines, capture_output=True, text=True, timeout=MOST_SECONDS_OF_CALL)
+    got = json.loads(ran.stdout) if ran.returncode == 0 else {"wrong": ran.stderr[-400:]}
+    told("the heap keeps what it gives, and joins what it gets back", got["wrong"] == [] and got["grown"] == 0, f"{got}")
+    print(f"heap: {len(lines.splitlines())} rows, {got.get('share', 0):.2f} times what was taken at most at a time", flush=True)
 
 
 # Calls the functions of the layer, for lines of their arguments, and answers a line each.
@@ -385,7 +455,7 @@ def check_arithmetic(_, room, given):
         name = chance.choice([*functions])
         rows.append((name, some(128), chance.randrange(128) if "sh" in name else some(128) or 1))
     lines = "".join(f"{name} {a} {b}\n" for name, a, b in rows)
-    ran = subprocess.run(["node", "-e", ARITHMETIC, f"{room}/layer.wasm"], input=lines, capture_output=True, text=True, timeout=120)
+    ran = subprocess.run(["node", "-e", ARITHMETIC, f"{room}/layer.wasm"], input=lines, capture_output=True, text=True, timeout=MOST_SECONDS_OF_CALL)
     wanted = [functions[name](a, b) & all_ones for name, a, b in rows]
     got = [int(it) for it in ran.stdout.split()] if ran.returncode == 0 else []
     wrong = [(row, it, other) for row, it, other in zip(rows, wanted, got) if it != other]
@@ -576,6 +646,10 @@ PARTS = {
 }
 
 
+# What ./check leaves out, so that it stays short.
+ONLY_WITH_ALL = {"documents", "traces", "checks", "ropes"}
+
+
 def run_part(words):
     """Runs a part in a process of its own. Returns what it said, and the seconds that it took."""
     started = time.monotonic()
@@ -616,6 +690,10 @@ def main():
             part = PARTS[given.parts[0]]
             part.__name__ = given.parts[0]
             tally.tried(part, given.module, room, given, most_seconds=MOST_SECONDS)
+        for it in Module.begun:
+            it.end()
+        used = [resource.getrusage(it) for it in (resource.RUSAGE_SELF, resource.RUSAGE_CHILDREN)]
+        print(f"{sum(it.ru_utime + it.ru_stime for it in used):4.0f} s of processor time", flush=True)
         return tally.end()
     if not given.module:
         import build
@@ -629,7 +707,7 @@ def main():
     given.module = os.path.abspath(given.module)
     size = len(read(given.module))
     print(f"the module of the {'proved' if about(given.module)['proved'] else 'quick, unproved'} program, {size} bytes, by --seed {given.seed}", flush=True)
-    run_all(given, given.parts or PARTS)
+    run_all(given, given.parts or [it for it in PARTS if given.all or it not in ONLY_WITH_ALL])
     return tally.end()
 
 

@@ -17,7 +17,7 @@ LAYER = "-ffreestanding -nostdlib -std=c17 -Wall -Wextra -Wno-unused-parameter -
 # Of C's main alone something is called from outside, and memory comes from there, so that each run has a bound of its own.
 LINKED = f"""-mwasm64 -O2 -s --gc-sections --no-entry --export=main --import-memory --initial-memory={FIRST_PAGES * PAGE_BYTES} --max-memory={1 << 32}
     --stack-first -z stack-size={STACK_BYTES}""".split()
-# What LLVM's target for WebAssembly takes as there, and the pass that makes addresses of 32 bits.
+# What LLVM's target for WebAssembly takes as there. (Of the passes, one makes addresses of 32 bits; what that leaves over is taken away by the others.)
 FEATURES = "--enable-memory64 --enable-bulk-memory --enable-sign-ext --enable-mutable-globals --enable-nontrapping-float-to-int".split()
 # The section that says which program this is.
 NAME = b"agcws"
@@ -68,7 +68,7 @@ def module_of(bitcode, version, is_proved):
         run(clang, *TARGET, "-x", "ir", "-c", "-o", f"{room}/program.o", f"{room}/module.ll")
         run(clang, *TARGET, *LAYER, "-c", "-o", f"{room}/layer.o", f"{HERE}/layer.c")
         run(toolchain.wasm_linker(room), *LINKED, "-o", f"{room}/wide.wasm", f"{room}/program.o", f"{room}/layer.o")
-        run("wasm-opt", *FEATURES, "--memory64-lowering", "-o", f"{room}/agcws.wasm", f"{room}/wide.wasm")
+        run("wasm-opt", *FEATURES, "--memory64-lowering", "-O1", "-o", f"{room}/agcws.wasm", f"{room}/wide.wasm")
         return read(f"{room}/agcws.wasm") + said(version, is_proved)
 
 
@@ -78,4 +78,4 @@ def layer_alone(to, names):
         run(toolchain.clang(), *TARGET, *LAYER, "-c", "-o", f"{room}/layer.o", f"{HERE}/layer.c")
         words = ["-mwasm64", "--no-entry", "--stack-first", "-z", f"stack-size={PAGE_BYTES}", *(f"--export={it}" for it in names)]
         run(toolchain.wasm_linker(room), *words, "-o", f"{room}/wide.wasm", f"{room}/layer.o")
-        run("wasm-opt", *FEATURES, "--memory64-lowering", "-o", to, f"{room}/wide.wasm")
+        run("wasm-opt", *FEATURES, "--memory64-lowering", "-O1", "-o", to, f"{room}/wide.wasm")

@@ -113,34 +113,67 @@ static const u32 all_features[8] = {~0u, ~0u, ~0u, ~0u, ~0u, ~0u, ~0u, ~0u};
 
 const void *__x86_get_cpuid_feature_leaf(u32 leaf) { return all_features; }
 
-// The heap: blocks with a head of 16 bytes and room for one of some sizes, of which four lie between a power of two and
-// the next. What is given back stands in a list of its size; what no list has lies above all that was taken yet.
+// The heap, by two-level segregated fit. Its blocks lie one after the other up to its end, each with a head of 16 bytes.
+// No two that are free lie side by side, and the last is taken. Those that are free stand in lists by size: one for what
+// lies between a power of two and half as much again, and one from there to the next power.
 
 #define PAGE_BITS 16
 #define MOST_MEMORY (1ul << 32)
+#define LEAST_SIZE_BITS 5
 
-typedef struct {
-    u64 room, kind;
-} Head;
-
-typedef struct Free {
-    struct Free *next;
-} Free;
+typedef struct Block {
+    // sizes of the block before it and of it, with their heads
+    u32 size_before, size;
+    u64 is_free;
+    // of one that is free, in its list
+    struct Block *next, *previous;
+} Block;
+#define HEAD_SIZE 16
+_Static_assert(__builtin_offsetof(Block, next) == HEAD_SIZE && sizeof(Block) == 1 << LEAST_SIZE_BITS, "the least block");
 
 extern u8 __heap_base;
-static u64 top;
-static Free *free_of[128];
+// A head at the end, of no block, and the lists; a bit for each that holds any.
+static Block *end;
+static Block *lists[2 * (32 - LEAST_SIZE_BITS)];
+static u64 filled;
 
-// The size that holds so many bytes, and its number.
-static Head head_of(u64 bytes) {
-    if (bytes <= 64) {
-        u64 room = bytes ? (bytes + 15) & ~15ul : 16;
-        return (Head){room, room / 16};
+static Block *at(void *place, i64 further) { return (Block *)((u8 *)place + further); }
+
+static Block *block_after(Block *block) { return at(block, block->size); }
+
+// The size of a block for so many bytes.
+static u64 size_for(u64 bytes) { return bytes <= 16 ? 1 << LEAST_SIZE_BITS : (bytes + HEAD_SIZE + 15) & ~15ul; }
+
+// The number of the list for blocks of a size.
+static u64 list_of(u64 size) {
+    u64 bits = 63 - (u64)__builtin_clzl(size);
+    return 2 * (bits - LEAST_SIZE_BITS) + (size >> (bits - 1) & 1);
+}
+
+static void give_size(Block *block, u64 size) {
+    block->size = (u32)size;
+    block_after(block)->size_before = (u32)size;
+}
+
+static void enlist(Block *block) {
+    u64 list = list_of(block->size);
+    block->is_free = 1;
+    block->previous = 0;
+    block->next = lists[list];
+    if (block->next) block->next->previous = block;
+    lists[list] = block;
+    filled |= 1ul << list;
+}
+
+static void unlist(Block *block) {
+    u64 list = list_of(block->size);
+    block->is_free = 0;
+    if (block->next) block->next->previous = block->previous;
+    if (block->previous) {
+        block->previous->next = block->next;
+    } else if (!(lists[list] = block->next)) {
+        filled &= ~(1ul << list);
     }
-    // (bytes - 1 has its highest one at this place)
-    u64 bits = 63 - (u64)__builtin_clzl(bytes - 1), quarter = 1ul << (bits - 2);
-    u64 quarters = (bytes - 1 - (1ul << bits)) / quarter;
-    return (Head){(1ul << bits) + (quarters + 1) * quarter, 4 * bits + quarters - 16};
 }
 
 static u64 memory_size(void) { return __builtin_wasm_memory_size(0) << PAGE_BITS; }
@@ -149,34 +182,83 @@ static u64 memory_size(void) { return __builtin_wasm_memory_size(0) << PAGE_BITS
 // 32 bits, that is 2^32 - 1.
 static void grow(u64 bytes) { __builtin_wasm_memory_grow(0, (bytes + (1ul << PAGE_BITS) - 1) >> PAGE_BITS); }
 
-static u8 *fresh(u64 bytes) {
-    if (!top) top = ((u64)&__heap_base + 15) & ~15ul;
-    if (bytes > MOST_MEMORY - top) return 0;
-    u64 end = top + bytes, size = memory_size();
+// Moves the end so many bytes up, and returns whether there is memory for that.
+static i32 move_end(u64 bytes) {
+    u64 needed = (u64)end + bytes + HEAD_SIZE, size = memory_size();
+    if (needed > MOST_MEMORY) return 0;
     // (more than is needed, at first, so that this is seldom done)
-    if (end > size) grow(end - size > size / 4 ? end - size : size / 4);
-    if (end > memory_size()) grow(end - memory_size());
-    if (end > memory_size()) return 0;
-    u8 *taken = (u8 *)top;
-    top = end;
-    return taken;
+    if (needed > size) grow(needed - size > size / 4 ? needed - size : size / 4);
+    if (needed > memory_size()) grow(needed - memory_size());
+    if (needed > memory_size()) return 0;
+    end = at(end, (i64)bytes);
+    end->is_free = 0;
+    return 1;
+}
+
+static void give_back(Block *block) {
+    Block *after = block_after(block), *before = at(block, -(i64)block->size_before);
+    if (after->is_free) {
+        unlist(after);
+        give_size(block, block->size + after->size);
+    }
+    // (before the first lies none, and then that is the block itself)
+    if (before->is_free) {
+        unlist(before);
+        give_size(before, before->size + block->size);
+        block = before;
+    }
+    if (block_after(block) == end) {
+        end = block;
+        end->is_free = 0;
+    } else {
+        enlist(block);
+    }
+}
+
+// Gives back what a block has beyond a size.
+static void cut(Block *block, u64 size) {
+    u64 rest = block->size - size;
+    if (rest < sizeof(Block)) return;
+    give_size(block, size);
+    give_size(block_after(block), rest);
+    give_back(block_after(block));
+}
+
+// A free block that has a size: the first of its list, or any of a list in which all do.
+static Block *free_one(u64 size) {
+    u64 list = list_of(size);
+    if (lists[list] && lists[list]->size >= size) return lists[list];
+    u64 larger = filled & ~0ul << (list + 1);
+    return larger ? lists[__builtin_ctzl(larger)] : 0;
 }
 
 static u8 *take(u64 bytes) {
-    if (bytes > MOST_MEMORY) return 0;
-    Head head = head_of(bytes);
-    Free *given_back = free_of[head.kind];
-    if (given_back) {
-        free_of[head.kind] = given_back->next;
-        return (u8 *)given_back;
+    if (bytes > MOST_MEMORY - (1ul << PAGE_BITS)) return 0;
+    if (!end) end = at(&__heap_base, -(i64)&__heap_base & 15), move_end(0);
+    u64 size = size_for(bytes);
+    Block *block = free_one(size);
+    if (block) {
+        unlist(block);
+        cut(block, size);
+    } else {
+        block = end;
+        if (!move_end(size)) return 0;
+        give_size(block, size);
     }
-    u8 *block = fresh(sizeof head + head.room);
-    if (!block) return 0;
-    *(Head *)block = head;
-    return block + sizeof head;
+    return (u8 *)block + HEAD_SIZE;
 }
 
-static Head *head_at(u8 *bytes) { return (Head *)bytes - 1; }
+// Makes a block as large as a size, if what lies after it allows that.
+static void widen(Block *block, u64 size) {
+    Block *after = block_after(block);
+    if (size > block->size && after->is_free) {
+        unlist(after);
+        give_size(block, block->size + after->size);
+        after = block_after(block);
+    }
+    if (size > block->size && after == end && move_end(size - block->size)) give_size(block, size);
+    if (size < block->size) cut(block, size);
+}
 
 typedef struct {
     u64 is_taken;
@@ -188,24 +270,23 @@ static u8 nothing;
 static Taken taken_or_not(u8 *bytes) { return bytes ? (Taken){1, bytes} : (Taken){0, &nothing}; }
 
 Taken rattle_alloc(u64 bytes, u64 alignment) {
-    if (alignment > sizeof(Head)) __builtin_trap();
-    return taken_or_not(take(bytes ? bytes : alignment));
+    if (alignment > HEAD_SIZE) __builtin_trap();
+    return taken_or_not(take(bytes));
 }
 
 void rattle_dealloc(u8 *bytes) {
-    if (!bytes) return;
-    Free **list = &free_of[head_at(bytes)->kind];
-    ((Free *)bytes)->next = *list;
-    *list = (Free *)bytes;
+    if (bytes) give_back(at(bytes, -HEAD_SIZE));
 }
 
 Taken rattle_realloc(u8 *bytes, u64 kept, u64 wanted, u64 alignment) {
-    u64 room = head_at(bytes)->room;
-    if (wanted <= room) return taken_or_not(bytes);
+    if (wanted > MOST_MEMORY - (1ul << PAGE_BITS)) return taken_or_not(0);
+    Block *block = at(bytes, -HEAD_SIZE);
+    widen(block, size_for(wanted));
+    if (block->size >= size_for(wanted)) return taken_or_not(bytes);
     u8 *moved = take(wanted);
     if (!moved) return taken_or_not(0);
-    __builtin_memcpy(moved, bytes, room);
-    rattle_dealloc(bytes);
+    __builtin_memcpy(moved, bytes, block->size - HEAD_SIZE);
+    give_back(block);
     return taken_or_not(moved);
 }
 
