@@ -43,6 +43,7 @@ ROOT = os.path.dirname(HERE)
 EXAMPLES = f"{ROOT}/examples"
 sys.path[:0] = [f"{ROOT}/{it}" for it in ("gate", "page/module", "bench", "examples", "hostile")]
 import one_file
+import released
 import tally
 from files import read, write
 from tally import told
@@ -71,7 +72,8 @@ def pack():
 
 
 def made_module():
-    """Returns the file of the module, made of what is there."""
+    """Returns the file of the module: of the proved program's bitcode, where a build has kept that; else the release's, where it was made of these sources; else
+    the quick program's."""
     packing = pack()
     kept = packing.toolchain.bitcode(packing.program_crate())
     sources = [kept] if kept else sorted(glob.glob(f"{ROOT}/crates/*/src/**/*.rt", recursive=True))
@@ -79,16 +81,17 @@ def made_module():
     made = f"{ROOT}/out/module/{key}.wasm"
     if not os.path.exists(made):
         shutil.rmtree(os.path.dirname(made), ignore_errors=True)
+        os.makedirs(os.path.dirname(made))
+        if not kept and (given := released.current_module()):
+            return write(made, given)
         with tempfile.TemporaryDirectory(prefix="agcws-module-") as room:
-            path = packing.make_module(room, room, bool(kept))
-            os.makedirs(os.path.dirname(made))
-            shutil.copy(path, made)
+            shutil.copy(packing.make_module(room, room, bool(kept)), made)
     return made
 
 
 def about(path):
     """Returns what the file of a module says of itself."""
-    return json.loads(re.search(rb'\x05agcws(\{[^}]*\})\Z', read(path))[1])
+    return released.about(read(path))
 
 
 class Module:
