@@ -10,6 +10,7 @@ import socket
 import subprocess
 import sys
 import tempfile
+import time
 from collections import defaultdict
 from html.parser import HTMLParser
 
@@ -240,7 +241,9 @@ def check_ctrl_c(room):
     told("Ctrl-C ends a move", b"stopped" in shown and re.search(rb"step \d+, cycle \d+: TCF LOOP", shown), f"{shown!r}")
     shown = at.type(b"goto 4\n", b"TCF     LOOP")
     told("the session is kept", b"step 4, cycle 6: TCF LOOP" in shown, f"{shown!r}")
-    at.type(b"qui")
+    # (a Ctrl-C while readline takes a key would wait for the next one)
+    at.type(b"qui", b"qui")
+    time.sleep(0.5)
     told("Ctrl-C drops a line", b"(4) " in at.type(CTRL_C, b"(4) "))
     if importlib.util.find_spec("readline"):
         told("completion", b"mem FIVE" in at.type(b"mem FI\t", b"FIVE") and b"MEM 00005" in at.type(b"\n", b"MEM 00005"))
@@ -849,7 +852,7 @@ def check_readme(room):
     text = examples.text_of("views/README.md")
     for target in re.findall(r"\]\(([^)#]+)\)", text):
         told(f"views/README.md links to {target}", os.path.exists(f"{VIEWS}/{target}"))
-    for name in sorted({*os.listdir(VIEWS)} - {"README.md", "check.py", "check_dap.py"}):
+    for name in sorted({*os.listdir(VIEWS)} - {"README.md", "check.py", "check_dap.py", "web_check.py"}):
         told(f"views/README.md names {name}", f"]({name}" in text or f"](#{name}" in text)
 
 
