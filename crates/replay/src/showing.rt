@@ -7,7 +7,7 @@ ghost use Rattle.replay.specs.Images.{steps};
 ghost use Rattle.replay.specs.View.{AreOfRun};
 
 use crate::keeper::Keeper;
-use crate::stepping::make_step;
+use crate::restoring::go_on;
 use cpu::{Machine, Processor};
 
 /// A machine, and after how many steps it stands.
@@ -49,23 +49,6 @@ fn draw_near<K: Keeper>(processor: &Processor, keeper: &K, t: u64, shown: &mut S
             }
         }
         None => unreachable!(),
-    }
-}
-
-/// Makes the steps from `low` up to `high`; the machine stands at `low`.
-fn go_on(processor: &mut Processor, machine: &mut Machine, low: u64, high: u64)
-    requires order { low ≤ high }
-    requires within { high < 2 ^ 40 }
-    requires metered { processor.old.meter < 2 ^ 128 }
-    requires stands { machine.old ≡ run processor.old.scenario low }
-    ensures machine { machine.new ≡ run processor.old.scenario high }
-    ensures scenario { processor.new.scenario ≡ processor.old.scenario }
-    ensures metered { processor.new.meter < 2 ^ 128 }
-    ensures least { processor.old.meter ≤ processor.new.meter }
-    ensures most { processor.new.meter + low ≤ processor.old.meter + high }
-{
-    for _ in low..high {
-        make_step(processor, machine);
     }
 }
 

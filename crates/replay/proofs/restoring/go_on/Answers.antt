@@ -1,7 +1,7 @@
 use Rattle.std.proofs.Common.{◌∙◌, ap, arith}
 use Rattle.cpu.specs.State.{Processing}
 use Rattle.replay.proofs.SessionLemmas.{steps_on}
-use Rattle.replay.proofs.showing.go_on.Goals as goal
+use Rattle.replay.proofs.restoring.go_on.Goals as goal
 
 pub loop-preserved : goal.loop-preserved
 loop-preserved c =
