@@ -34,6 +34,7 @@ mod HoldsByLine
 mod FaultOrder
 mod LinesOfWords
 mod SurveyByLine
+mod FaultlessLines
 mod LeastTold
 mod ToldOnce
 mod Sure

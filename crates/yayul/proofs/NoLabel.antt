@@ -1,12 +1,11 @@
 -- A symbol of which is told that no line defines it is the label of no line.
-use Rattle.std.proofs.Common.{◌≡◌, ◌≢◌, ℕ, zero, suc, ◌+◌, ◌-◌, ◌*◌, ◌%◌, ◌<◌, ◌≤◌, ◌==◌, map, Bool, true, false, ◌&&◌, ◌||◌, not, cond, length, List, [], ◌∷◌, ◌++◌, take, Option, Some, None, is_some, Result, Ok, Err, refl, ap, sym, subst, ◌∙◌, arith, append_assoc}
-use Rattle.std.specs.Prelude.{All, nat_le, nat_lt, slice_get, unwrap_or, ok_or, option_and_then, if◌then◌else◌}
+use Rattle.std.proofs.Common.{◌≡◌, ℕ, zero, suc, ◌+◌, ◌-◌, ◌%◌, ◌<◌, ◌==◌, map, Bool, true, false, ◌&&◌, ◌||◌, not, cond, length, List, [], ◌∷◌, ◌++◌, take, Option, Some, None, is_some, Result, Ok, Err, refl, ap, sym, subst, ◌∙◌, arith}
+use Rattle.std.specs.Prelude.{All, nat_le, nat_lt, slice_get, unwrap_or, ok_or, option_and_then}
 use Rattle.std.specs.List.{list_any, list_all}
 use Rattle.std.specs.Option.{option_map_or}
 use Rattle.std.specs.Result.{result_err}
 use Rattle.std.proofs.lemmas.Bool.{and_parts, eq-eqb}
 use Rattle.std.proofs.lemmas.Cmp.{nat_list_eq_equiv}
-use Rattle.std.proofs.lemmas.List.{length-append}
 use Rattle.std.proofs.lemmas.List.Elements.{All-nil, All-append}
 use Rattle.std.proofs.lemmas.List.Folds.{list_any-append}
 use Rattle.std.proofs.lemmas.Option.{same_Some}
@@ -15,14 +14,13 @@ use Rattle.agc_text.specs.Tables.{same_name, value_in}
 use Rattle.words.specs.Numbers.{neg}
 use Rattle.yayul.specs.Flight.{measured, most_lines}
 use Rattle.yayul.specs.Operators.{bits_under, field_size}
-use Rattle.yayul.specs.Later.{Table, settled, waiting_kind}
+use Rattle.yayul.specs.Later.{Table, waiting_kind}
 use Rattle.yayul.specs.Layout.{LineEffect, Layout, and_then, asked, asked_here, defined, erasable_number, fault_if, fault_number, is_malformed, is_twice, location_at, moved_value, standing, statement_effect, statement_on, term_value, text_faults, value_here, value_of, valued, promised, with_promise, word_place}
-use Rattle.yayul.specs.Laws.{IsNoLabel, NamesNoLabel, UndefinedIsSure, before_line, label_on, said_on, symbol_in, symbol_of, text_of_line}
+use Rattle.yayul.specs.Laws.{IsNoLabel, NamesNoLabel, UndefinedIsSure, symbol_in, symbol_of}
 use Rattle.yayul.specs.Mended.{lacks_form, lacks_operand}
-use Rattle.yayul.specs.Survey.{Survey, content_kinds, done_line, doubt, follows, form_kinds, formless_kinds, is_among, is_bare, is_done, is_kept, is_of_label, is_one_of, finding, kept_label, kinds_on, known_after, label_passed, laid, layout_kinds, line_kinds, looked_at, names_one, noted, nowhere, operand_of, operation_on, passed_line, passed_lines, passed_over, place_of_words, rests_on_known, said_passed, settled_survey, some_stands, stands_in, taken_by, told, told_line, told_lines, unmarked, vain_kind, waits_in_vain, with_known, word_kinds}
+use Rattle.yayul.specs.Survey.{Survey, done_line, doubt, follows, form_kinds, is_among, is_bare, is_done, is_kept, is_of_label, is_one_of, finding, kept_label, kinds_on, known_after, label_passed, laid, layout_kinds, line_kinds, looked_at, names_one, noted, nowhere, operand_of, operation_on, passed_line, passed_lines, passed_over, place_of_words, rests_on_known, said_passed, settled_survey, some_stands, stands_in, taken_by, told, told_line, told_lines, unmarked, vain_kind, waits_in_vain, with_known, word_kinds}
 use Rattle.yayul.specs.Words.{accepted, address_below, address_of, addressed_word, bank_word, channel_in, complete_address, content_words, extracode_fault, extracode_of, far_address, field_of, fixed_offset, fixed_place, low_place}
 use Rattle.yayul.specs.Language.{Address, Addressed, AddressedCode, BadOperand, Bank, BankWord, Channel, Complemented, Constant, Constants, Content, Ebank, Either, Equals, Erase, Erasable, ErasablePlace, Extracode, FarAddress, FarComplement, FaultKind, Fixed, FixedAddress, FixedPlace, Gives, Label, Language, Location, LongLine, Malformed, Missing, Named, No, NotAscii, Nothing, Num, Operand, Operation, OutOfRange, Pair, Plain, Setloc, Shift, Takes, Term, TooManyLines, TwiceDefined, BadLabel, Undefined, Unknown, UnknownOperator, Value, WrongKindOfAddress, Yes}
-use Rattle.yayul.specs.declared.doubt.Doubt.{Doubt}
 use Rattle.yayul.specs.declared.doubt.Known.{Known}
 use Rattle.yayul.specs.declared.finding.Finding.{Finding}
 use Rattle.yayul.proofs.Equalled.{by_later, settled_holds}

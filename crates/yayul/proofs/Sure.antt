@@ -1,17 +1,16 @@
 -- What is told of a source is sure: it rests on no place that is not known.
-use Rattle.std.proofs.Common.{◌≡◌, ℕ, zero, suc, ◌+◌, ◌-◌, ◌<◌, ◌≤◌, ◌==◌, Bool, true, false, ◌&&◌, ◌||◌, not, cond, length, List, [], ◌∷◌, ◌++◌, map, take, Option, Some, None, Result, Ok, Err, refl, ap, sym, subst, ◌∙◌, arith, append_assoc, append-nil}
+use Rattle.std.proofs.Common.{◌≡◌, ℕ, ◌+◌, ◌-◌, ◌<◌, Bool, true, false, ◌&&◌, ◌||◌, not, cond, length, List, [], ◌∷◌, ◌++◌, map, take, Option, Some, None, Result, Ok, Err, refl, ap, sym, subst, ◌∙◌, arith, append_assoc}
 use Rattle.std.specs.Prelude.{All, IfSome, nat_lt, slice_get, unwrap_or, if◌then◌else◌}
-use Rattle.std.specs.List.{list_all, list_any, filter, find}
+use Rattle.std.specs.List.{list_all, filter, find}
 use Rattle.std.specs.Option.{option_map, option_map_or, option_or}
 use Rattle.std.proofs.lemmas.Bool.{and_parts}
-use Rattle.std.proofs.lemmas.List.{take-append-le, length-append}
+use Rattle.std.proofs.lemmas.List.{length-append}
 use Rattle.std.proofs.lemmas.List.Elements.{All-nil, All-cons, All-head, All-tail, All-append, All-push, All-weaker}
 use Rattle.yayul.specs.Layout.{LineEffect, Request, Layout, valued, value_here, defined, asked, asked_here, fault_number, word_place, after_words, statement_on, statement_effect, stands_at, width}
 use Rattle.yayul.specs.Laws.{FindingsAreSure, IsSure, before_line, is_of_own_address, is_of_place, said_on, text_of_line}
 use Rattle.yayul.specs.Mended.{lacks_operand}
-use Rattle.yayul.specs.Survey.{Survey, unmarked, operation_on, doubt, erases, counts_from_here, follows, kinds_on, is_bare, is_done, is_kept, is_one_of, is_of_label, finding, kept_label, known_after, label_lost, label_passed, laid, layout_kinds, line_at, line_kinds, named_line, noted, nowhere, passed_line, passed_lines, passed_over, rests_on_known, said_passed, settled_survey, some_stands, taken_by, taken_from, told_line, told_lines, looked_at, told, with_known, word_line}
-use Rattle.yayul.specs.Language.{Language, BankFull, CodeInErasable, Content, Equals, FaultKind, Gives, Label, Missing, Named, Malformed, Nothing, Unknown, Setloc, Bank, Erase, Ebank, Operation, OutOfRange, PlaceTaken, Location, Value, WrongKindOfAddress, NotAscii, Operand}
-use Rattle.yayul.specs.declared.doubt.Doubt.{Doubt}
+use Rattle.yayul.specs.Survey.{Survey, unmarked, operation_on, doubt, erases, counts_from_here, follows, kinds_on, is_bare, is_done, is_kept, is_one_of, is_of_label, finding, kept_label, known_after, label_passed, laid, layout_kinds, line_at, line_kinds, named_line, noted, nowhere, passed_line, passed_lines, passed_over, rests_on_known, said_passed, settled_survey, some_stands, taken_by, told_line, told_lines, looked_at, told, with_known, word_line}
+use Rattle.yayul.specs.Language.{Language, BankFull, CodeInErasable, Content, Equals, FaultKind, Gives, Label, Nothing, Unknown, Setloc, Bank, Erase, Ebank, Operation, OutOfRange, PlaceTaken, Location, Value, WrongKindOfAddress}
 use Rattle.yayul.specs.declared.doubt.Known.{Known}
 use Rattle.yayul.specs.declared.finding.Finding.{Finding}
 use Rattle.yayul.proofs.Equalled.{by_later, promise_requests}
