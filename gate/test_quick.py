@@ -87,14 +87,13 @@ def repository(room):
         "crates/workshop/wrong-bodies/two_more_adds_one.edit": "why: one\nclause: `two_more`\nfile: src/lib.rt\nold:     one_more(x) + 1\nnew:     one_more(x)\n",
         "crates/agcws/src/main.rt": PROGRAM,
         "crates/low_tests/src/lib.rt": TESTS,
-        "docs/THEOREMS.md": "| `words`: `more` (1 definitions, 2 lines) |\n",
+        "docs/THEOREMS.md": "| `words`: `more` (1 definitions, 2 lines) |\n\n[edits](TESTING.md#wrong-edits), `crates/words`, `gate/quick`, `examples/example`\n",
         "docs/MANUAL.md": "sound",
         "examples/example": "sound",
         "examples/check.py": SCRIPT,
         "views/check.py": 'print("1 passed, 0 failed")\n',
         "hostile/check.py": 'print("1 passed, 0 failed")\n',
-        # (what the page of wrong edits leads to)
-        "gate/README.md": "## Wrong edits\n",
+        "docs/TESTING.md": "## Wrong edits\n",
     }
     shutil.copytree(GATE, f"{room}/gate", ignore=shutil.ignore_patterns("test_*", "__pycache__", "*.md"))
     for path, text in files.items():
@@ -180,7 +179,7 @@ class WholeRuns(unittest.TestCase):
         write_text(f"{self.room}/{path}", text.replace(old, new))
 
     def quick(self, *wanted, counts=None, others=()):
-        """Runs quick: lines that it says and none that it doesn't, and how many things pass and fail beside the files whose words are read."""
+        """Runs quick: lines that it says and none that it doesn't, and how many things pass and fail."""
         ran = run(self.room)
         for it in wanted:
             self.assertIn(it, ran.stdout, ran.stderr)
@@ -188,7 +187,6 @@ class WholeRuns(unittest.TestCase):
             self.assertNotIn(it, ran.stdout, ran.stderr)
         if counts:
             passes, fails = counts
-            passes += int(last(run(self.room, "gate/words")).split()[0])
             self.assertEqual((last(ran), ran.returncode), (f"{passes} passed, {fails} failed", int(fails > 0)), ran.stdout + ran.stderr)
 
     def tried(self):
@@ -199,7 +197,7 @@ class WholeRuns(unittest.TestCase):
 
     def test_changes_are_found_and_nothing_else_is_done(self):
         all_new = "changed: words workshop agcws; tests to run: low_tests; the program is to be built"
-        # two edits read, their page, a row of definitions, four links and files that pages name, three crates, tests, examples, views, hostile inputs
+        # two edits read, their clauses, a row of definitions, four links and files that pages name, three crates, tests, examples, views, hostile inputs
         self.quick(all_new, "low_tests: tests passed", "not done by --quick: ", counts=(15, 0))
         nothing = "changed: no crate; tests to run: none; the program is as it was built"
         self.quick(nothing, counts=(8, 0), others=["proof passed", "examples and manual:"])
@@ -217,7 +215,7 @@ class WholeRuns(unittest.TestCase):
             ("examples/example", "sound", "other", "examples and manual: 0 passed, 1 failed"),
             ("docs/THEOREMS.md", "2 lines", "3 lines", "counts: 0 passed, 1 failed"),
             ("crates/workshop/wrong-bodies/two_more_adds_one.edit", "clause: `two_more`", "clause: `two_more`, clause `none`", "the clauses that wrong edits name: 0 passed, 1 failed"),
-            ("gate/README.md", "Wrong edits", "Edits", "links of the pages: 3 passed, 1 failed"),
+            ("docs/TESTING.md", "Wrong edits", "Edits", "links of the pages: 3 passed, 1 failed"),
             ("crates/workshop/wrong-bodies/two_more_adds_one.edit", "(x) + 1", "(x) + 9", "wrong edits, read: 1 passed, 1 failed"),
         ):
             self.put(path, old, new)
