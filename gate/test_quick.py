@@ -94,10 +94,13 @@ def repository(room):
         "views/check.py": 'print("1 passed, 0 failed")\n',
         "hostile/check.py": 'print("1 passed, 0 failed")\n',
         "docs/TESTING.md": "## Wrong edits\n",
+        "docs/ARCHITECTURE.md": "| `words` | sums | |\n| `workshop` | more sums | |\n| `agcws` | a program | |\n",
+        "docs/pictures/crates.svg": "",
     }
     shutil.copytree(GATE, f"{room}/gate", ignore=shutil.ignore_patterns("test_*", "__pycache__", "*.md"))
     for path, text in files.items():
         write_text(f"{room}/{path}", text)
+    run(room, "gate/crates_picture")
 
 
 def run(room, *words):
@@ -197,10 +200,10 @@ class WholeRuns(unittest.TestCase):
 
     def test_changes_are_found_and_nothing_else_is_done(self):
         all_new = "changed: words workshop agcws; tests to run: low_tests; the program is to be built"
-        # two edits read, their clauses, a row of definitions, four links and files that pages name, three crates, tests, examples, views, hostile inputs
-        self.quick(all_new, "low_tests: tests passed", "not done by --quick: ", counts=(15, 0))
+        # two edits read, their clauses, a row of definitions, four links and files that pages name, a picture, three crates, tests, examples, views, hostile inputs
+        self.quick(all_new, "low_tests: tests passed", "not done by --quick: ", counts=(16, 0))
         nothing = "changed: no crate; tests to run: none; the program is as it was built"
-        self.quick(nothing, counts=(8, 0), others=["proof passed", "examples and manual:"])
+        self.quick(nothing, counts=(9, 0), others=["proof passed", "examples and manual:"])
         self.assertEqual(last(run(self.room, "gate/wrong_bodies", "--all")), "1 passed, 0 failed")
         self.assertEqual(self.tried(), "0 passed, 0 failed")
         self.documents_and_examples()
@@ -215,11 +218,12 @@ class WholeRuns(unittest.TestCase):
             ("examples/example", "sound", "other", "examples and manual: 0 passed, 1 failed"),
             ("docs/THEOREMS.md", "2 lines", "3 lines", "counts: 0 passed, 1 failed"),
             ("crates/workshop/wrong-bodies/two_more_adds_one.edit", "clause: `two_more`", "clause: `two_more`, clause `none`", "the clauses that wrong edits name: 0 passed, 1 failed"),
+            ("docs/ARCHITECTURE.md", "more sums", "other", "the picture of the crates: 0 passed, 1 failed"),
             ("docs/TESTING.md", "Wrong edits", "Edits", "links of the pages: 3 passed, 1 failed"),
             ("crates/workshop/wrong-bodies/two_more_adds_one.edit", "(x) + 1", "(x) + 9", "wrong edits, read: 1 passed, 1 failed"),
         ):
             self.put(path, old, new)
-            self.quick(said, counts=(10, 1))
+            self.quick(said, counts=(11, 1))
             self.put(path, new, old)
 
     def bodies(self):
@@ -234,7 +238,7 @@ class WholeRuns(unittest.TestCase):
         self.put("crates/words/src/lib.rt", "u16::from(x) + 1", "u16::from(x) + 2")
         self.quick("fn words::one_more: no proof", "low_tests: tests LEFT")
         self.put("crates/words/src/lib.rt", "u16::from(x) + 2", "1 + u16::from(x)")
-        self.quick("changed: words; tests to run: low_tests; the program stays as it was built", "words: proof passed", "the program with its new bodies", others=["workshop: proof passed", "examples and manual:"], counts=(10, 0))
+        self.quick("changed: words; tests to run: low_tests; the program stays as it was built", "words: proof passed", "the program with its new bodies", others=["workshop: proof passed", "examples and manual:"], counts=(11, 0))
         self.assertEqual(self.tried(), "0 passed, 0 failed")
 
     def definitions(self):
