@@ -87,7 +87,7 @@ def repository(room):
         "crates/workshop/wrong-bodies/two_more_adds_one.edit": "why: one\nclause: `two_more`\nfile: src/lib.rt\nold:     one_more(x) + 1\nnew:     one_more(x)\n",
         "crates/agcws/src/main.rt": PROGRAM,
         "crates/low_tests/src/lib.rt": TESTS,
-        "docs/THEOREMS.md": "| `words`: `more` (1 definitions, 2 lines) |\n\n[edits](TESTING.md#wrong-edits), `crates/words`, `gate/quick`, `examples/example`\n",
+        "docs/THEOREMS.md": "| `words`: `more` |\n\n[edits](TESTING.md#wrong-edits), `crates/words`, `gate/quick`, `examples/example`\n",
         "docs/MANUAL.md": "sound",
         "examples/example": "sound",
         "examples/check.py": SCRIPT,
@@ -212,11 +212,11 @@ class WholeRuns(unittest.TestCase):
         self.quick("changed: no crate; tests to run: none; the program is as it was built")
 
     def documents_and_examples(self):
-        """A wrong edit of a document, of an example, of a page that counts definitions, of a heading that a link names, and of a wrong edit's text."""
+        """A wrong edit of a document, of an example, of a page that names definitions, of a heading that a link names, and of a wrong edit's text."""
         for path, old, new, said in (
             ("docs/MANUAL.md", "sound", "harmful", "examples and manual: 0 passed, 1 failed"),
             ("examples/example", "sound", "other", "examples and manual: 0 passed, 1 failed"),
-            ("docs/THEOREMS.md", "2 lines", "3 lines", "counts: 0 passed, 1 failed"),
+            ("docs/THEOREMS.md", "`more`", "`less`", "definitions that the page of theorems names: 0 passed, 1 failed"),
             ("crates/workshop/wrong-bodies/two_more_adds_one.edit", "clause: `two_more`", "clause: `two_more`, clause `none`", "the clauses that wrong edits name: 0 passed, 1 failed"),
             ("docs/ARCHITECTURE.md", "more sums", "other", "the picture of the crates: 0 passed, 1 failed"),
             ("docs/TESTING.md", "Wrong edits", "Edits", "links of the pages: 3 passed, 1 failed"),
@@ -225,6 +225,10 @@ class WholeRuns(unittest.TestCase):
             self.put(path, old, new)
             self.quick(said, counts=(11, 1))
             self.put(path, new, old)
+
+        self.assertIn("| `two_more_adds_one` | one |", run(self.room, "gate/edits_page", "workshop::two_more").stdout)
+        self.assertEqual(run(self.room, "gate/edits_page", "three_more").returncode, 1)
+        self.assertEqual(run(self.room, "gate/what_to_read", "--counts", "docs/THEOREMS.md").stdout.split(), "1 definitions 2 lines words: more".split())
 
     def bodies(self):
         """A wrong edit at the top, and at the bottom; a right one at the bottom leaves what stands on it, and its edits, as they are."""
