@@ -11,54 +11,27 @@ import subprocess
 import sys
 import tempfile
 import time
-from collections import defaultdict
-from html.parser import HTMLParser
 
 sys.dont_write_bytecode = True
 VIEWS = os.path.dirname(os.path.realpath(__file__))
 ROOT = os.path.dirname(VIEWS)
-EXAMPLES = f"{ROOT}/examples"
 # (`check` is that of examples/)
-sys.path[:1] = [EXAMPLES, f"{ROOT}/gate", VIEWS]
+sys.path[:1] = [f"{ROOT}/examples", f"{ROOT}/gate", VIEWS]
 import check as examples
-import check_dap as adapter
+import check_dap
+import check_dsky
+import check_report
+import check_shake
 import pipe
+from checking import EMPTY, EXAMPLES, LOST, call, refusal, runs, same, text_at
 from files import write
 from tally import end, is_built, told, tried
 from terminal import CTRL_C, Terminal
 from web_check import check_web
 
-EMPTY = f"{EXAMPLES}/empty.feed"
-LOST = [f"{EXAMPLES}/lost_sum.agc", f"{EXAMPLES}/lost_sum.feed"]
 UNITS_PER_CYCLE = 1_171_875
 # What a part takes, at most.
 MOST_SECONDS = 120
-
-
-def same(label, got, wanted):
-    told(label, got == wanted, f"wanted {wanted!r}, got {got!r}")
-
-
-def call(view, *words, given="", **more):
-    """Runs a view, and answers its status, its output and its error output."""
-    ran = subprocess.run([f"{VIEWS}/{view}", *words], input=given, capture_output=True, text=True, timeout=120, check=False, **more)
-    return ran.returncode, ran.stdout, ran.stderr
-
-
-def runs():
-    """The examples that are run: source, feed and steps."""
-    for line in examples.text_of("examples/runs.txt").splitlines():
-        if line and not line.startswith("#"):
-            name, feed, steps = line.split()
-            yield f"{EXAMPLES}/{name}.agc", f"{EXAMPLES}/{feed}", int(steps)
-
-
-def refusal(work):
-    """The status and the words of what is refused."""
-    try:
-        return work()
-    except pipe.Refused as refused:
-        return refused.status, str(refused)
 
 
 def check_session(room):
@@ -110,7 +83,7 @@ def check_readings(room):
 
 def check_calls(room):
     """What all views do alike: help, files that are not there, a program that is not there, an output that nobody reads."""
-    for view in ["talk", "dap", "shake", "chain", "wave", "dsky", "bridge", "report"]:
+    for view in ["talk", "dap", "shake", "chain", "wave", "dsky", "keys", "bridge", "report"]:
         status, out, err = call(view, "--help")
         told(f"{view} --help", (status, err) == (0, "") and out.startswith(f"usage: {view} "), f"{out} {err}")
     same("a feed that is not there", call("shake", LOST[0], "4", "RUPT 1", "--feed", f"{room}/none"), (3, "", f"shake: {room}/none: No such file or directory\n"))
@@ -262,45 +235,6 @@ def check_ctrl_c(room):
     same("an image", (shown[1][-1], len(shown[2])), (">       02,4003 14003  TCF 4003", 11))
 
 
-def check_shake(room):
-    # lost_sum.agc tells by hand why a pulse at 27 leaves 75; without one the sum is 62, at 77
-    status, out, _ = call("shake", LOST[0], "200", "TIME3 PINC")
-    lines = out.splitlines()
-    told("an input that does harm", status == 1 and lines[0] == "without it: CH 012 00062" and sum(int(it.split()[0]) for it in lines[1::2]) == 77, out)
-    at = lines.index("6 of 77 cycles: CH 012 word 1 is 00075 in place of 00062")
-    same("where it does so", lines[at + 1], "  26-29 37-38")
-    wanted = "without it: CH 012 00075\n1 of 1 cycles: the same\n  60\n"
-    same("a second pulse, with a feed", call("shake", LOST[0], "200", "TIME3 PINC", "--feed", LOST[1], "--from", "60", "--to", "60", "--jobs", "1"), (0, wanted, ""))
-    # A loop without an end, and a routine that is RESUME alone: the last words of N steps come later
-    source = write(f"{room}/loop.agc", b"X EQUALS 100\n SETLOC 4000\n RELINT\nLOOP INCR X\n CA X\n EXTEND\n WRITE 10\n TCF LOOP\n SETLOC 4024\n RESUME\n")
-    status, out, _ = call("shake", source, "40", "CHAN 15 21", "--to", "30")
-    told("words that come later", (status, out.splitlines()[1:]) == (0, ["30 of 30 cycles: the same", "  1-30"]), out)
-    # A word of its own, and one that is put out before or after that of the routine
-    source = write(f"{room}/two.agc", b" SETLOC 4000\n RELINT\n CAF FIVE\n EXTEND\n WRITE 10\nDONE TCF DONE\nFIVE OCT 5\n SETLOC 4024\n EXTEND\n WRITE 11\n RESUME\n")
-    other = "without it: CH 010 00005\n6 of 6 cycles: CH 011 word 1 is 00005 in place of none\n  1-6\n"
-    status, out, _ = call("shake", source, "50", "CHAN 15 21", "--channel", "10")
-    told("one channel alone", (status, out.splitlines()[-2:]) == (0, ["6 of 6 cycles: the same", "  1-6"]), out)
-    status, out, _ = call("shake", source, "50", "CHAN 15 21", "--from", "4")
-    same("words of the routine", (status, out), (0, other.replace("6 of 6", "3 of 3").replace("1-6", "4-6")))
-    status, out, _ = call("shake", source, "50", "RUPT 2", "--from", "2", "--to", "2")
-    same("a routine that is not there", (status, out.splitlines()[1]), (0, "1 of 1 cycles: CH 010 word 1 is none in place of 00005"))
-    status, out, _ = call("shake", f"{EXAMPLES}/five_plus_five.agc", "10", "CHAN 33 1")
-    same("up to the last word", out.splitlines()[1:], ["15 of 15 cycles: the same", "  1-15"])
-    # The input comes after the one of its cycle, and before later ones
-    source = write(f"{room}/read.agc", b" SETLOC 4000\n NOOP\n NOOP\n NOOP\n EXTEND\n READ 33\n EXTEND\n WRITE 10\n")
-    feed = write(f"{room}/read.feed", b"# 7 inputs\nEVERY 0 1 1 1 RUPT 1\n1 CHAN 33 1\n\n2 CHAN 33 3\n")
-    status, out, _ = call("shake", source, "20", "CHAN 33 2", "--feed", feed, "--to", "3")
-    wanted = "without it: CH 010 00003\n1 of 3 cycles: the same\n  1\n2 of 3 cycles: CH 010 word 1 is 00002 in place of 00003\n  2-3\n"
-    same("an input among others", (status, out), (1, wanted))
-    same("an input that is refused", call("shake", LOST[0], "200", "TIME3 MINC"), (1, "", "TIME3 MINC: agcws: E33 LINE 1\n"))
-    same("a feed that is refused", call("shake", LOST[0], "200", "RUPT 1", "--feed", LOST[0]), (1, "", "agcws: E30 LINE 4\n"))
-    silent = write(f"{room}/silent.agc", b" SETLOC 4000\nDONE TCF DONE\n")
-    same("nothing is put out", call("shake", silent, "9", "RUPT 1"), (0, "without it: nothing is put out\n9 of 9 cycles: the same\n  1-9\n", ""))
-    rope = f"{room}/shaken.rope"
-    pipe.answer("asm", silent, rope)
-    same("an image", call("shake", "--image", rope, "9", "RUPT 1"), (0, "without it: nothing is put out\n9 of 9 cycles: the same\n  1-9\n", ""))
-
-
 class Dump:
     """What a value change dump says: the first value of each signal, and its changes by cycle."""
 
@@ -397,50 +331,6 @@ def check_dumps(room):
     source = write(f"{room}/many.agc", f" SETLOC 4000\n{many}".encode())
     dump = Dump(call("wave", source, EMPTY, "192")[1])
     same("many signals", sorted(name for group, name in dump.changes if group == "cells"), [f"E0,{it:04o}" for it in range(0o100, 0o400)])
-
-
-# Words by hand, from the rows of relays and the digits that examples/relay_word.agc and decimal_digits.agc tell: PROG 06 (1011 0 10101 11100), VERB 37 and
-# NOUN 42, R1 +07093, R2 -12345 (0101 0 00011 11001, 0100 1 11011 01111, and 5 with the 6 of R3), R3 +67890, the lamps PROG (bit 9) and GIMBAL LOCK (bit 6)
-# of row 12, and COMP ACTY, KEY REL and FLASH (bits 2, 5 and 6) of channel 011.
-RELAYS = "55274 51563 44771 40025 37165 31773 24171 23557 15734 13175 05765 60440"
-PICTURE = """+--------------------------+-------------------+
-|                          | COMP ACTY    PROG |
-|              GIMBAL LOCK |                06 |
-|              PROG        | VERB FLASH   NOUN |
-| KEY REL                  | 37             42 |
-|                          |            +07093 |
-|                          |            -12345 |
-|                          |            +67890 |
-+--------------------------+-------------------+
-"""
-
-
-def check_dsky():
-    lines = [f"{100 * i} CH 010 {word}" for i, word in enumerate(RELAYS.split(), 1)] + ["85333 CH 011 00062"]
-    last = f"CYCLE 85333, 1000.0 ms\n{PICTURE}"
-    same("the last picture", call("dsky", "--last", given="\n".join(lines)), (0, last, ""))
-    status, out, _ = call("dsky", given="\n".join([*lines, *lines[:2], "85400 CH 012 77777", "AT 8 13 4003"]))
-    told("a picture for each change", status == 0 and out.count("CYCLE") == 13 and out.endswith(last), out)
-    # R2 loses its minus, R3 has plus beside minus, PROG loses a digit (1011 0 00000 10101), NOUN has relays of no digit (11010), and other lamps come
-    more = ["1 CH 010 21557", "2 CH 010 07765", "3 CH 010 54025", "4 CH 010 44772", "5 CH 010 60001", "6 CH 011 00001"]
-    _, out, _ = call("dsky", "--last", given="\n".join([*lines, *more]))
-    same("signs, digits and lamps that change", out.splitlines()[2:-1], [
-        "|                          |              PROG |",
-        "|                          |                 0 |",
-        "| ISS                      | VERB         NOUN |",
-        "|                          | 37             4? |",
-        "|                          |            +07093 |",
-        "| PRIO DISP                |             12345 |",
-        "|                          |            +67890 |",
-    ])
-    _, out, _ = call("dsky", "--last")
-    same("nothing is lit", (out.splitlines()[0], set(re.findall(r"\w+", out))), ("CYCLE 0, 0.0 ms", {"CYCLE", "0", "ms", "PROG", "VERB", "NOUN"}))
-    buffered = {name: value for name, value in os.environ.items() if name != "PYTHONUNBUFFERED"}
-    with subprocess.Popen([f"{VIEWS}/dsky"], stdin=subprocess.PIPE, stdout=subprocess.PIPE, env=buffered) as ran:
-        ran.stdin.write(b"1 CH 010 55274\n")
-        ran.stdin.flush()
-        same("a picture comes as soon as its line", ran.stdout.readline(), b"CYCLE 1, 0.0 ms\n")
-        ran.stdin.close()
 
 
 # Puts out each word of channel 032 that is new, with that of CDUX; a key, and a word of the uplink, in their interrupts.
@@ -596,126 +486,9 @@ def check_bridge_parts(room):
     same("a session made anew", [pipe.output_of(it) for it in run], lines)
 
 
-class Page(HTMLParser):
-    """A page's cells by rows, its texts by tag, and its tags and attributes."""
-
-    def __init__(self, text):
-        super().__init__()
-        self.rows, self.texts, self.tags, self.attributes, self.open = [], defaultdict(list), set(), set(), []
-        self.is_well = True
-        self.feed(text)
-        self.close()
-        told("each tag of a page has its end", self.is_well and not self.open)
-
-    def handle_starttag(self, tag, attrs):
-        self.tags.add(tag)
-        self.attributes |= {name for name, _ in attrs}
-        if tag == "tr":
-            self.rows.append([])
-        if tag in ("td", "th"):
-            self.rows[-1].append("")
-        if tag != "meta":
-            self.open.append(tag)
-
-    def handle_startendtag(self, tag, attrs):
-        self.tags.add(tag)
-        self.attributes |= {name for name, _ in attrs}
-
-    def handle_endtag(self, tag):
-        self.is_well = self.is_well and self.open.pop() == tag
-
-    def handle_data(self, data):
-        if self.open:
-            self.texts[self.open[-1]].append(data)
-        if self.open and self.open[-1] in ("td", "th"):
-            self.rows[-1][-1] += data
-
-    def row(self, cell, at):
-        """The row that has a text in some cell."""
-        return next(it for it in self.rows if len(it) > at and it[at] == cell)
-
-
-def check_report(room):
-    status, out, err = call("report", *LOST, "22")
-    page = Page(out)
-    is_alone = not page.tags & {"script", "link", "a", "img", "iframe"} and not page.attributes & {"href", "src"} and "url(" not in out and "//" not in out
-    told("a page stands alone", (status, err) == (0, "") and is_alone, out)
-    # 22 steps by the cycles of the manual: the pulse comes after INDEX of the second turn, and TS of that turn is executed once it was brought back
-    for line, wanted in [("13", "1 1"), ("16", "1 2"), ("25", "2 4"), ("27", "2 4"), ("28", "2 4"), ("29", "1 2"), ("32", " "), ("40", " "), ("8", " ")]:
-        same(f"the account of line {line}", page.row(line, 3)[:2], wanted.split(" "))
-    same("what the other steps were", [it[:3] for it in page.rows if len(it) == 4][1:], [
-        ["words at their places", "19", "35"],
-        ["entries of interrupts", "1", "3"],
-        ["inputs", "1", "1"],
-        ["words that RESUME brought back", "1", "2"],
-        ["all", "22", "41"],
-    ])
-    same("a row of the listing", page.row("25", 3)[3:], ["25", "02,4104", "54100", "LOOP    TS      COUNT"])
-    told("the marks", any(it.startswith("27 TIME3 PINC") for it in page.texts["title"]) and "30 to 39" in page.texts["title"], f"{page.texts['title']}")
-    for source, feed, steps in runs():
-        check_sums(source, feed, str(min(steps, 6000)))
-    check_pages(room)
-
-
-def check_sums(source, feed, steps):
-    """All steps and cycles of a run stand in some account, and all lines on the page."""
-    page = Page(call("report", source, feed, steps)[1])
-    out, end_line = pipe.answer("run", "--end", source, feed, steps)
-    placed, *others, whole = [it for it in page.rows if len(it) == 4][1:]
-    rows = [it for it in page.rows if len(it) == 7 and it[0].isdigit()]
-    for at, total in ((0, end_line.split()[2]), (1, end_line.split()[4])):
-        in_rows = sum(int(it[at]) for it in rows)
-        elsewhere = sum(int(it[at + 1]) for it in others)
-        same(f"the accounts of {source}", (placed[at + 1], whole[at + 1], in_rows + elsewhere), (str(in_rows), total, int(total)))
-    texts = "".join(page.texts["pre"])
-    told(f"the lines of {source}", texts.endswith(out.rstrip("\n")), f"wanted {out!r}, got {texts!r}")
-    notes = pipe.answer("run", "--notes", source, feed, steps)[1].rstrip("\n")
-    same(f"the notes of {source}", texts[: len(texts) - len(out.rstrip("\n"))], notes)
-
-
-def check_pages(room):
-    """A page in a file, of no steps, of a source with signs that a page has, of a program that leaves its words, and of many lines."""
-    file = f"{room}/my.html"
-    same("a page in a file", call("report", *LOST, "0", "--out", file), (0, "", ""))
-    same("a page of no steps", Page(text_at(file)).row("all", 0), ["all", "0", "0", ""])
-    source = write(f"{room}/<signs>.agc", b" SETLOC 4000\n<B>&X TCF 5000 # <script>\n")
-    page = Page(call("report", source, EMPTY, "3")[1])
-    same("a source with signs that a page has", (page.row("2", 3)[6], page.texts["h1"]), ("<B>&X TCF 5000 # <script>", ["<signs>.agc over empty.feed"]))
-    same("what is executed without a word", [it[:5] for it in page.rows if len(it) == 7][-2:], [["1", "1", "", "", "E0,0000"], ["1", "1", "", "", "02,5000"]])
-    page = Page(call("report", f"{EXAMPLES}/five_plus_five.agc", EMPTY, "10000")[1])
-    same("the end of many lines", page.texts["pre"][-1].split("\n")[-2:], ["7999 CH 010 00012", ".. and 1000 more"])
-    told("as many marks as there is room for", len(page.texts["title"]) < 1000, f"{len(page.texts['title'])}")
-    wrong = write(f"{room}/wrong.agc", b" FROB 1\n")
-    same("a page of a wrong source", call("report", wrong, EMPTY, "3"), (1, "", "agcws: E15 LINE 1\n"))
-
-
-def check_notes(room):
-    """What a program with further answers tells stands on the page, and in talk where a source is refused."""
-    other = write(f"{room}/other", f"""#!/bin/sh
-case "$1 $2" in
-    "--help ") echo "  check    Tells all faults" ;;
-    "run --help") echo "      --notes  Tells what no one meant" ;;
-    "run --notes") echo "NOTE <1>" >&2 ;;
-    "check "*) echo "$2:1:2: error E15: FROB is no operator"; exit 1 ;;
-    *) exec "{examples.PROGRAM}" "$@" ;;
-esac
-""".encode())
-    os.chmod(other, 0o755)
-    env = {**os.environ, "AGCWS": other}
-    page = Page(call("report", *LOST, "22", env=env)[1])
-    same("notes on a page", "".join(page.texts["pre"]), f"{LOST[0]}:1:2: error E15: FROB is no operator\nNOTE <1>")
-    wrong = write(f"{room}/wrong.agc", b" FROB 1\n")
-    same("a refused source in words", call("talk", wrong, EMPTY, env=env), (1, "", f"agcws: E15 LINE 1\n{wrong}:1:2: error E15: FROB is no operator\n"))
-
-
 # The groups of operators, as the grammar and the editors' files name them.
 GROUPS = ["directive", "constant", "instruction", "extracode"]
 EDITORS = f"{VIEWS}/editors"
-
-
-def text_at(path):
-    with open(path, encoding="utf-8") as file:
-        return file.read()
 
 
 def operators_of_manual():
@@ -852,7 +625,7 @@ def check_readme(room):
     text = examples.text_of("views/README.md")
     for target in re.findall(r"\]\(([^)#]+)\)", text):
         told(f"views/README.md links to {target}", os.path.exists(f"{VIEWS}/{target}"))
-    for name in sorted({*os.listdir(VIEWS)} - {"README.md", "check.py", "check_dap.py", "web_check.py"}):
+    for name in sorted(it for it in os.listdir(VIEWS) if it not in ("README.md", "web_check.py", "__pycache__") and not it.startswith("check")):
         told(f"views/README.md names {name}", f"]({name}" in text or f"](#{name}" in text)
 
 
@@ -866,21 +639,21 @@ def main():
             check_calls,
             check_talk,
             check_watches,
-            *adapter.PARTS,
-            check_shake,
+            *check_dap.PARTS,
+            *check_dsky.PARTS,
+            *check_shake.PARTS,
             check_chain,
             check_wave,
             check_bridge,
             check_bridge_parts,
-            check_report,
-            check_notes,
+            *check_report.PARTS,
             check_operators,
             check_faults,
             check_web,
             check_readme,
         ):
             tried(part, room, most_seconds=MOST_SECONDS)
-    for part in (check_dsky, check_grammar, check_package):
+    for part in (check_grammar, check_package):
         tried(part, most_seconds=MOST_SECONDS)
     return end()
 

@@ -1,0 +1,88 @@
+"""What the tests of the views share."""
+import os
+import subprocess
+from collections import defaultdict
+from html.parser import HTMLParser
+
+import check as examples
+import pipe
+from tally import told
+
+VIEWS = os.path.dirname(os.path.realpath(__file__))
+EXAMPLES = f"{os.path.dirname(VIEWS)}/examples"
+EMPTY = f"{EXAMPLES}/empty.feed"
+LOST = [f"{EXAMPLES}/lost_sum.agc", f"{EXAMPLES}/lost_sum.feed"]
+
+
+def same(label, got, wanted):
+    told(label, got == wanted, f"wanted {wanted!r}, got {got!r}")
+
+
+def call(view, *words, given="", **more):
+    """Runs a view, and answers its status, its output and its error output."""
+    ran = subprocess.run([f"{VIEWS}/{view}", *words], input=given, capture_output=True, text=True, timeout=120, check=False, **more)
+    return ran.returncode, ran.stdout, ran.stderr
+
+
+def runs():
+    """The examples that are run: source, feed and steps."""
+    for line in examples.text_of("examples/runs.txt").splitlines():
+        if line and not line.startswith("#"):
+            name, feed, steps = line.split()
+            yield f"{EXAMPLES}/{name}.agc", f"{EXAMPLES}/{feed}", int(steps)
+
+
+def refusal(work):
+    """The status and the words of what is refused."""
+    try:
+        return work()
+    except pipe.Refused as refused:
+        return refused.status, str(refused)
+
+
+def text_at(path):
+    with open(path, encoding="utf-8") as file:
+        return file.read()
+
+
+class Page(HTMLParser):
+    """A page's cells by rows, its texts by tag, all that stands within a tag, and its tags and attributes."""
+
+    def __init__(self, text):
+        super().__init__()
+        self.rows, self.texts, self.inside, self.tags, self.attributes, self.open = [], defaultdict(list), defaultdict(str), set(), set(), []
+        self.is_well, self.targets, self.links = True, set(), []
+        self.feed(text)
+        self.close()
+        told("each tag of a page has its end", self.is_well and not self.open)
+
+    def handle_starttag(self, tag, attrs):
+        self.tags.add(tag)
+        self.attributes |= {name for name, _ in attrs}
+        self.targets |= {value for name, value in attrs if name == "id"}
+        self.links += [value for name, value in attrs if name == "href"]
+        if tag == "tr":
+            self.rows.append([])
+        if tag in ("td", "th"):
+            self.rows[-1].append("")
+        if tag not in ("meta", "br"):
+            self.open.append(tag)
+
+    def handle_startendtag(self, tag, attrs):
+        self.tags.add(tag)
+        self.attributes |= {name for name, _ in attrs}
+
+    def handle_endtag(self, tag):
+        self.is_well = self.is_well and self.open.pop() == tag
+
+    def handle_data(self, data):
+        if self.open:
+            self.texts[self.open[-1]].append(data)
+        for tag in {*self.open}:
+            self.inside[tag] += data
+        if {"td", "th"} & {*self.open}:
+            self.rows[-1][-1] += data
+
+    def row(self, cell, at):
+        """The row that has a text in some cell."""
+        return next(it for it in self.rows if len(it) > at and it[at] == cell)
