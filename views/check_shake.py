@@ -1,8 +1,12 @@
 """Tests of views/shake. `check.py` runs them."""
-from checking import EXAMPLES, LOST, call, same
+import os
+
+from checking import EXAMPLES, LOST, VIEWS, call, same, text_at
+import check as examples
 import pipe
 from files import write
 from tally import told
+from terminal import Terminal
 
 
 def check_shake(room):
@@ -26,11 +30,11 @@ def check_shake(room):
     status, out, _ = call("shake", source, "50", "CHAN 15 21", "--from", "4")
     same("words of the routine", (status, out), (0, other.replace("6 of 6", "3 of 3").replace("1-6", "4-6")))
     status, out, _ = call("shake", source, "50", "RUPT 2", "--from", "2", "--to", "2")
-    same("a routine that is not there", (status, out.splitlines()[1]), (0, "1 of 1 cycles: CH 010 word 1 is none in place of 00005"))
+    same("a routine that is not there", (status, out.splitlines()[1]), (1, "1 of 1 cycles: CH 010 word 1 is none in place of 00005; NOTE NOHANDLER 02,4010 ENTRY T5RUPT and 4 more"))
     status, out, _ = call("shake", f"{EXAMPLES}/five_plus_five.agc", "10", "CHAN 33 1")
     same("up to the last word", out.splitlines()[1:], ["15 of 15 cycles: the same", "  1-15"])
     # The input comes after the one of its cycle, and before later ones
-    source = write(f"{room}/read.agc", b" SETLOC 4000\n NOOP\n NOOP\n NOOP\n EXTEND\n READ 33\n EXTEND\n WRITE 10\n")
+    source = write(f"{room}/read.agc", b" SETLOC 4000\n NOOP\n NOOP\n NOOP\n EXTEND\n READ 33\n EXTEND\n WRITE 10\nDONE TCF DONE\n")
     feed = write(f"{room}/read.feed", b"# 7 inputs\nEVERY 0 1 1 1 RUPT 1\n1 CHAN 33 1\n\n2 CHAN 33 3\n")
     status, out, _ = call("shake", source, "20", "CHAN 33 2", "--feed", feed, "--to", "3")
     wanted = "without it: CH 010 00003\n1 of 3 cycles: the same\n  1\n2 of 3 cycles: CH 010 word 1 is 00002 in place of 00003\n  2-3\n"
@@ -44,4 +48,91 @@ def check_shake(room):
     same("an image", call("shake", "--image", rope, "9", "RUPT 1"), (0, "without it: nothing is put out\n9 of 9 cycles: the same\n  1-9\n", ""))
 
 
-PARTS = [check_shake]
+# The handler leaves 0 in Q. By hand: WRITE ends at 6, and then TC SUB, two NOOP, TC 2, the word at Q and TCF LOOP take a cycle each. A pulse at 7, 8 and 9 comes
+# between TC SUB and TC 2, which then leads to the word 0 at Q, and so to the one at A, for ever.
+DIES = b""" SETLOC 4000
+ RELINT
+ CAF FIVE
+ EXTEND
+ WRITE 10
+LOOP TC SUB
+ TCF LOOP
+SUB NOOP
+ NOOP
+ TC 2
+FIVE OCT 5
+ZERO OCT 0
+ SETLOC 4024
+ CAF ZERO
+ TS 2
+ RESUME
+"""
+# Puts out X in the handler, which has A from it. By hand: RELINT ends at 1, CAF at 3, TS at 5: before that X is 0, and A too where the handler comes behind CAF.
+ANSWERS = b""" SETLOC 100
+X ERASE
+ SETLOC 4000
+ RELINT
+ CAF FIVE
+ TS X
+DONE TCF DONE
+FIVE OCT 5
+ SETLOC 4024
+ CA X
+ EXTEND
+ WRITE 10
+ RESUME
+"""
+
+
+def check_notes_of_runs(room):
+    """A program that dies without another word is not the same; a run that ends within an interrupt is, where a longer one does not."""
+    source = write(f"{room}/dies.agc", DIES)
+    asked = ["shake", source, "60", "RUPT 5", "--from", "7", "--to", "12"]
+    wanted = "without it: CH 010 00005\n3 of 6 cycles: the same\n  10-12\n3 of 6 cycles: NOTE ERASABLE E0,0000 00000 TC A\n  7-9\n"
+    same("a program that dies", call(*asked), (1, wanted, ""))
+    same("its words alone", call(*asked, "--no-notes"), (0, "without it: CH 010 00005\n6 of 6 cycles: the same\n  7-12\n", ""))
+    # (step 9 is TS, in the midst of the handler that was entered at 10 or 11)
+    same("a run that ends within an interrupt", call("shake", source, "12", "RUPT 5", "--from", "10", "--to", "12"), (0, "without it: CH 010 00005\n3 of 3 cycles: the same\n  10-12\n", ""))
+    stays = write(f"{room}/stays.agc", b" SETLOC 4000\n RELINT\nDONE TCF DONE\n SETLOC 4024\nHERE TCF HERE\n")
+    same("a handler that does not end", call("shake", stays, "20", "RUPT 5", "--to", "2"), (1, "without it: nothing is put out\n2 of 2 cycles: NOTE INSIDE\n  1-2\n", ""))
+
+
+def check_most_often(room):
+    """Where nothing is put out without the input, most of the runs are the measure."""
+    source = write(f"{room}/answers.agc", ANSWERS)
+    wanted = "without it: nothing is put out\nmost often: CH 010 00005\n17 of 20 cycles: the same\n  4-20\n3 of 20 cycles: CH 010 word 1 is 00000 in place of 00005\n  1-3\n"
+    same("nothing is put out without the input", call("shake", source, "60", "RUPT 5", "--to", "20"), (1, wanted, ""))
+    same("no cycles", call("shake", source, "60", "RUPT 5", "--from", "3", "--to", "2"), (0, "without it: nothing is put out\n", ""))
+
+
+def check_kept(room):
+    """What is kept is not made again, also after a line that was cut short; and what is kept of something else is refused."""
+    counted, calls = f"{room}/counted", f"{room}/calls"
+    write(counted, f'#!/bin/sh\necho run >> "{calls}"\nexec "{examples.PROGRAM}" "$@"\n'.encode())
+    os.chmod(counted, 0o755)
+    env = {**os.environ, "AGCWS": counted}
+    kept = f"{room}/kept.jsonl"
+    asked = ["shake", LOST[0], "200", "TIME3 PINC", "--to", "30", "--keep", kept]
+    first = call(*asked, env=env)
+    lines, made = text_at(kept).splitlines(), len(text_at(calls).splitlines())
+    same("what is not kept", call(*asked[:-2]), first)
+    write(kept, "\n".join([*lines[:-9], lines[-9][:7]]).encode())
+    write(calls, b"")
+    same("what goes on", call(*asked, env=env), first)
+    again = len(text_at(calls).splitlines())
+    lost = sum('"cycle"' in it for it in lines[-9:])
+    same("the runs that are made again", again, made - (30 - lost))
+    write(calls, b"")
+    same("what is all kept", (call(*asked, env=env), len(text_at(calls).splitlines())), (first, again - lost))
+    other = call("shake", LOST[0], "201", *asked[3:], env=env)
+    same("what is kept of something else", other[::2], (2, f"{kept} keeps something else: the results of another source, feed, program or option\n"))
+    mine = write(f"{room}/mine.txt", b"a letter\n")
+    same("what is no such file", (call(*asked[:-1], mine)[0], text_at(mine)), (2, "a letter\n"))
+    at = Terminal(f"{VIEWS}/shake", LOST[0], "200000", "TIME3 PINC", "--to", "30", "--jobs", "1")
+    shown = at.type(b"", b"s left")
+    told("progress at a terminal", b" of 30, " in shown, f"{shown!r}")
+    at.type(b"", b"in place of")
+    same("the end at a terminal", at.end(), 1)
+
+
+PARTS = [check_shake, check_notes_of_runs, check_most_often, check_kept]

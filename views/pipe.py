@@ -52,6 +52,21 @@ def output_of(line):
     return found and Output(int(found[1]), int(found[2], 8), int(found[3], 8))
 
 
+class Note(NamedTuple):
+    """What a line of `agcws run --notes` tells: its kind, where that was (place, word and instruction, or what else is said), and the step, or 0."""
+
+    kind: str
+    where: str
+    step: int
+
+
+def note_of(line):
+    """Returns what a line tells, as `NOTE SKIP       02,4005  54101  TS SUM             STEP 10126 CYCLES 19240 TIMES 1`, or None for any other line."""
+    found = re.fullmatch(r"NOTE (\S+)(.*)", line.strip())
+    step = found and re.search(r"\bSTEP (\d+)", found[2])
+    return found and Note(found[1], " ".join(re.sub(r"\b(?:STEP|CYCLES|TIMES) \d+", "", found[2]).split()), int(step[1]) if step else 0)
+
+
 class Step(NamedTuple):
     """A line of `agcws trace`: numbers in decimal, the rest as it is written. What was written is pairs of a place's name and the word there."""
 
