@@ -1,5 +1,6 @@
 """Tests of views/report. `check.py` runs them."""
 import os
+import re
 
 from checking import EMPTY, EXAMPLES, LOST, Page, call, runs, same, text_at
 import check as examples
@@ -11,8 +12,8 @@ from tally import told
 def check_report(room):
     status, out, err = call("report", *LOST, "22")
     page = Page(out)
-    is_alone = not page.tags & {"script", "link", "a", "img", "iframe"} and not page.attributes & {"href", "src"} and "url(" not in out and "//" not in out
-    told("a page stands alone", (status, err) == (0, "") and is_alone, out)
+    is_alone = not page.tags & {"script", "link", "img", "iframe"} and "src" not in page.attributes and "url(" not in out and "//" not in out
+    told("a page stands alone", (status, err) == (0, "") and is_alone and {it[1:] for it in page.links} <= page.targets, out)
     # 22 steps by the cycles of the manual: the pulse comes after INDEX of the second turn, and TS of that turn is executed once it was brought back
     for line, wanted in [("13", "1 1"), ("16", "1 2"), ("25", "2 4"), ("27", "2 4"), ("28", "2 4"), ("29", "1 2"), ("32", " "), ("40", " "), ("8", " ")]:
         same(f"the account of line {line}", page.row(line, 3)[:2], wanted.split(" "))
@@ -40,7 +41,7 @@ def check_sums(source, feed, steps):
         in_rows = sum(int(it[at]) for it in rows)
         elsewhere = sum(int(it[at + 1]) for it in others)
         same(f"the accounts of {source}", (placed[at + 1], whole[at + 1], in_rows + elsewhere), (str(in_rows), total, int(total)))
-    texts = "".join(page.texts["pre"])
+    texts = page.inside["pre"]
     told(f"the lines of {source}", texts.endswith(out.rstrip("\n")), f"wanted {out!r}, got {texts!r}")
     notes = pipe.answer("run", "--notes", source, feed, steps)[1].rstrip("\n")
     same(f"the notes of {source}", texts[: len(texts) - len(out.rstrip("\n"))], notes)
@@ -62,6 +63,52 @@ def check_pages(room):
     same("a page of a wrong source", call("report", wrong, EMPTY, "3"), (1, "", "agcws: E15 LINE 1\n"))
 
 
+# Counts down and puts out each count, sets a row of relays, and waits. By hand: CAF ends at 2; a round is TS 2, EXTEND 1, WRITE 2, CCS 2, TCF 1, without the TCF the
+# sixth time: the words come at 7, 15, 23, 31, 39 and 47, and 37473 at 49 + 2 + 1 + 2 = 54; then TCF DONE, at 54 for the first time, and 2967 times after 33 steps.
+COUNTS = b"""# a first line that is as long as the rules allow, so that no page has room for it in a column of its own beside others
+ SETLOC 100
+N ERASE
+ SETLOC 4000
+ CAF FIVE
+LOOP TS N
+ EXTEND
+ WRITE 11
+ CCS N
+ TCF LOOP
+ CAF ROW
+ EXTEND
+ WRITE 10
+DONE TCF DONE
+FIVE OCT 5
+ROW OCT 37473
+ CAF FIVE
+"""
+
+
+def check_waiting(room):
+    """A program that waits at its end takes no room, words close together do not stand on one another, and constants are no instructions."""
+    source = write(f"{room}/counts.agc", COUNTS)
+    out = call("report", source, EMPTY, "3000")[1]
+    page = Page(out)
+    told("the picture is cut", any(it == "waits from 0.63 ms on, up to the end at 35.40 ms" for it in page.texts["title"]), f"{page.texts['title']}")
+    times = [float(it.removesuffix(" ms")) for it in page.texts["text"] if it.endswith(" ms")]
+    same("the last time of the picture", (times[0], times[-1] < 0.9), (0, True))
+    told("words that have room", {"00005", "00000", "37473"} <= {*page.texts["text"]}, f"{page.texts['text']}")
+    same("the row that waits", page.row("14", 3)[:2], ["2967", "2967"])
+    told("its bar", 'title="2966 cycles of waiting"' in out)
+    same("bars beside one another", {it: float(width) for width, it in re.findall(r'style="width: ([0-9.]+)%"[^>]*></div>(?:<div[^>]*></div>)?</td><td id="line(\d+)"', out)}, {"5": 12.5, "6": 75, "7": 37.5, "8": 75, "9": 75, "10": 31.2, "11": 12.5, "12": 6.2, "13": 12.5, "14": 6.2})
+    told("constants are told apart", "10 of 11 instructions were executed, and 0 of 2 constants." in page.inside["p"], page.inside["p"])
+    told("words at the end", "N000000" in page.inside["div"] and "CH010" in page.inside["div"], page.inside["div"][-400:])
+    told("the display at the end", "+ 23" in page.inside["b"], page.inside["b"])
+    told("no display where none is set", "aria-label" not in call("report", *LOST, "60")[1])
+    # (24 words in 10,000 cycles have no room of their own)
+    close = write(f"{room}/close.agc", b" SETLOC 4000\n" + b" EXTEND\n WRITE 12\n" * 24 + b" TCF 4074\n SETLOC 4074\nL TCF L +1\n TCF L\n" )
+    texts = Page(call("report", close, write(f"{room}/late.feed", b"9000 CHAN 33 1\n"), "9000")[1]).texts["text"]
+    told("words that have no room", "00000 +23" in texts, f"{texts}")
+    noted = Page(call("report", write(f"{room}/noted.agc", b" SETLOC 4000\n TC 5000\n"), EMPTY, "3")[1])
+    told("notes lead to their rows", noted.links and {it[1:] for it in noted.links} <= noted.targets, f"{noted.links}")
+
+
 def check_notes(room):
     """What a program with further answers tells stands on the page, and in talk where a source is refused."""
     other = write(f"{room}/other", f"""#!/bin/sh
@@ -76,9 +123,9 @@ esac
     os.chmod(other, 0o755)
     env = {**os.environ, "AGCWS": other}
     page = Page(call("report", *LOST, "22", env=env)[1])
-    same("notes on a page", "".join(page.texts["pre"]), f"{LOST[0]}:1:2: error E15: FROB is no operator\nNOTE <1>")
+    same("notes on a page", page.inside["pre"], f"{LOST[0]}:1:2: error E15: FROB is no operator\nNOTE <1>")
     wrong = write(f"{room}/wrong.agc", b" FROB 1\n")
     same("a refused source in words", call("talk", wrong, EMPTY, env=env), (1, "", f"agcws: E15 LINE 1\n{wrong}:1:2: error E15: FROB is no operator\n"))
 
 
-PARTS = [check_report, check_notes]
+PARTS = [check_report, check_waiting, check_notes]
