@@ -76,6 +76,13 @@ SAID = [
     (" SETLOC SUX|SUX OCT 1|SUY OCT 1", [(1, 9, "E18: SETLOC needs the value of SUX here, and line 2 defines it, which is below", "")]),
     ("P EQUALS P +1|R EQUALS S|S OCT 1|S OCT 2", [(1, 10, "E18: EQUALS needs the value of P here, and no earlier line defines it", ""), (2, 10, "E18: EQUALS needs the value of S here, and line 3 defines it, which is below", ""), (4, 1, "E14: line 3 has the label S already", "")]),
     (" SETLOC SUZ|SUX OCT 1", [(1, 9, "E18: SETLOC needs the value of SUZ here, and no earlier line defines it", "did you mean SUX?")]),
+    # nothing is said to mend what it does not mend
+    (" DEC .99999| DEC -16384", [(1, 6, "E26: a fraction of a word comes to less than 1 in 14 bits, and .99999 does not", ""), (2, 6, "E26: a word holds -16383 to 16383, and -16384 is beyond", "")]),
+    (" BLOCK 50", [(1, 8, "E19: BLOCK takes 2 and 3, and 50 is neither", "")]),
+    ("12D SETLOC 4000", [(1, 1, "E13: SETLOC takes no label", "")]),
+    (" BANK 38", [(1, 7, "E16: banks are octal, and 38 has a digit 8 or 9", "")]),
+    (" CA X + 1|X OCT 1", [(1, 5, "E16: after X only an offset may stand, a sign and an octal number", "no blank stands between both")]),
+    (" " * 119 + "OCT 1", [(1, 121, "E11: the line has more than 120 bytes", "")]),
     ("\xef\xbb\xbf OCT 1", [(1, 1, "E10: a byte order mark stands in front of the line, and a line holds ASCII alone", "tail -c +4 FILE > NEW")]),
     (" OCT 1 # \xdc", [(1, 10, "E10: this byte is not ASCII, and a line holds ASCII alone, its comment too", "")]),
 ]
@@ -109,7 +116,17 @@ FORMS = [
      (2, 9, "E16: ERASE takes nothing, or a plus sign and a number: what yaYUL makes of a range is not known for sure", "ERASE reserves one word, ERASE +1 two")),
     ("$FILE.agc", (1, 1, "E13: $FILE.agc has a $, which no label may have", ""), (1, 1, "E13: $FILE.agc has a $, which no label may have", "")),
     (" AD -MAXADRS", (1, 5, "E16: -MAXADRS is no sign with a number, which stands alone and moves on from this line", "NAME +1 is the word after NAME; CS loads a complement; with --flight this is taken"),
-     (1, 5, "E17: no line defines -MAXADRS", "-MAXADRS is one name; a blank stands before an offset")),
+     (1, 5, "E17: no line defines -MAXADRS", "")),
+    # a name that begins with a sign, and one with a sign in it
+    (" SETLOC 100|-PHASE1 ERASE| SETLOC 4000| AD -PHASE2", (2, 1, "E13: -PHASE1 begins with a sign, as no label may", "with --flight this is taken"), (4, 5, "E17: no line defines -PHASE2", "did you mean -PHASE1?")),
+    (" CA X+1|X OCT 1", (1, 5, "E17: no line defines X+1", "X+1 is one name; a blank stands before an offset"), (1, 5, "E17: no line defines X+1", "X+1 is one name; a blank stands before an offset")),
+    # a symbol of the wrong kind is told with its line
+    (" 1DNADR X|X OCT 1", (1, 2, "E15: 1DNADR is no operator", "with --flight this is taken"), (1, 9, "E25: 1DNADR takes an erasable place, and X, of line 2, is none", "")),
+    (" -CADR X|X EQUALS 100", (1, 2, "E15: -CADR is no operator", "did you mean ECADR?; with --flight this is taken"), (1, 8, "E25: -CADR takes a fixed place, and X, of line 2, is none", "")),
+    (" -CCS X|X OCT 1", (1, 2, "E15: -CCS is no operator", "did you mean CCS?; with --flight this is taken"), (1, 7, "E25: -CCS takes a word of erasable memory, and X, of line 2, is not there", "")),
+    (" BBCON X| BANK 30|X OCT 1", (1, 2, "E15: BBCON is no operator", "with --flight this is taken"),
+     (1, 8, "E25: BBCON takes a fixed place of a bank below 30, and X, of line 3, is none: what yaYUL adds from bank 30 on is not known for sure", "")),
+    (" DNCHAN X|X OCT 1", (1, 2, "E15: DNCHAN is no operator", "with --flight this is taken"), (1, 9, "E25: DNCHAN takes a channel, 0 to 777, and X, of line 2, is none", "")),
 ]
 # Feeds, a stroke between two lines, and what is said of each: the line and the column of its first fault, the number with its words, and the cure where one is sure; the first are the mistakes of the manual's rows.
 FEEDS = [
@@ -193,6 +210,8 @@ SILENT = [
     ("", " TC SUB|DONE TCF DONE|SUB CA ONE|RETURN|ONE OCT 1", [
         (3, 5, "W4: after CA the program runs on to a constant, or where no word stands", "TCF or RETURN behind it, and constants elsewhere"),
         (4, 1, "W1: RETURN is an operator's name, and in the first column it is a label", "put a blank before RETURN"), (4, 1, "W8: no operand names RETURN", "")]),
+    ("", "START CCS 5| TCF START| TCF START| TCF START| TCF START", [
+        (1, 11, "W2: 5 is the register or the counter of that number, and not the number", "a number has a line of its own: NAME OCT 5, and CA NAME and TS copy it to where CCS takes it")]),
     ("nothing: OCT 20 that is meant as twenty", " CA TWENTY|DONE TCF DONE|TWENTY OCT 20", []),
     ("nothing: three names of one place", "I EQUALS 100|J EQUALS 100| SETLOC 100|K ERASE| SETLOC 4000| TS I| TS J| TS K|DONE TCF DONE", []),
     ("", " SETLOC 100|X ERASE|Y ERASE| SETLOC 4000| DXCH X| TS Y|DONE TCF DONE", [(5, 7, "W3: DXCH takes two words, and ERASE reserves one for X", "X ERASE +1 reserves two")]),

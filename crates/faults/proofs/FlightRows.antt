@@ -169,7 +169,7 @@ lines_with_cures =
     ∷ ((codes " OCT -1", 16), codes "      = DEC takes one; a minus complements the word; with --flight this is taken\n")
     ∷ ((codes " OCT 9", 16), codes "      = DEC takes decimal digits\n")
     ∷ ((codes " OCT 1 #" ++ replicate 120 0o40, 11), codes "      = part the comment into two lines; with --flight this is taken\n")
-    ∷ ((codes " OCT 1" ++ replicate 120 0o40 ++ codes "#", 11), codes "      = part the comment into two lines\n")
+    ∷ ((codes " OCT 1" ++ replicate 120 0o40 ++ codes "#", 11), [])
     ∷ ((codes " TFC LOOP", 15), codes "      = did you mean TCF?\n")
     ∷ ((codes " XYZZY LOOP", 15), [])
     ∷ ((codes " MM 37", 15), [])

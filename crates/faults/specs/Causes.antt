@@ -1,10 +1,12 @@
 -- What a fault is in words, by its cause: a text with marks for the fields of its line, and its cure where one is sure.
-use Rattle.std.specs.Prelude.{ℕ, ◌+◌, ◌-◌, ◌==◌, ◌&&◌, ◌||◌, not, Bool, false, nat_le, List, [], ◌∷◌, ◌++◌, length, map, Option, None, is_some, unwrap_or, codes, flat_map, slice_get, if◌then◌else◌}
+use Rattle.std.specs.Prelude.{ℕ, ◌+◌, ◌-◌, ◌==◌, ◌&&◌, ◌||◌, not, Bool, false, nat_lt, nat_le, List, [], ◌∷◌, ◌++◌, length, map, take, drop, Option, None, is_some, unwrap_or, codes, flat_map, slice_get, if◌then◌else◌}
 use Rattle.std.specs.List.{find, list_any}
 use Rattle.std.specs.Option.{option_map_or, option_or}
+use Rattle.agc_text.specs.Bytes.{line_length}
 use Rattle.agc_text.specs.Digits.{digits_value}
 use Rattle.agc_text.specs.Fields.{Piece}
 use Rattle.agc_text.specs.Tables.{same_name, value_in}
+use Rattle.yayul.specs.Forms.{is_digits}
 use Rattle.yayul.specs.declared.finding.Finding.{Finding}
 use Rattle.faults.specs.Refusals.{meaning}
 use Rattle.faults.specs.Registers.{registers}
@@ -213,7 +215,26 @@ abbrev pub erasable_readers : List (List ℕ)
 erasable_readers =
     codes "CCS" ∷ codes "INDEX" ∷ codes "NDX" ∷ codes "CAE" ∷ codes "SU" ∷ codes "DV" ∷ codes "MSU" ∷ []
 
+-- a text has the form of a label
+abbrev pub is_label : List ℕ → Bool
+is_label text = is_short text && not (holds 0o44 text) && not (is_signed text) && not (is_digits text)
+
+-- the operand is a bank in octal, or in decimal digits
+abbrev pub is_octal_bank : Parts → Bool
+is_octal_bank parts = option_map_or (λ n. nat_lt n 0o44) (digits_value 8 (text_of parts.operand)) false
+
+abbrev pub is_decimal_bank : Parts → Bool
+is_decimal_bank parts = option_map_or (λ n. nat_lt n 0o44) (digits_value 10 (text_of parts.operand)) false
+
+-- the offset is a sign, behind which a field stands
+abbrev pub has_parted_offset : Parts → Bool
+has_parted_offset parts = parts.more && (same_name (text_of parts.offset) (codes "+") || same_name (text_of parts.offset) (codes "-"))
+
 -- ## Causes
+-- E11: a line that is too long; a comment that begins where a line may still go on can be parted
+abbrev pub long_cause : List ℕ → Cause
+long_cause text = if holds 0o43 (take line_length text) then cured (meaning 11) (codes "part the comment into two lines") else said (meaning 11)
+
 -- the bytes of a byte order mark stand in front
 abbrev pub begins_with_mark : List ℕ → Bool
 begins_with_mark (a ∷ b ∷ c ∷ rest) = a == 0o357 && b == 0o273 && c == 0o277
@@ -233,7 +254,7 @@ byte_cause text place =
 abbrev pub label_cause : Parts → Cause
 label_cause parts =
     if not (is_some parts.label) then cured (codes "% gives a name its value, and no name stands in the first column") (codes "NAME % @")
-    else if has_operator label_refusers parts then cured (codes "% takes no label") (codes "put & on the next line")
+    else if has_operator label_refusers parts then (if is_label (text_of parts.label) then cured (codes "% takes no label") (codes "put & on the next line") else said (codes "% takes no label"))
     else if holds 0o44 (text_of parts.label) then said (codes "& has a $, which no label may have")
     else if is_signed (text_of parts.label) then said (codes "& begins with a sign, as no label may")
     else if is_short (text_of parts.label) then said (codes "& is a number, and no label")
@@ -256,13 +277,15 @@ digits_cause parts =
     else if has_operator octal_operators parts && is_signed (text_of parts.operand) then cured (codes "OCT takes no sign") (codes "DEC takes one; a minus complements the word")
     else if has_operator octal_operators parts then cured (codes "OCT takes octal digits, 0 to 7, and @ is no such number") (codes "DEC takes decimal digits")
     else if has_operator decimal_operators parts then said (codes "DEC takes a whole number, or a fraction of 1 to 9 decimals as .75, and @ is neither")
-    else if is_beyond_octal (text_of parts.operand) then cured (codes "banks are octal, and @ has a digit 8 or 9") (codes "% @D takes it as decimal")
+    else if is_beyond_octal (text_of parts.operand) then
+    (if is_decimal_bank parts && not (has_operator block_operators parts) then cured (codes "banks are octal, and @ has a digit 8 or 9") (codes "% @D takes it as decimal") else said (codes "banks are octal, and @ has a digit 8 or 9"))
     else said (codes "% takes a bank's number, and @ is none")
 
 -- E16, of an operator that takes a place or a value
 abbrev pub place_cause : Parts → Cause
 place_cause parts =
-    if parts.more then cured (codes "after the operand only one offset may stand") (codes "a comment begins with #")
+    if has_parted_offset parts then cured (codes "after @ only an offset may stand, a sign and an octal number") (codes "no blank stands between both")
+    else if parts.more then cured (codes "after the operand only one offset may stand") (codes "a comment begins with #")
     else if is_beyond_octal (text_of parts.operand) then cured (codes "numbers are octal, and @ has a digit 8 or 9") (codes "@D is decimal")
     else if is_signed (text_of parts.operand) then cured (codes "@ is no sign with a number, which stands alone and moves on from this line") (codes "NAME +1 is the word after NAME; CS loads a complement")
     else if is_some parts.offset then cured (codes "after @ only an offset may stand, a sign and an octal number") (codes "NAME +1; a comment begins with #")
@@ -279,13 +302,17 @@ operand_cause parts =
     else if has_operator octal_operators parts || has_operator decimal_operators parts || has_operator bank_operators parts then digits_cause parts
     else place_cause parts
 
+-- a plus or a minus sign stands behind the first byte, with which a name of a flight program may begin
+abbrev pub holds_sign : List ℕ → Bool
+holds_sign text = holds 0o53 (drop 1 text) || holds 0o55 (drop 1 text)
+
 -- E17 and E18: a symbol that no line, or no earlier one, defines, where a label is near to it or none is
 abbrev pub symbol_cause : List ℕ → Bool → Parts → Cause
 symbol_cause words near parts =
     if is_some (value_in registers (text_of parts.operand)) then cured_by words (codes "no register has a name beforehand; this line gives it one: @ EQUALS !") (unwrap_or (value_in registers (text_of parts.operand)) [])
     else if holds 0o54 (text_of parts.operand) then cured words (codes "@ is one name; INDEX on the line before adds to an address")
     else if begins 0o75 (text_of parts.operand) then cured words (codes "a constant has a line of its own, whose label is the operand")
-    else if holds 0o53 (text_of parts.operand) || holds 0o55 (text_of parts.operand) then cured words (codes "@ is one name; a blank stands before an offset")
+    else if holds_sign (text_of parts.operand) then cured words (codes "@ is one name; a blank stands before an offset")
     else if near then cured words (codes "did you mean ~?")
     else said words
 
@@ -302,7 +329,7 @@ below_cause = said (codes "% needs the value of @ here, and line ~ defines it, w
 -- E19: a bank that the operator does not take
 abbrev pub bank_cause : Parts → Cause
 bank_cause parts =
-    if has_operator block_operators parts then cured (codes "BLOCK takes 2 and 3, and @ is neither") (codes "BANK @")
+    if has_operator block_operators parts then (if is_octal_bank parts then cured (codes "BLOCK takes 2 and 3, and @ is neither") (codes "BANK @") else said (codes "BLOCK takes 2 and 3, and @ is neither"))
     else said (codes "banks are 0 to 43 in octal, and @ is none")
 
 -- E20: past the end
@@ -310,7 +337,7 @@ abbrev pub room_cause : Parts → Cause
 room_cause parts =
     if has_operator erase_operators parts then said (codes "ERASE passes the end of erasable memory, 3777")
     else if not (is_some parts.operator) then said (codes "& stands past the end of its bank, or of erasable memory")
-    else cured (codes "this stands past the last word of its bank") (codes "go on in another bank: BANK or SETLOC")
+    else cured (codes "this stands past the last word of its bank, or of erasable memory") (codes "go on in another bank: BANK or SETLOC")
 
 -- E25: another kind of place, or a channel
 abbrev pub kind_cause : Parts → Cause
@@ -328,8 +355,8 @@ kind_cause parts =
 abbrev pub range_cause : Parts → Cause
 range_cause parts =
     if has_operator octal_operators parts then said (codes "a word holds 77777 at most, and @ is more")
-    else if has_operator decimal_operators parts && holds 0o56 (text_of parts.operand) then said (codes "a fraction is below 1 in a word, and @ is not")
-    else if has_operator decimal_operators parts then said (codes "a word holds 16383 at most, and @ is more")
+    else if has_operator decimal_operators parts && holds 0o56 (text_of parts.operand) then said (codes "a fraction of a word comes to less than 1 in 14 bits, and @ does not")
+    else if has_operator decimal_operators parts then said (codes "a word holds -16383 to 16383, and @ is beyond")
     else if has_operator plain_operators parts then said (codes "% goes to the next word, and this is the last of its bank")
     else if is_some parts.offset || is_signed (text_of parts.operand) then said (codes "this leads out of its bank, or of the numbers")
     else said (codes "@ is past the last address or number")
@@ -343,7 +370,7 @@ near_label labels parts f =
 unfoldable pub fault_cause : Bool → List ℕ → Parts → Finding → Cause
 fault_cause near text parts f =
     if f.number == 10 then byte_cause text f.span.start
-    else if f.number == 11 then cured (meaning 11) (codes "part the comment into two lines")
+    else if f.number == 11 then long_cause text
     else if f.number == 13 then label_cause parts
     else if f.number == 14 then (if near then said (codes "line ~ has the label & already") else said (codes "an earlier line has the label &"))
     else if f.number == 15 then operator_cause parts
@@ -360,16 +387,22 @@ fault_cause near text parts f =
     else if f.number == 26 then range_cause parts
     else said (meaning f.number)
 
+-- 2: a number that is read as a register; some operators take no constant, which stands in fixed memory
+abbrev pub number_cause : Parts → Cause
+number_cause parts =
+    if has_operator erasable_readers parts then cured (codes "@ is the register or the counter of that number, and not the number") (codes "a number has a line of its own: NAME OCT @, and CA NAME and TS copy it to where % takes it")
+    else cured (codes "@ is the register or the counter of that number, and not the number") (codes "a number has a line of its own: NAME OCT @, and % NAME")
+
 -- a warning of a line with some fields in words
 abbrev pub warning_cause : Parts → ℕ → Cause
 warning_cause parts number =
     if number == 1 then cured (codes "& is an operator's name, and in the first column it is a label") (codes "put a blank before &")
-    else if number == 2 then cured (codes "@ is the register or the counter of that number, and not the number") (codes "a number has a line of its own: NAME OCT @, and % NAME")
+    else if number == 2 then number_cause parts
     else if number == 3 then cured (codes "% takes two words, and ERASE reserves one for @") (codes "@ ERASE +1 reserves two")
     else if number == 4 then cured (codes "after % the program runs on to a constant, or where no word stands") (codes "TCF or RETURN behind it, and constants elsewhere")
     else if number == 5 then cured (codes "a vector has four words, and with this one the next vector begins") (codes "TCF as the fourth, and the routine elsewhere")
     else if number == 6 then cured (codes "@ stands in a switched erasable bank, and no line sets EB") (codes "NAME ECADR @ on a line of its own; before this CA NAME, and TS 3, which is EB")
     else if number == 7 then cured_by (codes "& is a register's name, and stands for another place here") (codes "& EQUALS ! is the register") (unwrap_or (value_in registers (text_of parts.label)) [])
     else if number == 8 then said (codes "no operand names &")
-    else if number == 9 then cured (codes "@ stands in a switched bank of fixed memory, and no line sets FB") (codes "NAME FCADR @ on a line of its own; before this CA NAME, and TS 4, which is FB")
+    else if number == 9 then cured (codes "@ stands in a switched bank of fixed memory, and no line sets FB") (codes "NAME FCADR @ on a line of its own; before this CA NAME, and TS 4, which is FB; for banks 40 to 43 WRITE 7 of 100 too")
     else said []

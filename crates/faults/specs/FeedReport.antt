@@ -11,7 +11,7 @@ use Rattle.feed.specs.declared.fault.FeedFault.{FeedFault}
 use Rattle.feed.specs.declared.fault.FeedFault.TheVariants.{NoMemory, ReadFailed, BadLine, OutOfOrder, TooMany, WrongCounter, TooLong, TooManySeries}
 use Rattle.yayul.specs.Survey.{span_of, wrong_place}
 use Rattle.yayul.specs.declared.finding.Span.{Span}
-use Rattle.faults.specs.Causes.{Cause, byte_cause, cured, said, text_of}
+use Rattle.faults.specs.Causes.{Cause, byte_cause, cured, long_cause, said, text_of}
 use Rattle.faults.specs.Kinds.{is_input, kind_of_feed}
 use Rattle.faults.specs.Refusals.{meaning}
 use Rattle.faults.specs.Report.{caused_text, text_at}
@@ -38,7 +38,7 @@ wrong_field text place cause = record { span = field_span text place; beside = t
 abbrev pub wrong_line : List ℕ → Wrong
 wrong_line text =
     if not (list_all is_text_byte text) then record { span = record { start = wrong_place text; width = 1 }; beside = []; cause = byte_cause text (wrong_place text) }
-    else if nat_lt line_length (length text) then record { span = record { start = line_length; width = length text - line_length }; beside = []; cause = cured (meaning 11) (codes "part the comment into two lines") }
+    else if nat_lt line_length (length text) then record { span = record { start = line_length; width = length text - line_length }; beside = []; cause = long_cause text }
     else wrong_field text (line_slip (texts (fields text))).place (line_slip (texts (fields text))).cause
 
 -- an input stands on a line of a number before another

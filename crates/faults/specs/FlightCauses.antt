@@ -122,11 +122,11 @@ abbrev pub flight_kind_cause : Bool → List ℕ → Parts → Finding → Cause
 flight_kind_cause near text parts f =
     if has_operator fixed_constants parts && is_some (digits_value 8 (text_of parts.operand)) then
     cured (codes "CAF of an erasable place is not taken: what yaYUL makes of it is not known for sure") (codes "CA @")
-    else if has_operator bank_words parts then said (codes "% takes a fixed place of a bank below 30, and @ is none: what yaYUL adds from bank 30 on is not known for sure")
-    else if has_operator downlist_words parts then said (codes "% takes an erasable place, and @ is none")
-    else if has_operator channel_words parts then said (codes "% takes a channel, 0 to 777, and @ is none")
-    else if has_operator fixed_words parts then said (codes "% takes a fixed place, and @ is none")
-    else if has_operator count_words parts then said (codes "% takes a word of erasable memory, and @ is not there")
+    else if has_operator bank_words parts then said (codes "% takes a fixed place of a bank below 30, and @^ is none: what yaYUL adds from bank 30 on is not known for sure")
+    else if has_operator downlist_words parts then said (codes "% takes an erasable place, and @^ is none")
+    else if has_operator channel_words parts then said (codes "% takes a channel, 0 to 777, and @^ is none")
+    else if has_operator fixed_words parts then said (codes "% takes a fixed place, and @^ is none")
+    else if has_operator count_words parts then said (codes "% takes a word of erasable memory, and @^ is not there")
     else fault_cause near text parts f
 
 -- octal digits of an address in the window, moved back

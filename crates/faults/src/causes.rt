@@ -5,16 +5,18 @@ ghost use Rattle.std.specs.Option.{option_map, option_map_or};
 ghost use Rattle.agc_text.specs.Tables.{value_in};
 ghost use Rattle.agc_text.specs.Views.{piece};
 ghost use Rattle.faults.specs.Warnings.{parts_in, bank_operators};
-ghost use Rattle.faults.specs.Causes.{byte_cause, begins_with_mark, label_cause, operator_cause, digits_cause, place_cause, operand_cause, symbol_cause, undefined_cause, early_cause, below_cause, bank_cause, room_cause, kind_cause, range_cause, fault_cause, warning_cause, near_label, said, cured, cured_by, text_of, holds, begins, is_signed, is_foreign_comment, has_foreign_comment, is_beyond_octal, foreign_operators, label_refusers, octal_operators, decimal_operators, block_operators, plain_operators, channel_operators, erasable_operators, fixed_operators, jump_operators, writers, erasable_readers};
+ghost use Rattle.faults.specs.Causes.{byte_cause, begins_with_mark, label_cause, operator_cause, digits_cause, place_cause, operand_cause, symbol_cause, undefined_cause, early_cause, below_cause, bank_cause, room_cause, kind_cause, range_cause, fault_cause, warning_cause, near_label, said, cured, cured_by, text_of, holds, begins, holds_sign, is_signed, is_label, is_octal_bank, is_decimal_bank, has_parted_offset, long_cause, number_cause, is_foreign_comment, has_foreign_comment, is_beyond_octal, foreign_operators, label_refusers, octal_operators, decimal_operators, block_operators, plain_operators, channel_operators, erasable_operators, fixed_operators, jump_operators, writers, erasable_readers};
 ghost use Rattle.faults.specs.Registers.{registers};
 ghost use Rattle.faults.specs.Views.{cause_in, entries};
 
 use crate::mistakes::{erase_operators, has_operator};
 use crate::names::{NameSet, is_short};
 use crate::operators::{is_operator, near_operator};
+use crate::parts::is_digits;
 use crate::refusals::meaning;
 use crate::registers::registers;
-use agc_text::{Field, Line, decimal_value, octal_value};
+use crate::texts::front;
+use agc_text::{Field, LINE_LENGTH, Line, Number, decimal_value, octal_value};
 use yayul::Finding;
 
 /// What is wrong, how it is mended or nothing, and a text that stands in either; and whether `--flight` takes what stands there. Marks stand for the fields of the line:
@@ -67,7 +69,7 @@ pub(crate) fn fault_cause(text: &[u8], parts: &Line<'_>, near: bool, finding: &F
 {
     match finding.number {
         10 => byte_cause(text, finding.span.start),
-        11 => Cause::cured(meaning(11), b"part the comment into two lines"),
+        11 => long_cause(text),
         13 => label_cause(parts),
         14 if near => Cause::said(b"line ~ has the label & already"),
         14 => Cause::said(b"an earlier line has the label &"),
@@ -102,10 +104,7 @@ pub(crate) fn warning_cause(parts: &Line<'_>, number: u8) -> Cause
             b"& is an operator's name, and in the first column it is a label",
             b"put a blank before &",
         ),
-        2 => Cause::cured(
-            b"@ is the register or the counter of that number, and not the number",
-            b"a number has a line of its own: NAME OCT @, and % NAME",
-        ),
+        2 => number_cause(parts),
         3 => Cause::cured(
             b"% takes two words, and ERASE reserves one for @",
             b"@ ERASE +1 reserves two",
@@ -130,9 +129,26 @@ pub(crate) fn warning_cause(parts: &Line<'_>, number: u8) -> Cause
         8 => Cause::said(b"no operand names &"),
         9 => Cause::cured(
             b"@ stands in a switched bank of fixed memory, and no line sets FB",
-            b"NAME FCADR @ on a line of its own; before this CA NAME, and TS 4, which is FB",
+            b"NAME FCADR @ on a line of its own; before this CA NAME, and TS 4, which is FB; for banks 40 to 43 WRITE 7 of 100 too",
         ),
         _ => Cause::said(b""),
+    }
+}
+
+// 2: a number that is read as a register; some operators take no constant, which stands in fixed memory.
+fn number_cause(parts: &Line<'_>) -> Cause
+    ensures { cause_in result ≡ number_cause (parts_in parts.now) }
+{
+    if has_operator(erasable_readers(), parts) {
+        Cause::cured(
+            b"@ is the register or the counter of that number, and not the number",
+            b"a number has a line of its own: NAME OCT @, and CA NAME and TS copy it to where % takes it",
+        )
+    } else {
+        Cause::cured(
+            b"@ is the register or the counter of that number, and not the number",
+            b"a number has a line of its own: NAME OCT @, and % NAME",
+        )
     }
 }
 
@@ -222,6 +238,17 @@ fn begins_with_mark(text: &[u8]) -> bool
     }
 }
 
+/// E11: a line that is too long; a comment that begins where a line may still go on can be parted.
+pub(crate) fn long_cause(text: &[u8]) -> Cause
+    ensures { cause_in result ≡ long_cause text.now }
+{
+    if holds(b'#', front(text, LINE_LENGTH)) {
+        Cause::cured(meaning(11), b"part the comment into two lines")
+    } else {
+        Cause::said(meaning(11))
+    }
+}
+
 // E13: a label that is missing, is not taken or has no label's form.
 fn label_cause(parts: &Line<'_>) -> Cause
     ensures { cause_in result ≡ label_cause (parts_in parts.now) }
@@ -232,7 +259,11 @@ fn label_cause(parts: &Line<'_>) -> Cause
             b"NAME % @",
         )
     } else if has_operator(label_refusers(), parts) {
-        Cause::cured(b"% takes no label", b"put & on the next line")
+        if is_label(text_of(parts.label)) {
+            Cause::cured(b"% takes no label", b"put & on the next line")
+        } else {
+            Cause::said(b"% takes no label")
+        }
     } else if holds(b'$', text_of(parts.label)) {
         Cause::said(b"& has a $, which no label may have")
     } else if is_signed(text_of(parts.label)) {
@@ -293,10 +324,14 @@ fn digits_cause(parts: &Line<'_>) -> Cause
             b"DEC takes a whole number, or a fraction of 1 to 9 decimals as .75, and @ is neither",
         )
     } else if is_beyond_octal(text_of(parts.operand)) {
-        Cause::cured(
-            b"banks are octal, and @ has a digit 8 or 9",
-            b"% @D takes it as decimal",
-        )
+        if is_decimal_bank(parts) && !has_operator(block_operators(), parts) {
+            Cause::cured(
+                b"banks are octal, and @ has a digit 8 or 9",
+                b"% @D takes it as decimal",
+            )
+        } else {
+            Cause::said(b"banks are octal, and @ has a digit 8 or 9")
+        }
     } else {
         Cause::said(b"% takes a bank's number, and @ is none")
     }
@@ -306,7 +341,12 @@ fn digits_cause(parts: &Line<'_>) -> Cause
 fn place_cause(parts: &Line<'_>) -> Cause
     ensures { cause_in result ≡ place_cause (parts_in parts.now) }
 {
-    if parts.more {
+    if has_parted_offset(parts) {
+        Cause::cured(
+            b"after @ only an offset may stand, a sign and an octal number",
+            b"no blank stands between both",
+        )
+    } else if parts.more {
         Cause::cured(
             b"after the operand only one offset may stand",
             b"a comment begins with #",
@@ -396,7 +436,7 @@ pub(crate) fn symbol_cause(words: &'static [u8], near: bool, parts: &Line<'_>) -
             words,
             b"a constant has a line of its own, whose label is the operand",
         )
-    } else if holds(b'+', text_of(parts.operand)) || holds(b'-', text_of(parts.operand)) {
+    } else if holds_sign(text_of(parts.operand)) {
         Cause::cured(words, b"@ is one name; a blank stands before an offset")
     } else if near {
         Cause::cured(words, b"did you mean ~?")
@@ -417,7 +457,11 @@ fn bank_cause(parts: &Line<'_>) -> Cause
     ensures { cause_in result ≡ bank_cause (parts_in parts.now) }
 {
     if has_operator(block_operators(), parts) {
-        Cause::cured(b"BLOCK takes 2 and 3, and @ is neither", b"BANK @")
+        if is_octal_bank(parts) {
+            Cause::cured(b"BLOCK takes 2 and 3, and @ is neither", b"BANK @")
+        } else {
+            Cause::said(b"BLOCK takes 2 and 3, and @ is neither")
+        }
     } else {
         Cause::said(b"banks are 0 to 43 in octal, and @ is none")
     }
@@ -433,7 +477,7 @@ fn room_cause(parts: &Line<'_>) -> Cause
         Cause::said(b"& stands past the end of its bank, or of erasable memory")
     } else {
         Cause::cured(
-            b"this stands past the last word of its bank",
+            b"this stands past the last word of its bank, or of erasable memory",
             b"go on in another bank: BANK or SETLOC",
         )
     }
@@ -478,9 +522,9 @@ fn range_cause(parts: &Line<'_>) -> Cause
     if has_operator(octal_operators(), parts) {
         Cause::said(b"a word holds 77777 at most, and @ is more")
     } else if has_operator(decimal_operators(), parts) && holds(b'.', text_of(parts.operand)) {
-        Cause::said(b"a fraction is below 1 in a word, and @ is not")
+        Cause::said(b"a fraction of a word comes to less than 1 in 14 bits, and @ does not")
     } else if has_operator(decimal_operators(), parts) {
-        Cause::said(b"a word holds 16383 at most, and @ is more")
+        Cause::said(b"a word holds -16383 to 16383, and @ is beyond")
     } else if has_operator(plain_operators(), parts) {
         Cause::said(b"% goes to the next word, and this is the last of its bank")
     } else if parts.offset.is_some() || is_signed(text_of(parts.operand)) {
@@ -517,11 +561,48 @@ pub(crate) fn begins(byte: u8, text: &[u8]) -> bool
     }
 }
 
+// Whether a plus or a minus sign stands behind the first byte.
+fn holds_sign(text: &[u8]) -> bool
+    ensures { result ≡ holds_sign text.now }
+{
+    let rest = &text[text.len().min(1)..];
+    holds(b'+', rest) || holds(b'-', rest)
+}
+
 /// Whether a plus or a minus sign stands first.
 pub(crate) fn is_signed(text: &[u8]) -> bool
     ensures { result ≡ is_signed text.now }
 {
     begins(b'+', text) || begins(b'-', text)
+}
+
+// Whether a text has the form of a label.
+fn is_label(text: &[u8]) -> bool
+    ensures { result ≡ is_label text.now }
+{
+    is_short(text) && !holds(b'$', text) && !is_signed(text) && !is_digits(text)
+}
+
+// Whether the operand is a bank in octal.
+fn is_octal_bank(parts: &Line<'_>) -> bool
+    ensures { result ≡ is_octal_bank (parts_in parts.now) }
+{
+    matches!(octal_value(text_of(parts.operand)), Some(Number::Small(bank)) if bank < 0o44)
+}
+
+// Whether the operand is a bank in decimal digits.
+fn is_decimal_bank(parts: &Line<'_>) -> bool
+    ensures { result ≡ is_decimal_bank (parts_in parts.now) }
+{
+    matches!(decimal_value(text_of(parts.operand)), Some(Number::Small(bank)) if bank < 0o44)
+}
+
+// Whether the offset is a sign, behind which a field stands.
+fn has_parted_offset(parts: &Line<'_>) -> bool
+    ensures { result ≡ has_parted_offset (parts_in parts.now) }
+{
+    let offset = text_of(parts.offset);
+    parts.more && (offset == b"+".as_slice() || offset == b"-".as_slice())
 }
 
 // Whether a text begins as comments in other languages do.

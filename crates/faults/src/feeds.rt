@@ -15,7 +15,7 @@ ghost use Rattle.faults.specs.Refusals.{meaning};
 ghost use Rattle.faults.specs.Report.{text_at};
 ghost use Rattle.agc_text.specs.Bytes.{is_text_byte};
 
-use crate::causes::{Cause, byte_cause};
+use crate::causes::{Cause, byte_cause, long_cause};
 use crate::findings::{Severity, line_texts, text_at};
 use crate::kinds::{is_input, push_kind_of_feed};
 use crate::mistakes::parts_of;
@@ -218,7 +218,7 @@ fn wrong_line(text: &[u8]) -> Wrong<'_>
                 width: text.len() - LINE_LENGTH,
             },
             beside: &text[..0],
-            cause: Cause::cured(meaning(11), b"part the comment into two lines"),
+            cause: long_cause(text),
         }
     } else {
         let slip = line_slip(before_comment(text));

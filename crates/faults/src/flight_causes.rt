@@ -259,16 +259,16 @@ fn flight_kind_cause(near: bool, text: &[u8], parts: &Line<'_>, finding: &Findin
         )
     } else if has_operator(bank_words(), parts) {
         Cause::said(
-            b"% takes a fixed place of a bank below 30, and @ is none: what yaYUL adds from bank 30 on is not known for sure",
+            b"% takes a fixed place of a bank below 30, and @^ is none: what yaYUL adds from bank 30 on is not known for sure",
         )
     } else if has_operator(downlist_words(), parts) {
-        Cause::said(b"% takes an erasable place, and @ is none")
+        Cause::said(b"% takes an erasable place, and @^ is none")
     } else if has_operator(channel_words(), parts) {
-        Cause::said(b"% takes a channel, 0 to 777, and @ is none")
+        Cause::said(b"% takes a channel, 0 to 777, and @^ is none")
     } else if has_operator(fixed_words(), parts) {
-        Cause::said(b"% takes a fixed place, and @ is none")
+        Cause::said(b"% takes a fixed place, and @^ is none")
     } else if has_operator(count_words(), parts) {
-        Cause::said(b"% takes a word of erasable memory, and @ is not there")
+        Cause::said(b"% takes a word of erasable memory, and @^ is not there")
     } else {
         fault_cause(text, parts, near, finding)
     }

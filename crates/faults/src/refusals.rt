@@ -166,7 +166,7 @@ const CAUSES_10: &[u8] =
 const CAUSES_11: &[u8] = b"A line has more than 120 bytes, blanks and comment included.
 
 - a line above 120 bytes
-  Cure: part the comment into two lines
+  Cure: part the comment into two lines, or leave blanks out
 ";
 
 const CAUSES_12: &[u8] = b"The source has more than 65,536 lines.
@@ -349,11 +349,11 @@ const CAUSES_18: &[u8] =
 
 - one that its own line defines
   > P EQUALS P +1
-  Cure: put the line that defines it before
+  Cure: give it another name, or its value by a number
 
 - one that no line defines
   >  SETLOC NOSUCH
-  Cure: put the line that defines it before
+  Cure: define it before: NAME EQUALS NUMBER, or as a label
 ";
 
 const CAUSES_19: &[u8] = b"No such bank: BANK takes 0 to 43, octal, and BLOCK 2 and 3.
@@ -364,11 +364,11 @@ const CAUSES_19: &[u8] = b"No such bank: BANK takes 0 to 43, octal, and BLOCK 2 
 
 - a number above 077777 there
   >  BANK 100000
-  Cure: octal, or a D behind a decimal number
+  Cure: 43 is the last bank
 
 - BLOCK of another bank than 2 or 3
   >  BLOCK 4
-  Cure: octal, or a D behind a decimal number
+  Cure: BANK 4
 
 - a decimal bank without D, which is read as octal
   >  BANK 50
@@ -398,12 +398,12 @@ const CAUSES_20: &[u8] =
 - ERASE beyond the end of erasable memory
      SETLOC 3777
   >  ERASE +1
-  Cure: go on in another bank: BANK or SETLOC
+  Cure: fewer words, or SETLOC of an earlier place
 
 - ERASE of more than 077777 words
      SETLOC 100
   >  ERASE +100000
-  Cure: go on in another bank: BANK or SETLOC
+  Cure: fewer words: there are 4000, octal
 ";
 
 const CAUSES_21: &[u8] = b"A word stands at this place already.
@@ -554,7 +554,7 @@ const CAUSES_26: &[u8] = b"A number is out of its range, or an offset leads out 
   >  DEC 16384
   Cure: two words: the upper one, then the lower
 
-- a fraction of DEC from 1 on
+- a fraction of DEC from 1 on, or one that comes to 1 in 14 bits
   >  DEC 1.0
   Cure: scale it below 1
 

@@ -196,8 +196,8 @@ fn shown_part(text: &[u8]) -> &[u8]
     front(text, MOST_SHOWN)
 }
 
-// The first bytes of a text, so many at most.
-fn front(text: &[u8], most: usize) -> &[u8]
+/// The first bytes of a text, so many at most.
+pub(crate) fn front(text: &[u8], most: usize) -> &[u8]
     ensures { result.now ≡ take most text.now }
 {
     &text[..most.min(text.len())]
