@@ -26,6 +26,7 @@ FILES = {
     "skips.agc": "START CA MOST; AD MOST; TS 100; OCT 0;LOOP TCF LOOP;MOST OCT 37777",
     "good.feed": "",
     "one.feed": "ONE CHAN 3 5",
+    "nameless.txt": "START",
     "two.feed": "TWO CHAN 3 5",
 }
 COMMANDS = b"run 7\nregs\nmem 4000\nmem 4005\nback 2\n"
@@ -265,6 +266,7 @@ class Arguments:
             self.same(f"check five.agc {name} good.feed", 3, "", unread)
             told = TOLD["wrong.agc"] + TOLD["one.feed"] if name == "folder" else ""
             self.same(f"check wrong.agc one.feed {name} two.feed", 3, told, unread)
+            self.same(f"check {name} good.feed one.feed", 3, "", unread)
 
     def try_unread(self):
         """What cannot be read: a file, told by its own name, whichever of two it is; and a number."""
@@ -277,6 +279,16 @@ class Arguments:
                 unread = f"{name}: error E6: a file could not be opened or read\n"
                 self.same(f"{command} {name} {other}", 3, "", unread)
                 self.same(f"{command} {one} {name}", 3, "", unread)
+
+    def try_tables(self):
+        """A table of names is read once all files are open, and its fault is told before those of the others."""
+        self.same("words --symbols nameless.txt none.rope", 3, "", "agcws: E6\n")
+        self.same("words --symbols nameless.txt wrong.rope", 1, "", "agcws: E36 LINE 1\n")
+        for words, steps in (("trace", "3"), ("cover", "3"), ("debug", ""), ("debug --extended", "")):
+            named = f"{words} --image --symbols nameless.txt"
+            self.same(f"{named} none.rope good.feed {steps}", 3, "", "agcws: E6\n")
+            self.same(f"{named} five.rope none.feed {steps}", 3, "", "agcws: E6\n")
+            self.same(f"{named} wrong.rope one.feed {steps}", 1, "", "agcws: E36 LINE 1\n")
 
     def try_bounds(self):
         """--from and --to: the steps that are shown, by their numbers."""
@@ -303,4 +315,5 @@ def check_arguments(program, told, room):
     tried.try_flight_images()
     tried.try_checks()
     tried.try_unread()
+    tried.try_tables()
     tried.try_bounds()

@@ -983,6 +983,20 @@ def check_progress(room):
         ran = subprocess.run([PROGRAM, "run", "--progress", source, feed, "2097152"], stdout=subprocess.PIPE, stderr=full, timeout=300)
         told("progress that cannot be told", (ran.returncode, ran.stdout) == (0, line))
     compare("no progress that is not asked for", agcws("run", source, feed, "1048576"), 0, line)
+    check_progress_while_it_goes(source, feed, lines[:21])
+
+
+def check_progress_while_it_goes(source, feed, line):
+    """A line of progress comes once its steps are made, and none before: of a run without an end the first is soon there, and few after it."""
+    most = "1099511627774"
+    for words in (["run"], ["run", "--notes"], ["trace", "--from", most], ["cover"]):
+        call = [PROGRAM, *words, "--progress", source, feed, most]
+        with subprocess.Popen(call, stdin=subprocess.DEVNULL, stdout=subprocess.DEVNULL, stderr=subprocess.PIPE) as ran:
+            got = os.read(ran.stderr.fileno(), len(line)) if select.select([ran.stderr], [], [], 20)[0] else b""
+            time.sleep(0.2)
+            more = int.from_bytes(fcntl.ioctl(ran.stderr, termios.FIONREAD, bytes(4)), sys.byteorder)
+            told(f"the progress of agcws {words[0]} while it goes, {len(words)} words", (got, ran.poll()) == (line, None) and more < 20000, f"{got!r}, and then {more} bytes")
+            ran.kill()
 
 
 def check_notes(room):
