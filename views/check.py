@@ -20,6 +20,7 @@ sys.path[:1] = [f"{ROOT}/examples", f"{ROOT}/gate", VIEWS]
 import check as examples
 import check_dap
 import check_dsky
+import check_grade
 import check_report
 import check_shake
 import pipe
@@ -83,7 +84,7 @@ def check_readings(room):
 
 def check_calls(room):
     """What all views do alike: help, files that are not there, a program that is not there, an output that nobody reads."""
-    for view in ["talk", "dap", "shake", "chain", "wave", "dsky", "keys", "bridge", "report"]:
+    for view in ["talk", "dap", "shake", "chain", "wave", "dsky", "keys", "bridge", "report", "grade"]:
         status, out, err = call(view, "--help")
         told(f"{view} --help", (status, err) == (0, "") and out.startswith(f"usage: {view} "), f"{out} {err}")
     same("a feed that is not there", call("shake", LOST[0], "4", "RUPT 1", "--feed", f"{room}/none"), (3, "", f"shake: {room}/none: No such file or directory\n"))
@@ -647,6 +648,7 @@ def main():
             check_bridge,
             check_bridge_parts,
             *check_report.PARTS,
+            *check_grade.PARTS,
             check_operators,
             check_faults,
             check_web,

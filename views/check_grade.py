@@ -1,0 +1,182 @@
+"""Tests of views/grade, by a small class. `check.py` runs them."""
+import csv
+import os
+import re
+
+from checking import EMPTY, Page, call, same, text_at
+import check as examples
+from files import write, write_text
+from tally import told
+
+# The task: each key is added to those before, and the sum goes to channel 011.
+MODEL = """ARUPT   EQUALS  10
+        SETLOC  100
+TOTAL   ERASE
+        SETLOC  4000
+        RELINT
+IDLE    TCF     IDLE
+        SETLOC  4024
+        DXCH    ARUPT
+        TCF     KEY
+        SETLOC  4100
+KEY     EXTEND
+        READ    15
+        AD      TOTAL
+        TS      TOTAL
+        EXTEND
+        WRITE   11
+        DXCH    ARUPT
+        RESUME
+"""
+ADDED = "        AD      TOTAL\n"
+WRITTEN = "        EXTEND\n        WRITE   11\n"
+FORGOTTEN = MODEL.replace(ADDED, "")
+HAND_INS = {
+    "Ada Lovelace.agc": MODEL.replace("        AD      TOTAL\n        TS      TOTAL\n", "        ADS     TOTAL\n"),
+    "bob.agc": "# my own work\n" + MODEL.replace("RELINT", "RELINT   # interrupts"),
+    "carl.agc": MODEL.replace("TOTAL", "SUM").replace("KEY", "PRESSED"),
+    "dora.agc": FORGOTTEN,
+    "emil.agc": MODEL.replace("DXCH", "FROB"),
+    "fay.agc": MODEL.replace("KEY     EXTEND", "KEY     TCF     KEY\n        EXTEND"),
+    "gus.agc": MODEL.replace("        RELINT\n", ""),
+    "huge.agc": "# " + "x" * 8_400_000,
+    "ida.agc": MODEL.replace("        RESUME\n", "        TC      IDLE\n"),
+    "jo.agc": MODEL.replace(WRITTEN, WRITTEN * 2),
+    "kim/solution.agc": "# KIM\n\n" + FORGOTTEN.replace("        READ    15", "\tREAD 15\t# the key"),
+    "<b>lea&.agc": MODEL.replace(WRITTEN, WRITTEN + WRITTEN.replace("11", "12")),
+    "=mo.agc": "",
+    "nil.agc": "\0\n\x80",
+}
+# Three keys, and one: by hand the words 1, 3, 7 and 5.
+FEEDS = {"keys": "100 CHAN 15 1\n200 CHAN 15 2\n300 CHAN 15 4\n", "one": "100 CHAN 15 5\n"}
+STEPS = "600"
+
+
+def room_of(room):
+    """The class in a folder, and the words that ask for it."""
+    for name, text in HAND_INS.items():
+        write_text(f"{room}/class/{name}", text)
+    write(f"{room}/class/.hidden", b"passed over")
+    os.symlink(EMPTY, f"{room}/class/link.agc")
+    write_text(f"{room}/model.agc", MODEL)
+    for name, text in FEEDS.items():
+        write_text(f"{room}/{name}.feed", text)
+    return [f"{room}/class", f"{room}/model.agc", STEPS, "--feed", f"{room}/keys.feed", "--feed", f"{room}/one.feed", "--out", f"{room}/graded"]
+
+
+def check_class(room):
+    """Each hand-in has its row, and no fault of one ends the others."""
+    status, out, err = call("grade", *room_of(room))
+    same("the end of grading", (status, err, out.splitlines()[-1]), (0, "", "14 hand-ins: 4 right, 7 wrong, 2 refused, 1 not judged."))
+    heads, *rows = csv.reader(text_at(f"{room}/graded/class.csv").splitlines())
+    found = {it[0]: dict(zip(heads, it)) for it in rows}
+    same("the names", sorted(found), sorted(it.removesuffix(".agc") if it[0] != "=" else "'=mo" for it in HAND_INS))
+    # (by hand: a key comes out after the entry 3, DXCH 3, TCF 1, EXTEND 1, READ 2, AD 2, TS 2, EXTEND 1 and WRITE 2, so the last at 317 and 117; ADS is 2 shorter)
+    for name, right, keys, cycles, share in [("Ada Lovelace", "2/2", "yes", "430", "99 %"), ("bob", "2/2", "yes", "434", "100 %"), ("carl", "2/2", "yes", "434", "100 %"), ("dora", "1/2", "no", "", "")]:
+        row = found[name]
+        same(f"the row of {name}", (row["right"], row["keys"], row["cycles"], row["of the model's"]), (right, keys, cycles, share))
+    for name, wanted in [
+        ("dora", r"keys: word 2 of CH 011 is 00002 \(2\) at cycle 215, step \d+, and not 00003 \(3\)"),
+        ("emil", r"8:9: error E15: .*FROB.*"),
+        ("fay", r"keys: word 1 of CH 011 is missing: 00001 \(1\) is wanted, and the run ends at KEY"),
+        ("gus", r"keys: word 1 of CH 011 is missing: 00001 \(1\) is wanted, and the run ends at IDLE"),
+        ("huge", r"it has 8400002 bytes, and a source 8388608 at most"),
+        ("ida", r"keys: word 2 of CH 011 is missing: 00003 \(3\) is wanted, and the run ends at IDLE"),
+        ("jo", r"keys: word 2 of CH 011 is 00001 \(1\) at cycle 120, step \d+, and not 00003 \(3\)"),
+        ("kim/solution", r"keys: word 2 of CH 011 is 00002 .*"),
+        ("<b>lea&", ""),
+        ("'=mo", r"keys: word 1 of CH 011 is missing: 00001 \(1\) is wanted, and the run ends at .*"),
+        ("nil", r"1:1: error E\d+: .*"),
+    ]:
+        told(f"what {name} has wrong", re.fullmatch(wanted, found[name]["what is wrong first"]), f"{found[name]}")
+    same("who is alike", {name: it["alike"] for name, it in found.items() if it["alike"]}, {
+        "bob": "the same text as the model; the same words as carl",
+        "carl": "the same words as bob; the same words as the model",
+        "dora": "the same text as kim/solution",
+        "kim/solution": "the same text as dora",
+    })
+    # (of dora AD is missing, of gus RELINT)
+    same("instructions", [(found[it]["instructions executed"], found[it]["of"]) for it in ("bob", "dora", "gus")], [("12", "12"), ("11", "11"), ("1", "11")])
+    # (of gus all but IDLE, from the line after SETLOC 4024 on; of fay what stands behind KEY TCF KEY)
+    same("lines that are never executed", [found[it]["never executed, by lines"] for it in ("bob", "gus", "fay")], ["", "7-17", "12-19"])
+    told("notes", "INSIDE" in found["ida"]["notes"] and not found["bob"]["notes"], f"{found['ida']}")
+    check_sheets(room, found)
+
+
+def check_sheets(room, found):
+    """The page of the class leads to a page for each, and these name no other and show what went wrong."""
+    text = text_at(f"{room}/graded/class.html")
+    page = Page(text)
+    same("the rows of the class", len([it for it in page.rows if len(it) > 10]), 1 + len(HAND_INS))
+    links = dict(re.findall(r'<td class="name"><a href="pages/([^"]+)">([^<]*)</a>', text))
+    same("a page for each", sorted(links), sorted(os.listdir(f"{room}/graded/pages")))
+    same("a name with signs that a page has", [it for it in links.values() if "lea" in it], ["&lt;b&gt;lea&amp;"])
+    names = ["Ada Lovelace", "dora", "emil", "kim", "lea&amp;", "gus", "carl"]
+    sheets = {name: text_at(f"{room}/graded/pages/{name}") for name in links}
+    for file, sheet in sheets.items():
+        Page(sheet)
+        told(f"{file} names no other", not [it for it in names if it in sheet and it not in links[file]] and "src=" not in sheet and "<script" not in sheet)
+    dora = sheets["dora.html"]
+    told("the chain of a wrong word", re.search(r"BY 200 WRITE 011 : CH011 00002 FROM A 000002 IN STEP 193\nBY 197 READ 015 : A 000002 FROM CH015 00002 IN STEP 193\n", dora), dora[:3000])
+    told("where a run ends", "WHERE 02,4001 IDLE" in sheets["gus.html"] or "IDLE" in sheets["gus.html"].split("Listing")[0], sheets["gus.html"][:3000])
+    told("other channels", "Other channels get words too: 012." in sheets["b_lea.html"])
+    told("what is never executed", 'class="never"' in sheets["gus.html"] and "on the lines" in sheets["gus.html"] and 'class="never"' not in sheets["bob.html"])
+    told("what several have wrong", "word 2 of CH 011 is 00002 (2)" in Page(text).inside["table"] and ">dora</a>, <a" in text)
+
+
+def check_again(room):
+    """What is judged is not judged again, another file is, and results of another task are told apart. What has no end is told so."""
+    asked, calls, wrapper = room_of(room), f"{room}/calls", f"{room}/counted"
+    write(wrapper, f'#!/bin/sh\necho "$*" >> "{calls}"\ncase "$*" in *"slow one"*) exec sleep 20 ;; esac\nexec "{examples.PROGRAM}" "$@"\n'.encode())
+    os.chmod(wrapper, 0o755)
+    env = {**os.environ, "AGCWS": wrapper}
+    first = call("grade", *asked, env=env)
+    shown = text_at(f"{room}/graded/class.html")
+    write(calls, b"")
+    same("a class that is judged", (call("grade", *asked, env=env), text_at(f"{room}/graded/class.html")), (first, shown))
+    told("no hand-in is judged again", f"{room}/class/" not in text_at(calls), text_at(calls))
+    # (a line that is cut short, and a file that has changed)
+    kept = f"{room}/graded/results.jsonl"
+    write(kept, text_at(kept).encode()[:-9])
+    write_text(f"{room}/class/bob.agc", HAND_INS["dora.agc"] + "# another\n")
+    write_text(f"{room}/class/slow one.agc", MODEL + "# slow\n")
+    status, out, _ = call("grade", *asked, "--seconds", "1", "--jobs", "2", env=env)
+    last = out.splitlines()
+    told("what has changed", "bob\t1/2\tkeys: word 2 of CH 011 is 00002" in out, out)
+    told("what has no end", "slow one\t0/2\tagcws check has no end within 1 seconds" in out, out)
+    same("the class after that", (status, last[-1]), (0, "15 hand-ins: 3 right, 8 wrong, 2 refused, 2 not judged."))
+    again = [it for it in text_at(calls).splitlines() if f"{room}/class/" in it]
+    told("one that was cut short, and those that are new", len({re.search(r"class/.*?\.agc", it)[0] for it in again}) == 3, "\n".join(again))
+    status, _, err = call("grade", *[it if it != STEPS else "601" for it in asked])
+    same("results of another task", (status, err), (2, f"{kept} keeps something else: the results of another source, feed, program or option\n"))
+
+
+def check_refused(room):
+    asked = room_of(room)
+    wrong = write(f"{room}/wrong.agc", b" FROB 1\n")
+    same("a model that is refused", call("grade", asked[0], wrong, *asked[2:]), (1, "", "the model: agcws: E15 LINE 1\n"))
+    same("a feed that is refused", call("grade", *asked[:3], "--feed", wrong, "--out", f"{room}/none"), (1, "", "the model: agcws: E30 LINE 1\n"))
+    same("no folder", call("grade", f"{room}/none", *asked[1:]), (3, "", f"grade: {room}/none: no such folder\n"))
+    os.mkdir(f"{room}/empty")
+    same("no hand-ins", call("grade", f"{room}/empty", *asked[1:3], "--out", f"{room}/of none"), (0, "0 hand-ins: 0 right, 0 wrong, 0 refused, 0 not judged.\n", ""))
+    # A program without an end that is slower than the model: its words come in 4 times N steps
+    loop = " SETLOC 4000\nL CAF ONE\n EXTEND\n WRITE 10\n{} TCF L\nONE OCT 1\n"
+    write_text(f"{room}/loops/slow.agc", loop.format(" NOOP\n NOOP\n"))
+    write_text(f"{room}/loops/fast.agc", loop.format("").replace(" TCF L", " EXTEND\n WRITE 10\n TCF L"))
+    fast = write(f"{room}/fast.agc", loop.format("").encode())
+    status, out, _ = call("grade", f"{room}/loops", fast, "40", "--out", f"{room}/looped")
+    same("programs without an end", (status, out.splitlines()), (0, ["fast\t1/1\t", "slow\t1/1\t", "2 hand-ins: 2 right, 0 wrong, 0 refused, 0 not judged."]))
+
+
+def own(part):
+    """A part in a folder of its own."""
+    def run(room):
+        folder = f"{room}/{part.__name__}"
+        os.mkdir(folder)
+        part(folder)
+
+    run.__name__ = part.__name__
+    return run
+
+
+PARTS = [own(it) for it in (check_class, check_again, check_refused)]
