@@ -21,6 +21,7 @@ import check as examples
 import check_dap
 import check_dsky
 import check_grade
+import check_hostile
 import check_report
 import check_shake
 import pipe
@@ -641,6 +642,7 @@ def main():
             check_talk,
             check_watches,
             *check_dap.PARTS,
+            *check_hostile.PARTS,
             *check_dsky.PARTS,
             *check_shake.PARTS,
             check_chain,
