@@ -1,5 +1,6 @@
 pub mod Breaking
 pub mod StopLemmas
+pub mod MarkLemmas
 pub mod ChainText
 pub mod CellNumbers
 pub mod WhyLines

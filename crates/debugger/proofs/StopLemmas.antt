@@ -19,7 +19,7 @@ use Rattle.debugger.specs.Growth.{is_executed, holds, lowest_hit, hit_at}
 use Rattle.debugger.specs.Stopping.{asks, looked, hit_by, watched_word, is_other, HoldsAlike}
 
 -- a breakpoint that does not ask what the step did holds whatever it did
-unasked : (b : Breakpoint) → asks b ≡ false → (one other : StepSight) (seen : Sight) → holds one seen b ≡ holds other seen b
+pub unasked : (b : Breakpoint) → asks b ≡ false → (one other : StepSight) (seen : Sight) → holds one seen b ≡ holds other seen b
 unasked (Place place) n one other seen = refl
 unasked (Word p w) n one other seen = refl
 unasked (Channel c w) n one other seen = refl
@@ -67,6 +67,11 @@ unfolding history
 found_at scenario breakpoints looks t is =
     by_looking looks breakpoints scenario (run scenario t) (sight scenario.rope (next scenario (run scenario t)).0) is
     ∙ rw (step_to_more scenario t, run-add-one scenario t) refl
+
+-- where each step is looked at, what holds after it is found
+pub looked_at : (scenario : Scenario) (breakpoints : List Breakpoint) (t : ℕ) → hit_by breakpoints true scenario (run scenario t) ≡ hit_at (history scenario) breakpoints (t + 1)
+unfolding history
+looked_at scenario breakpoints t = rw (step_to_more scenario t, run-add-one scenario t) refl
 
 -- a search among steps is one among those that they lead to
 other_is : (b : Option ℕ) (t : ℕ) (last : Option (ℕ × ℕ)) (earlier : Option ℕ) → option_map (λ (r : ℕ × ℕ). r.0 + 1) last ≡ earlier

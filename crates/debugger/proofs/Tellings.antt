@@ -19,13 +19,11 @@ use Rattle.debugger.specs.Replies.{last_of, tail_length}
 use Rattle.debugger.specs.HandingOn.{HandsOn}
 use Rattle.debugger.specs.Telling.{Telling, Tells, TellsBy, EndsAs}
 use Rattle.debugger.specs.declared.growing.Teller.{Teller}
-use Rattle.debugger.specs.declared.stops.Stops.{Stops}
-use Rattle.debugger.specs.Stopping.{asks, hit_by}
-use Rattle.std.specs.List.{list_any}
+use Rattle.debugger.specs.Stopping.{hit_by}
 use Rattle.debugger.specs.Executions.{Grows, Grown}
 use Rattle.debugger.specs.declared.ending.Ending.{Ending}
 use Rattle.debugger.specs.declared.ending.Ending.TheVariants.{NoMemory, Limit}
-use Rattle.debugger.proofs.StopLemmas.{found_at}
+use Rattle.debugger.proofs.StopLemmas.{looked_at}
 use Rattle.debugger.proofs.NewSteps.{Growing, growing-none, growing-step, grown-reached, grown-limit, grown-refused, grown-hit, growth-broken, tail-more}
 
 tail_on : (scenario : Scenario) (n m : ℕ) (o : Option Output) (old new : Telling) → o ≡ out scenario (n + m + 1) → old.tail ≡ last_of tail_length (outs scenario (n + m)) → MatchOption o (new.tail ≡ old.tail) (λ x. new.tail ≡ last_of tail_length (old.tail ++ x ∷ [])) → new.tail ≡ last_of tail_length (outs scenario (n + suc m))
@@ -45,30 +43,30 @@ pub record HasEnded (told may_refuse : Bool) (scenario : Scenario) (breakpoints 
   pub failures : new.failures ≡ failures_after old.failures result
   pub growth : told ≡ true → Grows may_refuse (history scenario) breakpoints more n high old.text new.text result
 
--- of what tells steps: what is seen of it, where its steps stop, which stays, and the breakpoint that has ended them
-module _ {T : Type 0} (told may_refuse : Bool) (sees : T → Scenario → State → Bool → T → Type 0) (view : T → Telling) (stops : T → Stops) (hit : T → Option ℕ)
-    (same : (w : T) (p : Scenario) (s : State) (b : Bool) (w' : T) → sees w p s b w' → stops w' ≡ stops w)
-    (tells : (w : T) (p : Scenario) (s : State) (b : Bool) (w' : T) → sees w p s b w' → Tells told (hit_by (stops w).breakpoints.now (stops w).looks p s) (next p s).1 b (hit w') (view w) (view w'))
+-- of what tells steps: what is seen of it, the breakpoints at which its steps stop, which stay, and the one that has ended them
+module _ {T : Type 0} (told may_refuse : Bool) (sees : T → Scenario → State → Bool → T → Type 0) (view : T → Telling) (breakpoints : T → List Breakpoint) (hit : T → Option ℕ)
+    (same : (w : T) (p : Scenario) (s : State) (b : Bool) (w' : T) → sees w p s b w' → breakpoints w' ≡ breakpoints w)
+    (tells : (w : T) (p : Scenario) (s : State) (b : Bool) (w' : T) → sees w p s b w' → Tells told (hit_by (breakpoints w) true p s) (next p s).1 b (hit w') (view w) (view w'))
     (scenario : Scenario) (more n : ℕ) where
-  stops_stay : (m : ℕ) (old new : T) → WalkedFor sees scenario n m false old new → stops new ≡ stops old
-  stops_stay zero old new walked = ap stops walked.1
-  stops_stay (suc m) old new (between, early, late) = same between scenario (run scenario (n + m)) false new late ∙ stops_stay m old between early
+  breakpoints_stay : (m : ℕ) (old new : T) → WalkedFor sees scenario n m false old new → breakpoints new ≡ breakpoints old
+  breakpoints_stay zero old new walked = ap breakpoints walked.1
+  breakpoints_stay (suc m) old new (between, early, late) = same between scenario (run scenario (n + m)) false new late ∙ breakpoints_stay m old between early
 
   -- the breakpoint that is found after a step is the one that holds there
-  holds_there : (m : ℕ) (old between : T) → (stops old).looks ≡ list_any asks (stops old).breakpoints.now → WalkedFor sees scenario n m false old between
-      → hit_by (stops between).breakpoints.now (stops between).looks scenario (run scenario (n + m)) ≡ hit_at (history scenario) (stops old).breakpoints.now (n + m + 1)
-  holds_there m old between right early =
-      rw (stops_stay m old between early) (found_at scenario (stops old).breakpoints.now (stops old).looks (n + m) right)
+  holds_there : (m : ℕ) (old between : T) → WalkedFor sees scenario n m false old between
+      → hit_by (breakpoints between) true scenario (run scenario (n + m)) ≡ hit_at (history scenario) (breakpoints old) (n + m + 1)
+  holds_there m old between early =
+      rw (breakpoints_stay m old between early) (looked_at scenario (breakpoints old) (n + m))
 
-  has_told : (m : ℕ) (old new : T) → m ≤ more → n + m ≤ step_limit → (stops old).looks ≡ list_any asks (stops old).breakpoints.now → (view old).tail ≡ last_of tail_length (outs scenario n) → WalkedFor sees scenario n m false old new
-      → HasTold told may_refuse scenario (stops old).breakpoints.now more n m (view old) (view new)
+  has_told : (m : ℕ) (old new : T) → m ≤ more → n + m ≤ step_limit → (view old).tail ≡ last_of tail_length (outs scenario n) → WalkedFor sees scenario n m false old new
+      → HasTold told may_refuse scenario (breakpoints old) more n m (view old) (view new)
   unfolding history
-  has_told zero old new most within right tail walked =
+  has_told zero old new most within tail walked =
       let none : n + 0 ≡ n = omega arith in
       let all : more - 0 ≡ more = omega arith in
       rw walked.1 (record { tail = rw none tail; failures = refl; growth = λ _. rw (none, all) growing-none })
-  has_told (suc m) old new most within right tail (between, early, late) =
-      let so_far = has_told m old between (omega arith) (omega arith) right tail early in
+  has_told (suc m) old new most within tail (between, early, late) =
+      let so_far = has_told m old between (omega arith) (omega arith) tail early in
       let step = tells between scenario (run scenario (n + m)) false new late in
       let put = sym (out-add-one scenario (n + m)) in
       let next_is : n + suc m ≡ n + m + 1 = omega arith in
@@ -76,18 +74,18 @@ module _ {T : Type 0} (told may_refuse : Bool) (sees : T → Scenario → State 
       record {
         tail = tail_on scenario n m (next scenario (run scenario (n + m))).1 (view between) (view new) put so_far.tail step.tail;
         failures = step.by.failures ∙ so_far.failures;
-        growth = λ w. growing-step (more - suc m) (n + suc m) (view new).text (so_far.growth w) left next_is (λ e. absurd (omega arith)) (sym (step.by.found_is ∙ holds_there m old between right early)) (rw put at (step.by.written w));
+        growth = λ w. growing-step (more - suc m) (n + suc m) (view new).text (so_far.growth w) left next_is (λ e. absurd (omega arith)) (sym (step.by.found_is ∙ holds_there m old between early)) (rw put at (step.by.written w));
       }
 
   -- they end at a breakpoint, or at a write that failed
-  ended_by : (m : ℕ) (old new : T) (h : Option ℕ) (result : Result Ending WriteFailed) → m < more → n + m < step_limit → (stops old).looks ≡ list_any asks (stops old).breakpoints.now → (view old).tail ≡ last_of tail_length (outs scenario n) → WalkedFor sees scenario n (suc m) true old new → hit new ≡ h → EndsAs stop.Watcher h result
-      → HasEnded told may_refuse scenario (stops old).breakpoints.now more n (n + suc m) (view old) (view new) result
+  ended_by : (m : ℕ) (old new : T) (h : Option ℕ) (result : Result Ending WriteFailed) → m < more → n + m < step_limit → (view old).tail ≡ last_of tail_length (outs scenario n) → WalkedFor sees scenario n (suc m) true old new → hit new ≡ h → EndsAs stop.Watcher h result
+      → HasEnded told may_refuse scenario (breakpoints old) more n (n + suc m) (view old) (view new) result
   unfolding history
-  ended_by m old new (Some number) result most within right tail (between, early, late) is ends =
-      let so_far = has_told m old between (omega arith) (omega arith) right tail early in
+  ended_by m old new (Some number) result most within tail (between, early, late) is ends =
+      let so_far = has_told m old between (omega arith) (omega arith) tail early in
       let s = run scenario (n + m) in
       let o = (next scenario s).1 in
-      let lowest = hit_by (stops between).breakpoints.now (stops between).looks scenario s in
+      let lowest = hit_by (breakpoints between) true scenario s in
       let step = tells between scenario s true new late in
       let by : TellsBy told lowest o true (Some number) (view between) (view new) = rw is at step.by in
       let put = sym (out-add-one scenario (n + m)) in
@@ -96,14 +94,14 @@ module _ {T : Type 0} (told may_refuse : Bool) (sees : T → Scenario → State 
       rw ends (record {
         tail = tail_on scenario n m o (view between) (view new) put so_far.tail step.tail;
         failures = by.failures ∙ so_far.failures;
-        growth = λ w. grown-hit (more - suc m) (n + suc m) number (view new).text (so_far.growth w) left next_is (λ e. absurd (omega arith)) (sym (by.found_is ∙ holds_there m old between right early)) (rw put at (by.written w));
+        growth = λ w. grown-hit (more - suc m) (n + suc m) number (view new).text (so_far.growth w) left next_is (λ e. absurd (omega arith)) (sym (by.found_is ∙ holds_there m old between early)) (rw put at (by.written w));
       })
-  ended_by m old new None (Ok x) most within right tail walked is ends = absurd (let bad : false ≡ true = ends in cc)
-  ended_by m old new None (Err failed) most within right tail (between, early, late) is ends =
-      let so_far = has_told m old between (omega arith) (omega arith) right tail early in
+  ended_by m old new None (Ok x) most within tail walked is ends = absurd (let bad : false ≡ true = ends in cc)
+  ended_by m old new None (Err failed) most within tail (between, early, late) is ends =
+      let so_far = has_told m old between (omega arith) (omega arith) tail early in
       let s = run scenario (n + m) in
       let o = (next scenario s).1 in
-      let lowest = hit_by (stops between).breakpoints.now (stops between).looks scenario s in
+      let lowest = hit_by (breakpoints between) true scenario s in
       let step = tells between scenario s true new late in
       let by : TellsBy told lowest o true None (view between) (view new) = rw is at step.by in
       let put = sym (out-add-one scenario (n + m)) in
@@ -114,19 +112,19 @@ module _ {T : Type 0} (told may_refuse : Bool) (sees : T → Scenario → State 
         growth = λ w. growth-broken (more - suc m) (view new).text (so_far.growth w) left (λ e. absurd (omega arith)) (rw put at (by.written w));
       }
 
-  pub has_ended : (is : Stop) (m : ℕ) (old new : T) (h : Option ℕ) (result : Result Ending WriteFailed) → n + m ≤ step_limit → HasStopped may_refuse n more (n + m) is → (stops old).looks ≡ list_any asks (stops old).breakpoints.now → (view old).tail ≡ last_of tail_length (outs scenario n) → WalkedFor sees scenario n m (is_by_watcher is) old new → hit new ≡ h → EndsAs is h result
-      → HasEnded told may_refuse scenario (stops old).breakpoints.now more n (n + m) (view old) (view new) result
-  has_ended stop.All m old new h result within stopped right tail walked found ends =
-      let so_far = has_told m old new (omega (arith, stopped)) within right tail walked in
+  pub has_ended : (is : Stop) (m : ℕ) (old new : T) (h : Option ℕ) (result : Result Ending WriteFailed) → n + m ≤ step_limit → HasStopped may_refuse n more (n + m) is → (view old).tail ≡ last_of tail_length (outs scenario n) → WalkedFor sees scenario n m (is_by_watcher is) old new → hit new ≡ h → EndsAs is h result
+      → HasEnded told may_refuse scenario (breakpoints old) more n (n + m) (view old) (view new) result
+  has_ended stop.All m old new h result within stopped tail walked found ends =
+      let so_far = has_told m old new (omega (arith, stopped)) within tail walked in
       rw ends (record { tail = so_far.tail; failures = so_far.failures; growth = λ w. grown-reached (so_far.growth w) (omega (arith, stopped)) })
-  has_ended stop.Watcher zero old new h result within stopped right tail walked found ends = absurd (omega (arith, stopped.0))
-  has_ended stop.Watcher (suc m) old new h result within stopped right tail walked found ends = ended_by m old new h result (omega (arith, stopped.1)) (omega (arith, within)) right tail walked found ends
-  has_ended stop.StepLimit m old new h result within stopped right tail walked found ends =
-      let so_far = has_told m old new (omega (arith, stopped.1)) within right tail walked in
+  has_ended stop.Watcher zero old new h result within stopped tail walked found ends = absurd (omega (arith, stopped.0))
+  has_ended stop.Watcher (suc m) old new h result within stopped tail walked found ends = ended_by m old new h result (omega (arith, stopped.1)) (omega (arith, within)) tail walked found ends
+  has_ended stop.StepLimit m old new h result within stopped tail walked found ends =
+      let so_far = has_told m old new (omega (arith, stopped.1)) within tail walked in
       let left : more - m ≡ suc (more - suc m) = omega (arith, stopped.1) in
       rw ends (record { tail = so_far.tail; failures = so_far.failures; growth = λ w. grown-limit (more - suc m) (so_far.growth w) left stopped.2 })
-  has_ended stop.NoMemory m old new h result within stopped right tail walked found ends =
-      let so_far = has_told m old new (omega (arith, stopped.1)) within right tail walked in
+  has_ended stop.NoMemory m old new h result within stopped tail walked found ends =
+      let so_far = has_told m old new (omega (arith, stopped.1)) within tail walked in
       let left : more - m ≡ suc (more - suc m) = omega (arith, stopped.1) in
       rw ends (record { tail = so_far.tail; failures = so_far.failures; growth = λ w. grown-refused (more - suc m) (so_far.growth w) left (λ e. absurd (omega (arith, e, stopped.2))) (λ never. let bad : true ≡ false = sym stopped.3 ∙ never in cc) })
 
@@ -138,16 +136,13 @@ pub grows_refused : (may_refuse : Bool) (scenario : Scenario) (breakpoints : Lis
 grows_refused may_refuse scenario breakpoints more n text some below may = grown-refused (more - 1) growing-none (omega arith) (λ e. absurd (omega (arith, e))) (λ never. let bad : true ≡ false = sym may ∙ never in cc)
 
 -- the teller of new steps
-abbrev pub seen : {W : Type 0} → (W → List ℕ) → (W → ℕ) → Teller W → Telling
+abbrev pub seen : {W B : Type 0} → (W → List ℕ) → (W → ℕ) → Teller W B → Telling
 seen written failures t = record { tail = t.tail.now; text = written t.out.now; failures = failures t.out.now }
 
-abbrev stops_of : {W : Type 0} → Teller W → Stops
-stops_of t = record { breakpoints = t.breakpoints; looks = t.looks }
-
-abbrev pub Sees : {W : Type 0} → Bool → (W → List ℕ) → (W → List ℕ) → (W → ℕ) → Teller W → Scenario → State → Bool → Teller W → Type 0
-Sees told written handed_on failures old scenario state ended new =
-    (new.tail.ghost_name ≡ old.tail.ghost_name) × (new.out.ghost_name ≡ old.out.ghost_name) × (new.breakpoints ≡ old.breakpoints) × (new.looks ≡ old.looks)
-    × Tells told (hit_by old.breakpoints.now old.looks scenario state) (next scenario state).1 ended new.hit (seen written failures old) (seen written failures new)
+abbrev pub Sees : {W B : Type 0} → Bool → (W → List ℕ) → (W → List ℕ) → (W → ℕ) → (B → List Breakpoint) → Teller W B → Scenario → State → Bool → Teller W B → Type 0
+Sees told written handed_on failures breakpoints old scenario state ended new =
+    (new.tail.ghost_name ≡ old.tail.ghost_name) × (new.out.ghost_name ≡ old.out.ghost_name) × (new.breaks ≡ old.breaks)
+    × Tells told (hit_by (breakpoints old.breaks.now) true scenario state) (next scenario state).1 ended new.hit (seen written failures old) (seen written failures new)
     × HandsOn told ended old.until_flush new.until_flush (handed_on new.out.now) (written new.out.now)
 
 -- what no step changes
@@ -158,17 +153,17 @@ same_for sees name keeps scenario n (suc m) ended old new (between, early, late)
     keeps between scenario (run scenario (n + m)) ended new late ∙ same_for sees name keeps scenario n m false old between early
 
 -- what is left of it, and how its steps end
-pub teller_ended : {W : Type 0} (told may_refuse : Bool) (written handed_on : W → List ℕ) (failures : W → ℕ) (scenario : Scenario) (more n high : ℕ) (is : Stop) (old new : Teller W) (result : Result Ending WriteFailed)
-    → high ≤ step_limit → HasStopped may_refuse n more high is → old.looks ≡ list_any asks old.breakpoints.now → old.tail.now ≡ last_of tail_length (outs scenario n) → Walked (Sees told written handed_on failures) scenario n high (is_by_watcher is) old new → EndsAs is new.hit result
-    → (new.tail.ghost_name ≡ old.tail.ghost_name) × (new.out.ghost_name ≡ old.out.ghost_name) × HasEnded told may_refuse scenario old.breakpoints.now more n high (seen written failures old) (seen written failures new) result
-teller_ended told may_refuse written handed_on failures scenario more n high is old new result within stopped right tail (m, reached, walked) ends =
-    let sees = Sees told written handed_on failures in (
-      same_for sees (λ (w : Teller _). w.tail.ghost_name) (λ w p s b w' k. k.0) scenario n m (is_by_watcher is) old new walked,
-      same_for sees (λ (w : Teller _). w.out.ghost_name) (λ w p s b w' k. k.1) scenario n m (is_by_watcher is) old new walked,
-      rw reached (has_ended told may_refuse sees (seen written failures) stops_of (λ (w : Teller _). w.hit) (λ w p s b w' k i. record { breakpoints = k.2 i; looks = k.3 i }) (λ w p s b w' k. k.4) scenario more n
-          is m old new new.hit result (rw reached at within) (rw reached at stopped) right tail walked refl ends),
+pub teller_ended : {W B : Type 0} (told may_refuse : Bool) (written handed_on : W → List ℕ) (failures : W → ℕ) (breakpoints : B → List Breakpoint) (scenario : Scenario) (more n high : ℕ) (is : Stop) (old new : Teller W B) (result : Result Ending WriteFailed)
+    → high ≤ step_limit → HasStopped may_refuse n more high is → old.tail.now ≡ last_of tail_length (outs scenario n) → Walked (Sees told written handed_on failures breakpoints) scenario n high (is_by_watcher is) old new → EndsAs is new.hit result
+    → (new.tail.ghost_name ≡ old.tail.ghost_name) × (new.out.ghost_name ≡ old.out.ghost_name) × HasEnded told may_refuse scenario (breakpoints old.breaks.now) more n high (seen written failures old) (seen written failures new) result
+teller_ended told may_refuse written handed_on failures breakpoints scenario more n high is old new result within stopped tail (m, reached, walked) ends =
+    let sees = Sees told written handed_on failures breakpoints in (
+      same_for sees (λ (w : Teller _ _). w.tail.ghost_name) (λ w p s b w' k. k.0) scenario n m (is_by_watcher is) old new walked,
+      same_for sees (λ (w : Teller _ _). w.out.ghost_name) (λ w p s b w' k. k.1) scenario n m (is_by_watcher is) old new walked,
+      rw reached (has_ended told may_refuse sees (seen written failures) (λ (w : Teller _ _). breakpoints w.breaks.now) (λ (w : Teller _ _). w.hit) (λ w p s b w' k. ap (λ r. breakpoints r.now) k.2) (λ w p s b w' k. k.3) scenario more n
+          is m old new new.hit result (rw reached at within) (rw reached at stopped) tail walked refl ends),
     )
 
 -- of a teller that was told nothing
-pub told_nothing : {W : Type 0} (old new : Teller W) → new ≡ old → (old.out.ghost_name ≡ new.out.ghost_name) × (new.out.now ≡ old.out.now)
-told_nothing old new same = (sym (ap (λ (w : Teller _). w.out.ghost_name) same), ap (λ (w : Teller _). w.out.now) same)
+pub told_nothing : {W B : Type 0} (old new : Teller W B) → new ≡ old → (old.out.ghost_name ≡ new.out.ghost_name) × (new.out.now ≡ old.out.now)
+told_nothing old new same = (sym (ap (λ (w : Teller _ _). w.out.ghost_name) same), ap (λ (w : Teller _ _). w.out.now) same)

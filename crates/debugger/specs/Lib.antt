@@ -2,6 +2,7 @@ pub mod Additions
 pub mod History
 pub mod Growth
 pub mod Stopping
+pub mod Marks
 pub mod Replies
 pub mod Positions
 pub mod Waiting

@@ -10,9 +10,8 @@ ghost use Rattle.debugger.specs.Executions.{Grows};
 ghost use Rattle.debugger.specs.HandingOn.{steps_left_after};
 ghost use Rattle.debugger.specs.Telling.{EndsAs};
 
-use crate::breakpoints::lowest_hit;
 use crate::ending::Ending;
-use crate::stops::{look, looks_at};
+use crate::marks::{Breaks, Marks, NoBreaks};
 use crate::tail::Tail;
 use commands::Breakpoints;
 use cpu::{Machine, Output, Processor, write_channel_line};
@@ -39,10 +38,33 @@ pub(crate) fn grow<K: Keeper, W: Write>(
     ensures growth { W.told ≡ true → Grows K.may_refuse (history session.old.scenario) breakpoints.now more session.old.n session.new.n (W.written out.old) (W.written out.new) result }
     ensures failures { W.failures out.new ≡ failures_after (W.failures out.old) result }
 {
+    if breakpoints.len() == 0 {
+        grow_to(session, tail, &NoBreaks, more, out)
+    } else {
+        grow_to(session, tail, &Marks::of(breakpoints), more, out)
+    }
+}
+
+/// The same, up to the first step that one of these breaks off.
+fn grow_to<K: Keeper, W: Write, B: Breaks>(
+    session: &mut Session<K>,
+    tail: &mut Tail,
+    breaks: &B,
+    more: u64,
+    out: &mut W,
+) -> Result<Ending, WriteFailed>
+    requires { tail.old ≡ last_of tail_length (outs session.old.scenario session.old.n) }
+    ensures tail { tail.new ≡ last_of tail_length (outs session.new.scenario session.new.n) }
+    ensures scenario { session.new.scenario ≡ session.old.scenario }
+    ensures forward { session.old.n ≤ session.new.n }
+    ensures most { session.new.n ≤ session.old.n + more }
+    ensures spends { session.new.meter + 2 * session.old.n ≤ session.old.meter + 2 * session.new.n }
+    ensures growth { W.told ≡ true → Grows K.may_refuse (history session.old.scenario) (B.breakpoints breaks.now) more session.old.n session.new.n (W.written out.old) (W.written out.new) result }
+    ensures failures { W.failures out.new ≡ failures_after (W.failures out.old) result }
+{
     let mut teller = Teller {
         tail,
-        breakpoints,
-        looks: looks_at(breakpoints),
+        breaks,
         out,
         until_flush: STEPS_BETWEEN_FLUSHES,
         hit: None,
@@ -73,12 +95,11 @@ fn ending_of(stop: Stop, hit: Option<u64>) -> Result<Ending, WriteFailed>
 /// What makes steps, writes the line of each output, hands the lines on as long steps go, and ends after the first at which a
 /// breakpoint holds or the writer has failed.
 #[derive(Drop)]
-struct Teller<'a, W: Write> {
+struct Teller<'a, W: Write, B: Breaks> {
     tail: &'a mut Tail,
-    breakpoints: &'a Breakpoints,
 
-    /// Whether one of them asks what a step did. Else nothing is noted before a step.
-    looks: bool,
+    /// What ends the steps.
+    breaks: &'a B,
 
     out: &'a mut W,
 
@@ -89,19 +110,19 @@ struct Teller<'a, W: Write> {
     hit: Option<u64>,
 }
 
-impl<'a, W: Write> Stepper for Teller<'a, W> {
+impl<'a, W: Write, B: Breaks> Stepper for Teller<'a, W, B> {
     ghost use Rattle.cpu.specs.Next.{next};
     ghost use Rattle.debugger.specs.HandingOn.{HandsOn};
     ghost use Rattle.debugger.specs.Stopping.{hit_by};
     ghost use Rattle.debugger.specs.Telling.{Tells, Telling};
 
-    ghost sees = { λ old scenario state ended new. (new.tail.ghost_name ≡ old.tail.ghost_name) × (new.out.ghost_name ≡ old.out.ghost_name) × (new.breakpoints ≡ old.breakpoints) × (new.looks ≡ old.looks)
-        × Tells W.told (hit_by old.breakpoints.now old.looks scenario state) (next scenario state).1 ended new.hit (record { tail = old.tail.now; text = W.written old.out.now; failures = W.failures old.out.now }) (record { tail = new.tail.now; text = W.written new.out.now; failures = W.failures new.out.now })
+    ghost sees = { λ old scenario state ended new. (new.tail.ghost_name ≡ old.tail.ghost_name) × (new.out.ghost_name ≡ old.out.ghost_name) × (new.breaks ≡ old.breaks)
+        × Tells W.told (hit_by (B.breakpoints old.breaks.now) true scenario state) (next scenario state).1 ended new.hit (record { tail = old.tail.now; text = W.written old.out.now; failures = W.failures old.out.now }) (record { tail = new.tail.now; text = W.written new.out.now; failures = W.failures new.out.now })
         × HandsOn W.told ended old.until_flush new.until_flush (W.handed_on new.out.now) (W.written new.out.now) };
 
     #[inline(always)]
     fn make_step(&mut self, processor: &mut Processor, machine: &mut Machine) -> bool {
-        let noted = look(self.looks, self.breakpoints, processor, machine);
+        let noted = self.breaks.look(processor, machine);
         let output = processor.step(machine);
         if tell(self.tail, output, self.out).is_err()
             || hand_on_in_time(&mut self.until_flush, self.out).is_err()
@@ -109,7 +130,7 @@ impl<'a, W: Write> Stepper for Teller<'a, W> {
             self.hit = None;
             return true;
         }
-        match lowest_hit(self.breakpoints.as_slice(), &noted, machine) {
+        match self.breaks.lowest_hit(&noted, machine) {
             Some(number) => {
                 self.hit = Some(number);
                 true

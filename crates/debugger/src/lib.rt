@@ -19,6 +19,7 @@ mod laws;
 mod link_texts;
 mod links;
 mod manner;
+mod marks;
 mod noted;
 mod retracing;
 mod routines;
