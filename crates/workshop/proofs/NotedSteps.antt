@@ -15,8 +15,8 @@ pub record StandsNoted (told : Bool) (named : Named) (scenario : Scenario) (n : 
   pub counted : Counted named scenario n book
 
 pub noted_after_step : (told : Bool) (named : Named) (scenario now : Scenario) (n : ℕ) (s t : State) (a b c : List ℕ) (k j : ℕ) (book more : Book) → now ≡ scenario → StandsNoted told named scenario n s a b k book
-    → Notes now s book more → t ≡ (next now s).0 → (told ≡ true → c ≡ b ++ channel_lines (outputs_after now s)) → j ≡ length (outputs_after now s)
-    → StandsNoted told named scenario (n + 1) t a c (k + j) more
+    → Notes now s book more → t ≡ (next now s).0 → (told ≡ true → c ≡ b ++ channel_lines (outputs_after now s)) → j ≡ k + length (outputs_after now s)
+    → StandsNoted told named scenario (n + 1) t a c j more
 noted_after_step told named scenario now n s t a b c k j book more same before notes e w q = record {
   run = stands_after_step told scenario now n s t a b c k j same before.run e w q;
   counted = counted_next named scenario now n s book more same before.run.state before.counted notes;

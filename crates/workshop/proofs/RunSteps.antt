@@ -102,13 +102,13 @@ stands_at_start told scenario s a e =
     record { state = e; written = λ _. start_writes scenario a; outputs = rw (outs-zero scenario) refl }
 
 pub stands_after_step : (told : Bool) (scenario now : Scenario) (n : ℕ) (s t : State) (a b c : List ℕ) (k j : ℕ) → now ≡ scenario → Stands told scenario n s a b k
-    → t ≡ (next now s).0 → (told ≡ true → c ≡ b ++ channel_lines (outputs_after now s)) → j ≡ length (outputs_after now s) → Stands told scenario (n + 1) t a c (k + j)
+    → t ≡ (next now s).0 → (told ≡ true → c ≡ b ++ channel_lines (outputs_after now s)) → j ≡ k + length (outputs_after now s) → Stands told scenario (n + 1) t a c j
 stands_after_step told scenario now n s t a b c k j same before e w q =
     record {
       state = state_more scenario n s t before.state (subst (λ (u : Scenario). t ≡ (next u s).0) same e);
       written = λ is_told.
           lines_after scenario n s a b c before.state (before.written is_told) (subst (λ (u : Scenario). c ≡ b ++ channel_lines (outputs_after u s)) same (w is_told));
-      outputs = outputs_more scenario n s k j before.state before.outputs (subst (λ (u : Scenario). j ≡ length (outputs_after u s)) same q);
+      outputs = subst (λ (u : Scenario). j ≡ k + length (outputs_after u s)) same q ∙ outputs_more scenario n s k (length (outputs_after scenario s)) before.state before.outputs refl;
     }
 
 pub stands_breaks_off : (told : Bool) (scenario now : Scenario) (steps n : ℕ) (s : State) (a b c : List ℕ) (k : ℕ) → n < steps → now ≡ scenario → Stands told scenario n s a b k

@@ -164,7 +164,7 @@ fn run<W: Write, T: Write>(
     while done < steps {
         let stop = steps.min(done + STEPS_BETWEEN_FLUSHES);
         while done < stop {
-            outputs += step_and_write(processor, &mut machine, out)?;
+            step_and_write(processor, &mut machine, &mut outputs, out)?;
             done += 1;
         }
         hand_on(out)?;
@@ -190,20 +190,22 @@ pub(crate) fn hand_on<W: Write>(out: &mut W) -> Result<(), WriteFailed>
     }
 }
 
-/// Makes a step, writes the line of what it puts out, and answers how many lines that is.
+/// Makes a step, writes the line of what it puts out, and counts it among the lines.
 #[inline(always)]
 #[tactic(auto, using(crate::proofs::RunSteps::lines_of_none, crate::proofs::RunSteps::lines_of_one))]
 pub(crate) fn step_and_write<W: Write>(
     processor: &mut Processor,
     machine: &mut Machine,
+    lines: &mut u64,
     out: &mut W,
-) -> Result<u64, WriteFailed>
+) -> Result<(), WriteFailed>
     requires cycles { machine.old.cycles ≤ 2 ^ 62 }
     requires fits { FitsRun processor.old.scenario machine.old }
+    requires room { lines.old < 2 ^ 63 }
     ensures scenario { processor.new.scenario ≡ processor.old.scenario }
     ensures state { machine.new ≡ (next processor.old.scenario machine.old).0 }
-    ensures count { IfOk result (λ count. count ≡ length (outputs_after processor.old.scenario machine.old)) }
-    ensures at_most_one { IfOk result (λ count. count ≤ 1) }
+    ensures count { OnOk result (lines.new ≡ lines.old + length (outputs_after processor.old.scenario machine.old)) }
+    ensures at_most_one { OnOk result (lines.new ≤ lines.old + 1) }
     ensures written { W.told ≡ true →
         Writes (W.written out.old) (W.written out.new) (channel_lines (outputs_after processor.old.scenario machine.old)) result }
     ensures failures { W.failures out.new ≡ failures_after (W.failures out.old) result }
@@ -212,9 +214,10 @@ pub(crate) fn step_and_write<W: Write>(
     match processor.step(machine) {
         Some(output) => {
             write_output(output.cycles, output.channel, output.word, out)?;
-            Ok(1)
+            *lines += 1;
+            Ok(())
         }
-        None => Ok(0),
+        None => Ok(()),
     }
 }
 

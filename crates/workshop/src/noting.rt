@@ -193,7 +193,7 @@ fn run_noting<W: Write, T: Write>(
         let stop = steps.min(done + STEPS_BETWEEN_FLUSHES);
         while done < stop {
             notebook.note(processor, &machine);
-            outputs += step_and_write(processor, &mut machine, out)?;
+            step_and_write(processor, &mut machine, &mut outputs, out)?;
             done += 1;
         }
         hand_on(out)?;

@@ -42,24 +42,24 @@ step_and_write-requires-clause-fits g c =
     let here = c.loop-done-2.invariant.stands _ _ c.loop-done.invariant.scenario c.loop-done.invariant.stands in
     fits_after c.args.processor.now.scenario _ c.loop-done-2.done _ (c.loop-done-2.invariant.scenario ∙ c.loop-done.invariant.scenario) here.state
 
-pub returns-in_err-outputs-clause-makes : goal.returns-in_err-outputs-clause-makes
-returns-in_err-outputs-clause-makes g c =
+pub returns-in_err-step_and_write-clause-makes : goal.returns-in_err-step_and_write-clause-makes
+returns-in_err-step_and_write-clause-makes g c =
     let p = err_from_is_err_and c.from_residual.result c.from_residual.ensures.1 in
     let breaks : g.W.Write.told ≡ true → BreaksOff c.args.processor.now.scenario c.args.steps (g.W.Write.written c.args.out.now) (g.W.Write.written c.step_and_write.new.out) = λ told.
     stands_breaks_off _ c.args.processor.now.scenario _ c.args.steps c.loop-done-2.done _ _ _ _ _ (omega arith)
     (c.loop-done-2.invariant.scenario ∙ c.loop-done.invariant.scenario)
-    (c.loop-done-2.invariant.stands _ _ c.loop-done.invariant.scenario c.loop-done.invariant.stands) told (c.in_err-outputs.ensures.written told) in
-    rw (p.1, p.2) (breaks, c.in_err-outputs.ensures.failures ∙ ap one_more (c.loop-done-2.invariant.failures ∙ c.loop-done.invariant.failures))
+    (c.loop-done-2.invariant.stands _ _ c.loop-done.invariant.scenario c.loop-done.invariant.stands) told (c.in_err-step_and_write.ensures.written told) in
+    rw (p.1, p.2) (breaks, c.in_err-step_and_write.ensures.failures ∙ ap one_more (c.loop-done-2.invariant.failures ∙ c.loop-done.invariant.failures))
 
 pub loop-done-2-preserved : goal.loop-done-2-preserved
 loop-done-2-preserved g c =
     record {
-      scenario = c.in_ok-outputs.ensures.scenario ∙ c.loop-done-2.invariant.scenario;
+      scenario = c.in_ok-step_and_write.ensures.scenario ∙ c.loop-done-2.invariant.scenario;
       stands = λ scenario old e before.
-          stands_after_step _ scenario _ c.loop-done-2.done _ _ old _ _ c.loop-done-2.outputs c.in_ok-outputs.field-0 (c.loop-done-2.invariant.scenario ∙ e)
-          (c.loop-done-2.invariant.stands scenario old e before) c.in_ok-outputs.ensures.state c.in_ok-outputs.ensures.written c.in_ok-outputs.ensures.count;
-      failures = c.in_ok-outputs.ensures.failures ∙ c.loop-done-2.invariant.failures;
-      few_outputs = omega (arith, c.in_ok-outputs.ensures.at_most_one, c.loop-done-2.invariant.few_outputs);
+          stands_after_step _ scenario _ c.loop-done-2.done _ _ old _ _ c.loop-done-2.outputs c.step_and_write.new.lines (c.loop-done-2.invariant.scenario ∙ e)
+          (c.loop-done-2.invariant.stands scenario old e before) c.in_ok-step_and_write.ensures.state c.in_ok-step_and_write.ensures.written c.in_ok-step_and_write.ensures.count;
+      failures = c.in_ok-step_and_write.ensures.failures ∙ c.loop-done-2.invariant.failures;
+      few_outputs = omega (arith, c.in_ok-step_and_write.ensures.at_most_one, c.loop-done-2.invariant.few_outputs);
       within = omega arith;
       further = omega arith;
     }
@@ -72,14 +72,14 @@ returns-in_err-hand_on-clause-makes g c =
     breaks_off_after c.args.processor.now.scenario c.args.steps c.loop-done-2.done _ _ _ (omega arith) (here.written told) (c.in_err-hand_on.ensures.written told) in
     rw (p.1, p.2) (breaks, c.in_err-hand_on.ensures.failures ∙ ap one_more (c.loop-done-2.invariant.failures ∙ c.loop-done.invariant.failures))
 
-pub returns-in_err-outputs-clause-progress : goal.returns-in_err-outputs-clause-progress
-returns-in_err-outputs-clause-progress g c =
+pub returns-in_err-step_and_write-clause-progress : goal.returns-in_err-step_and_write-clause-progress
+returns-in_err-step_and_write-clause-progress g c =
     let p = err_from_is_err_and c.from_residual.result c.from_residual.ensures.1 in
     let here = c.loop-done-2.invariant.stands _ _ c.loop-done.invariant.scenario c.loop-done.invariant.stands in
     let whole = c.loop-done.invariant.whole c.loop-done-test.true in
     rw (p.1, p.2) (told_in_step (run_text c.args.processor.now.scenario) c.args.steps c.loop-done.done c.loop-done-2.done _ _ c.loop-done.told whole (omega arith) (omega arith) (omega arith)
-    (λ told. stands_whole _ c.args.processor.now.scenario _ _ _ _ _ _ _ here told (c.in_err-outputs.ensures.written told))
-    (λ told. stands_broken _ c.args.processor.now.scenario _ _ _ _ _ _ _ (c.loop-done-2.invariant.scenario ∙ c.loop-done.invariant.scenario) here told (c.in_err-outputs.ensures.written told))
+    (λ told. stands_whole _ c.args.processor.now.scenario _ _ _ _ _ _ _ here told (c.in_err-step_and_write.ensures.written told))
+    (λ told. stands_broken _ c.args.processor.now.scenario _ _ _ _ _ _ _ (c.loop-done-2.invariant.scenario ∙ c.loop-done.invariant.scenario) here told (c.in_err-step_and_write.ensures.written told))
     c.loop-done.invariant.tells)
 
 pub returns-in_err-hand_on-clause-progress : goal.returns-in_err-hand_on-clause-progress
