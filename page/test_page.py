@@ -1,10 +1,11 @@
 #!/usr/bin/env python3
-"""Tests of the workbench in headless Chromium, by clicks and keys, with the module inside.
+"""Tests of the workbench in headless browsers, by clicks and keys, with the module inside.
 
-    page/test_page.py [-v] [CLASS[.TEST] ..]
+    page/test_page.py [--in BROWSER] [-v] [CLASS[.TEST] ..]
     page/test_page.py --pictures [FOLDER]     makes the pictures of the documents (docs/pictures/workbench*.png), and with FOLDER those of all widths there
 
-The module is dist/agcws.wasm, or, where that is not there, the one that page/check.py makes. Where Chromium or its driver is not there, the tests are skipped,
+Without --in they run in Chromium, and side by side with that a good part of them in Firefox and in WebKit (WebKitGTK's MiniBrowser).
+The module is dist/agcws.wasm, or, where that is not there, the one that page/check.py makes. Where a browser or its driver is not there, its tests are skipped,
 and the line that installs them is told; where a browser does not start, or ends by itself, that is told, and its tests are skipped. What takes how long is
 printed, and no test depends on it. The last line is 'N passed, M failed'.
 """
@@ -12,12 +13,14 @@ import functools
 import http.server
 import importlib.util
 import os
+import re
 import subprocess
 import sys
 import tempfile
 import threading
 import time
 import unittest
+from concurrent.futures import ThreadPoolExecutor
 
 sys.dont_write_bytecode = True
 HERE = os.path.dirname(os.path.realpath(__file__))
@@ -32,6 +35,17 @@ STEPS = 100_000_000 if os.environ.get("AGCWS_LONG") else 5_000_000
 # The most seconds of what is waited for, on a machine however busy.
 MOST_SECONDS = 120
 WIDTHS = (360, 800, 1280, 2560)
+# The browser of these tests, and what a browser leaves out: what asks for more than its driver can, or for a session that waits for its next line, which no
+# session does in WebKit, where each line costs what all before it have cost.
+IS_ONE = sys.argv[1:2] == ["--in"]
+BROWSER = driver.BROWSERS[sys.argv[2]] if IS_ONE else driver.Chromium
+if IS_ONE:
+    del sys.argv[1:3]
+LEFT_OUT = {
+    "Chromium": [],
+    "Firefox": ["Long.test_the_page_is_alive_while_millions_of_steps_run", "Reach.test_motion_is_left_out_where_that_is_wished"],
+    "WebKit": ["Keys.test_key_echo_in_time_with_the_clock", "Long.test_the_page_is_alive_while_millions_of_steps_run", "Long.test_a_source_of_ten_million_bytes_leaves_the_page_alive", "Reach.test_motion_is_left_out_where_that_is_wished"],
+}
 READY = "return document.body.dataset.ready"
 # A program that runs on and on, and changes a word all the time; and one that says nothing but counts in erasable memory.
 ENDLESS = "        SETLOC  100\nCOUNT   ERASE\n        SETLOC  4000\nLOOP    CA      COUNT\n        AD      ONE\n        TS      COUNT\n        TCF     LOOP\n        TCF     LOOP\nONE     OCT     1\n"
@@ -45,6 +59,10 @@ def read(path):
 class Served(http.server.SimpleHTTPRequestHandler):
     def log_message(self, *_):
         pass
+
+
+# lost_sum mended: its interrupt keeps A.
+MENDED = read(f"{ROOT}/examples/lost_sum.agc").replace("        ADS     TICKS\n", "        ADS     TICKS\n        CA      KEPT\n", 1).replace("        CAF     ONE\n", "        TS      KEPT\n        CAF     ONE\n", 1).replace("TICKS   ERASE\n", "TICKS   ERASE\nKEPT    ERASE\n", 1)
 
 
 def figure(text):
@@ -68,9 +86,15 @@ def module():
     return making.made_module()
 
 
-def make_page(path):
-    """Makes the page with the module."""
+ROOM = tempfile.TemporaryDirectory(prefix="agcws-page-")
+
+
+@functools.cache
+def made_page():
+    """Makes the page with the module. Returns its path."""
+    path = f"{ROOM.name}/agcws.html"
     subprocess.run([f"{HERE}/make", "--module", module(), "--out", path], check=True, stdout=subprocess.DEVNULL)
+    return path
 
 
 class Workbench(unittest.TestCase):
@@ -78,22 +102,19 @@ class Workbench(unittest.TestCase):
 
     @classmethod
     def setUpClass(cls):
-        cls.room = tempfile.TemporaryDirectory(prefix="agcws-page-")
-        cls.addClassCleanup(cls.room.cleanup)
-        cls.page = f"{cls.room.name}/agcws.html"
-        if not SERVED:
-            make_page(cls.page)
-        cls.url = SERVED or driver.url_of(cls.page)
+        cls.url = SERVED or driver.url_of(made_page())
         try:
-            cls.browser = driver.Browser()
+            cls.browser = BROWSER()
         except (driver.Failed, OSError) as failed:
-            figure(f"the tests of {cls.__name__} are skipped, since Chromium does not start: {failed}")
-            raise unittest.SkipTest("Chromium does not start") from None
+            figure(f"the tests of {cls.__name__} are skipped, since {BROWSER.name} does not start: {failed}")
+            raise unittest.SkipTest(f"{BROWSER.name} does not start") from None
         cls.addClassCleanup(cls.browser.close)
 
     def setUp(self):
+        if self.id().split(".", 1)[1] in LEFT_OUT[BROWSER.name]:
+            self.skipTest(f"left out in {BROWSER.name}")
         if self.browser.has_ended:
-            self.skipTest("Chromium has ended before")
+            self.skipTest(f"{BROWSER.name} has ended before")
         self.open()
 
     def open(self, more="", url=None):
@@ -109,6 +130,20 @@ class Workbench(unittest.TestCase):
 
     def wait(self, text):
         return self.browser.wait(text, MOST_SECONDS)
+
+    def take(self, source, steps):
+        """Puts a source in the place of the one that stands there, builds it and runs it."""
+        self.js("workbench.editor.area.focus(); workbench.editor.area.select(); document.execCommand('insertText', false, arguments[0])", source)
+        self.wait("return document.getElementById('run').textContent.startsWith('Build')")
+        self.browser.click("#run")
+        self.wait(f"return workbench.session.source === workbench.editor.text && workbench.session.n === {steps} && !workbench.S.isMoving")
+
+    def example(self, name):
+        self.js("await workbench.openDoc(JSON.parse(document.getElementById('examples').textContent).find(it => it.name === arguments[0]), {isExample: true})", f"{name}.agc")
+
+    def place(self, selector, x=8, y=8):
+        """A place in what is seen, from the corner of a thing."""
+        return tuple(self.js("const box = document.querySelector(arguments[0]).getBoundingClientRect(); return [Math.round(box.left + arguments[1]), Math.round(box.top + arguments[2])]", selector, x, y))
 
     def at(self):
         return self.js("const {p, n} = workbench.session; return [p, n]")
@@ -143,11 +178,11 @@ class Runs(Workbench):
         self.assertEqual([it for it in self.browser.said() if "favicon" not in it], [])
         self.assertEqual(self.js("setTimeout('window.evil = 1'); await new Promise(done => setTimeout(done, 200)); return String(window.evil)"), "undefined")
         self.assertEqual(self.js("try { await fetch('http://127.0.0.1:1/'); return 'taken' } catch { return 'refused' }"), "refused")
-        self.assertEqual(self.js("return new Promise(done => { addEventListener('securitypolicyviolation', it => done(it.violatedDirective), {once: true}); const made = document.createElement('script'); made.textContent = 'window.evil = 1'; document.body.append(made); setTimeout(() => done(''), 60000) })"), "script-src-elem")
+        self.assertEqual(self.js("return new Promise(done => { addEventListener('securitypolicyviolation', it => done(it.violatedDirective), {once: true}); const made = document.createElement('script'); made.textContent = 'window.evil = 1'; document.body.append(made); setTimeout(() => done(''), 60000) })")[:10], "script-src")
 
     @unittest.skipIf(SERVED, "the page is served already")
     def test_a_server_may_have_it_too(self):
-        handler = functools.partial(Served, directory=self.room.name)
+        handler = functools.partial(Served, directory=os.path.dirname(made_page()))
         with http.server.ThreadingHTTPServer(("127.0.0.1", 0), handler) as server:
             threading.Thread(target=server.serve_forever, daemon=True).start()
             self.open(url=f"http://127.0.0.1:{server.server_port}/agcws.html")
@@ -174,13 +209,9 @@ class Search(Workbench):
         self.wait("return document.querySelector('.test.bad')")
         browser.click(".test.bad")
         self.wait("return document.querySelector('.why h2')")
-        mended = read(f"{ROOT}/examples/lost_sum.agc").replace("        ADS     TICKS\n", "        ADS     TICKS\n        CA      KEPT\n", 1).replace("        CAF     ONE\n", "        TS      KEPT\n        CAF     ONE\n", 1).replace("TICKS   ERASE\n", "TICKS   ERASE\nKEPT    ERASE\n", 1)
-        self.assertIn("KEPT", mended)
         self.wait("return workbench.axis.survey?.kind === 'exact' && !workbench.S.isMoving")
-        self.js("workbench.editor.area.focus(); workbench.editor.area.select(); document.execCommand('insertText', false, arguments[0])", mended)
-        self.wait("return document.getElementById('run').textContent.startsWith('Build')")
-        browser.click("#run")
-        self.wait("return workbench.session.n === 60 && !workbench.S.isMoving && workbench.axis.ghost")
+        self.take(MENDED, 60)
+        self.wait("return workbench.axis.ghost")
         browser.click("#tab-tests .small")
         self.wait("return document.querySelector('.test.good')")
 
@@ -234,7 +265,7 @@ class Search(Workbench):
 class Keys(Workbench):
     def test_key_echo_in_time_with_the_clock(self):
         browser = self.browser
-        self.js("await workbench.openDoc(JSON.parse(document.getElementById('examples').textContent).find(it => it.name === 'key_echo.agc'), {isExample: true})")
+        self.example("key_echo")
         browser.click('[data-tab="dsky"]')
         browser.click("#pace")
         self.wait("return workbench.S.isPacing && workbench.session.n > 5000")
@@ -253,7 +284,7 @@ class Keys(Workbench):
 
     def test_a_key_becomes_an_input_of_the_past_and_is_taken_back(self):
         browser = self.browser
-        self.js("await workbench.openDoc(JSON.parse(document.getElementById('examples').textContent).find(it => it.name === 'key_echo.agc'), {isExample: true})")
+        self.example("key_echo")
         n, before = self.js("return [workbench.session.n, workbench.session.outputs.count]")
         self.js("await workbench.seek(30)")
         browser.click('[data-tab="dsky"]')
@@ -394,9 +425,7 @@ return faults;
 class Reach(Workbench):
     def test_names_roles_order_and_contrast_in_all_views(self):
         for theme in ("light", "dark"):
-            self.browser.media(prefers_color_scheme=theme)
-            self.open()
-            self.js("await workbench.why('SUM'); await workbench.seek(22)")
+            self.js("document.documentElement.dataset.theme = arguments[0]; await workbench.why('SUM'); await workbench.seek(22)", theme)
             for tab in ("steps", "dsky", "output", "memory", "tests", "console"):
                 self.js("document.querySelector(`[data-tab=\"${arguments[0]}\"]`).click(); await new Promise(done => setTimeout(done, 120))", tab)
                 with self.subTest(theme=theme, tab=tab):
@@ -406,7 +435,6 @@ class Reach(Workbench):
                 with self.subTest(theme=theme, menu=button):
                     self.assertEqual(self.js(RULES), [])
                 self.js("document.getElementById('dialog').close?.(); document.body.click()")
-        self.browser.media(prefers_color_scheme="light")
 
     def test_tab_reaches_everything_in_order_and_is_seen(self):
         self.js("document.activeElement.blur(); scrollTo(0, 0)")
@@ -450,29 +478,27 @@ class Reach(Workbench):
 
 def pictures(folder):
     """Pictures of the documents, and of all widths where a folder is told."""
-    with tempfile.TemporaryDirectory(prefix="agcws-page-") as room:
-        page = f"{room}/agcws.html"
-        make_page(page)
-        browser = driver.Browser()
-        try:
-            browser.open(driver.url_of(page))
-            for theme in ("light", "dark"):
-                browser.media(prefers_color_scheme=theme)
-                for width in WIDTHS if folder else (1280,):
-                    browser.size(width, {360: 740, 2560: 1300}.get(width, 800))
-                    for name, script in SCENES.items() if folder else [("lost_sum", SCENES["lost_sum"])]:
-                        browser.open("about:blank")
-                        browser.open(driver.url_of(page))
-                        browser.wait(READY)
-                        browser.script(script)
-                        browser.script("workbench.S.isOwn = false; localStorage.clear(); sessionStorage.clear()")
-                        time.sleep(0.9)
-                        if folder:
-                            browser.picture(f"{folder}/{name}_{width}_{theme}.png")
-                        else:
-                            browser.picture(f"{ROOT}/docs/pictures/workbench{'_dark' if theme == 'dark' else ''}.png")
-        finally:
-            browser.close()
+    page = driver.url_of(made_page())
+    browser = driver.Chromium()
+    try:
+        browser.open(page)
+        for theme in ("light", "dark"):
+            browser.media(prefers_color_scheme=theme)
+            for width in WIDTHS if folder else (1280,):
+                browser.size(width, {360: 740, 2560: 1300}.get(width, 800))
+                for name, script in SCENES.items() if folder else [("lost_sum", SCENES["lost_sum"])]:
+                    browser.open("about:blank")
+                    browser.open(page)
+                    browser.wait(READY)
+                    browser.script(script)
+                    browser.script("workbench.S.isOwn = false; localStorage.clear(); sessionStorage.clear()")
+                    time.sleep(0.9)
+                    if folder:
+                        browser.picture(f"{folder}/{name}_{width}_{theme}.png")
+                    else:
+                        browser.picture(f"{ROOT}/docs/pictures/workbench{'_dark' if theme == 'dark' else ''}.png")
+    finally:
+        browser.close()
 
 
 EXAMPLE = "await workbench.openDoc(JSON.parse(document.getElementById('examples').textContent).find(it => it.name === '%s.agc'), {isExample: true}); "
@@ -504,13 +530,13 @@ class Counted(unittest.TextTestResult):
     # (a browser that ends by itself says nothing of the page)
     def addError(self, test, err):
         if issubclass(err[0], driver.Gone):
-            self.addSkip(test, f"Chromium has ended: {err[1]}")
+            self.addSkip(test, f"{BROWSER.name} has ended: {err[1]}")
         else:
             super().addError(test, err)
 
     def addSubTest(self, test, subtest, err):
         if err and issubclass(err[0], driver.Gone):
-            self.addSkip(test, f"Chromium has ended: {err[1]}")
+            self.addSkip(test, f"{BROWSER.name} has ended: {err[1]}")
         else:
             super().addSubTest(test, subtest, err)
 
@@ -521,16 +547,52 @@ class Counted(unittest.TextTestResult):
     def stopTest(self, test):
         super().stopTest(test)
         if (took := time.monotonic() - self.began) > 4:
-            figure(f"{test.id()} took {took:.1f} s")
+            figure(f"{BROWSER.name}: {test.id()} took {took:.1f} s")
 
 
 class Runner(unittest.TextTestRunner):
     resultclass = Counted
 
 
+def run_here():
+    """Runs the tests in one browser."""
+    ran = unittest.main(exit=False, testRunner=Runner).result
+    sys.stderr.flush()
+    for test, why in ran.skipped:
+        print(f"skipped: {test}: {why}")
+    failed = len(ran.failures) + len(ran.errors)
+    print(f"{BROWSER.name}: {ran.passed} passed, {failed} failed")
+    return ran.passed, failed
+
+
+def run_in(name, words):
+    """Runs the tests in a browser, in a process of its own. Returns what was said, and how many have passed and failed."""
+    ran = subprocess.run([sys.executable, os.path.realpath(__file__), "--in", name, *words], stdin=subprocess.DEVNULL, stdout=subprocess.PIPE, stderr=subprocess.STDOUT, text=True, errors="replace", check=False)
+    found = re.search(r"^(\d+) passed, (\d+) failed\n\Z", ran.stdout, re.M)
+    return (ran.stdout[: found.start()], int(found[1]), int(found[2])) if found else (ran.stdout, 0, 1)
+
+
+def run_in_all(words):
+    """Runs the tests in all browsers that are there, side by side."""
+    there = [name for name, it in driver.BROWSERS.items() if not it.missing()]
+    for name, it in driver.BROWSERS.items():
+        if how := it.missing():
+            print(f"the workbench is not tried in {name}, since that is not there: {how}")
+    if not SERVED:
+        # (once for all of them)
+        os.environ["AGCWS_MODULE"] = module()
+    passed = failed = 0
+    with ThreadPoolExecutor(len(driver.BROWSERS)) as pool:
+        for said, good, bad in pool.map(lambda name: run_in(name, words), there):
+            print(said, end="", flush=True)
+            passed, failed = passed + good, failed + bad
+    return passed, failed
+
+
 def main(words):
-    if how := driver.missing():
-        print(f"the workbench is not tried, since Chromium and its driver are not there: {how}\n0 passed, 0 failed")
+    is_asked = IS_ONE or words[:1] == ["--pictures"]
+    if is_asked and (how := BROWSER.missing()):
+        print(f"the workbench is not tried, since {BROWSER.name} and its driver are not there: {how}\n0 passed, 0 failed")
         return 0
     try:
         SERVED or module()
@@ -540,12 +602,8 @@ def main(words):
     if words[:1] == ["--pictures"]:
         pictures(words[1] if len(words) > 1 else None)
         return 0
-    ran = unittest.main(exit=False, testRunner=Runner).result
-    sys.stderr.flush()
-    for test, why in ran.skipped:
-        print(f"skipped: {test}: {why}")
-    failed = len(ran.failures) + len(ran.errors)
-    print(f"{ran.passed} passed, {failed} failed")
+    passed, failed = run_here() if IS_ONE else run_in_all(words)
+    print(f"{passed} passed, {failed} failed")
     return 1 if failed else 0
 
 
