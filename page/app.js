@@ -1,6 +1,6 @@
 // The workbench: what is asked of the session, what it tells, and in which room that is shown.
 import { $, el, icon, soon, unit } from './dom.js';
-import { decimalOf, group, stepsOf, timeOf } from './words.js';
+import { channelOf, cyclesOf, decimalOf, group, octal, stepsOf, timeOf } from './words.js';
 import { T } from './texts.js';
 import { engine } from './transport.js';
 import { Session } from './session.js';
@@ -10,12 +10,14 @@ import { codeOf, Machine, Names, sentenceOf } from './machine.js';
 import { Why } from './why.js';
 import { Dsky } from './dsky.js';
 import { Console, Memory, Put, Steps } from './panes.js';
-import { feedOf, judge, Tests, testsOf } from './tests.js';
+import { feedOf, judge, statedBy, Tests, testsOf } from './tests.js';
+import { Compare } from './compare.js';
+import { finder } from './find.js';
 import { download, linkOf, setting, Storage, taskOf } from './storage.js';
 import { handoutOf, svgOf } from './export.js';
 import { bindKeys, showSheet } from './keys.js';
 
-const TABS = ["steps", "dsky", "output", "memory", "tests", "console"], MOST_FILE = 32 << 20, KEY_CYCLES = 853;
+const TABS = ["steps", "dsky", "output", "memory", "tests", "compare", "console"], MOST_FILE = 32 << 20, KEY_CYCLES = 853, MOST_TIP = 420;
 const examples = JSON.parse($("examples")?.textContent || "[]");
 // What stands on the page: the program, the picture of the machine and the one before it.
 const S = { name: "", flight: false, isBuilt: false, builtFeed: "", names: new Names(), picture: null, old: null, tab: "steps", chosen: null, presses: [], results: [], isMoving: false, isPacing: false, testFeed: "" };
@@ -54,18 +56,28 @@ const storage = new Storage({
   split() { banner(T.split); keep(); },
 });
 const axis = new Axis($("axis"), { seek, windowed: () => soon("survey", 120, loadSurvey) });
-const hovering = { line: (line) => toggleBreak(line), fault: explain, note: (note) => seek(note.step), word: (text) => { if (S.names.kinds.has(text)) why(text); }, hover: tip, ghost };
+const hovering = { line: (line) => toggleBreak(line), fault: explain, note: (note) => seek(note.step), word: (text) => { if (S.names.kinds.has(text)) why(text); }, hover: tip, ghost, about: tipFault, context: (event, line) => openContext(event, event.target, lineMenu(line)) };
 const editor = new Editor($("editor"), "source", { edited, ...hovering });
-const feed = new Editor($("feed"), "feed", { edited, fault: explain });
+const feed = new Editor($("feed"), "feed", { edited, fault: explain, about: tipFault, hover: () => tip(null) });
 const tests = new Editor($("tests"), "tests", { edited() { S.isOwn = true; keepSoon(); soon("tests", 400, readTests); } });
-const machine = new Machine($("state"), { why, seek, astray: () => astray()?.step ?? null, toAstray, curve: chooseCell, lineText: (line) => editor.lines[editor.shownLine(line) - 1] });
+const machine = new Machine($("state"), { why, seek, astray: () => astray()?.step ?? null, toAstray, curve: chooseCell, context: (event, name) => openContext(event, event.target.closest("button"), wordMenu(name)), lineText: (line) => editor.lines[editor.shownLine(line) - 1] });
 const chain = new Why($("why"), {
   seek, nameOf: (cell) => S.names.of(cell), isRope: (cell) => S.names.isRope(cell), more: () => why(S.chosen ?? "", (chain.asked?.count || 16) * 4),
   point(t) { axis.pointed = t; axis.draw(); editor.mark({ pointed: chain.asked?.steps[t]?.line || 0 }); },
 });
 const dsky = new Dsky($("tab-dsky"), { press, undo: undoKey });
 const panes = { steps: new Steps($("tab-steps"), { seek, why }), output: new Put($("tab-output"), { until: (cycles) => move("until", cycles), why }), memory: new Memory($("tab-memory"), { why, nameAt: (at) => S.names.byPlace.get(at) }), console: new Console($("tab-console"), { command }) };
-const testPane = new Tests($("tab-tests"), { run: runTests, open: openTest, write: () => { showFile("tests"); if (!tests.text.trim()) { tests.text = `${T.testExample}\n`; readTests(); } tests.area.focus(); }, counted(text, isBad) { const tab = document.querySelector('[data-tab="tests"]'); tab.replaceChildren(T.tabs.tests, text ? el("i", { class: isBad ? "bad" : "good" }, text) : ""); } });
+const badge = (name, text, isBad) => document.querySelector(`[data-tab="${name}"]`).replaceChildren(T.tabs[name], text ? el("i", { class: isBad ? "bad" : "good" }, text) : "");
+const compare = new Compare($("tab-compare"), {
+  seek, why, until: (cycles) => move("until", cycles), now: () => (S.isBuilt && session.n ? present() : null), reader: (run) => session.reader(run), progress: (at, of) => busy(of ? (100 * at) / of : null), counted: (text, isBad) => badge("compare", text, isBad),
+  keep() { compare.take({ ...present(), label: T.keptRun }, true); say(T.runKept); compare.show(S.tab === "compare"); },
+  restore(run) {
+    if (run.name !== S.name) return openDoc({ ...run, steps: run.n });
+    editor.replace(run.source); if (feed.text !== run.feed) feed.text = run.feed; edited(); showFile("source"); say(T.restored);
+    return null;
+  },
+});
+const testPane = new Tests($("tab-tests"), { run: runTests, open: openTest, write: () => { showFile("tests"); if (!tests.text.trim()) { tests.text = `${T.testExample}\n`; readTests(); } tests.area.focus(); }, take() { if (!S.isBuilt || !session.outputs.count) { say(T.nothingPut, true); return; } S.isOwn = true; tests.text = statedBy({ ...present(), name: T.asRun }); readTests(); keepSoon(); say(T.testsTaken); }, counted: (text, isBad) => badge("tests", text, isBad) });
 
 // What the session tells of the position.
 
@@ -86,11 +98,14 @@ function take(picture, { isLight = false } = {}) {
   chain.stand(picture.p);
   if (S.tab === "output" && isMoved) panes.output.show(session.outputs, picture.cycles);
   if (S.tab === "memory") panes.memory.show(picture, S.old, S.names);
+  showStops(picture.breaks);
   if (isLight) return;
   if (S.tab === "steps") showSteps();
   soon("cover", picture.n > 2_000_000 ? 700 : 90, loadCover);
-  if (isGrown || !axis.survey) { soon("survey", picture.n > 400_000 ? 350 : 40, loadSurvey); soon("notes", picture.n > 400_000 ? 1500 : 250, loadNotes); }
+  if (isGrown || !axis.survey) { soon("survey", picture.n > 400_000 ? 350 : 40, loadSurvey); soon("notes", picture.n > 400_000 ? 1500 : 250, loadNotes); soon("compare", 200, () => compare.show(S.tab === "compare")); }
 }
+// The run as it stands here, to be compared.
+const present = () => ({ name: S.name, source: session.source, feed: session.feed, flight: session.flight, n: session.n, outputs: session.outputs, names: S.names, lines: session.source.split("\n"), number: session.number });
 const lineOfBreak = (text) => { const found = /^(?:at|exec) (\S+)$/.exec(text); return found ? S.names.lineOf.get(found[1]) : 0; };
 function setPosition(p, n, cycles) {
   if (document.activeElement !== $("position")) $("position").value = group(p);
@@ -175,13 +190,14 @@ async function pace() {
 async function press(text, name) {
   if (!S.isBuilt) return;
   if (!/^(CHAN 15|PRO) /.test(text) && !(await session.isInput(text))) { say(T.noInput, true); return; }
-  const { p, n } = S.picture, isPast = p < n && !S.isPacing, wasPacing = S.isPacing;
+  const { p, n } = S.picture, isPast = p < n && !S.isPacing, wasPacing = S.isPacing, before = present();
   const made = await during(() => session.input(text));
   if (!made || made === "stopped") return;
   if (made.error) { say(made.error, true); return; }
   S.presses.push({ ...made, name });
   setFeed(made.feed);
   dsky.tell(S.presses);
+  if (isPast) compare.take({ ...before, label: T.beforeInput });
   if (isPast) { axis.survey = null; S.picture = { ...S.picture, n: -1 }; take(await during(() => session.look())); say(T.keyPast(name, group(p))); } else if (!wasPacing) await move("until", session.end + KEY_CYCLES);
 }
 async function undoKey(press) {
@@ -189,6 +205,7 @@ async function undoKey(press) {
   if (at < 0) return;
   lines.splice(at, 1);
   S.presses = S.presses.filter((it) => it !== press);
+  compare.take({ ...present(), label: T.beforeUndo });
   setFeed(lines.join("\n"));
   dsky.tell(S.presses);
   axis.survey = null;
@@ -236,7 +253,7 @@ function nextFault() {
   say(saidOf(it), it.kind === "error");
 }
 async function build() {
-  const source = editor.text, breaks = [...editor.breaks].map((it) => editor.shownLine(it)).filter(Boolean), others = (S.picture?.breaks || []).filter((it) => !lineOfBreak(it)), wasBuilt = S.isBuilt, before = axis.survey, chosen = S.chosen;
+  const source = editor.text, breaks = [...editor.breaks].map((it) => editor.shownLine(it)).filter(Boolean), others = (S.picture?.breaks || []).filter((it) => !lineOfBreak(it)), wasBuilt = S.isBuilt, before = axis.survey, chosen = S.chosen, old = wasBuilt && session.n ? present() : null;
   const opened = await during(() => session.open({ source, feed: feed.text, flight: S.flight }));
   showFaults(opened.faults);
   if (!opened.rows) { say(T.hasFaults, true); showEdited(); const bad = opened.faults.find((it) => it.kind === "error"); if (bad) { showFile(bad.file); (bad.file === "feed" ? feed : editor).showLine(bad.line); } return false; }
@@ -244,6 +261,8 @@ async function build() {
   axis.ghost = wasBuilt && before?.kind === "exact" && before.from === 0 ? before : null;
   Object.assign(S, { isBuilt: true, builtFeed: feed.text, names: new Names(opened.rows, opened.symbols), old: null, chosen: null, presses: [], testFeed: "" });
   if (editor.text === source) editor.built();
+  if (old) compare.take({ ...old, label: T.beforeEditRun });
+  dsky.offer(session.offers());
   listCells();
   editor.mark({ places: S.names.rows, counts: new Map(), links: new Map(), breaks: new Set(), notes: new Map() });
   Object.assign(axis, { chain: [], notes: [], window: null, survey: null });
@@ -270,6 +289,7 @@ function clear() {
   machine.picture = null;
   for (const id of ["flags", "regs", "words", "chans"]) $(id).replaceChildren();
   $("now").replaceChildren(el("p", { class: "says" }, T.notBuilt));
+  showStops([]);
   for (const it of ["steps", "output", "memory"]) $(`tab-${it}`).replaceChildren(el("p", { class: "empty-tab" }, T.notBuilt));
 }
 async function setBreak(line) {
@@ -283,6 +303,50 @@ async function toggleBreak(line) {
   take(await session.look(), { isLight: true });
   keepSoon();
 }
+// What ends a move, beside the machine.
+const stopText = (text) => { const [kind, place, ...rest] = text.split(" "), name = kind === "chan" ? `CH${octal(parseInt(place, 8), 3)}` : S.names.of(place); return T.stopKinds[kind]?.(name, rest.join(" ")) || text; };
+function showStops(breaks) {
+  $("stops").hidden = !breaks.length;
+  $("stops").replaceChildren(...breaks.map((text, i) => el("span", { class: "chip-of" }, el("button", { title: T.toStop, onclick: () => toNearest(text, null, T.neverHolds) }, stopText(text)), el("button", { class: "undo", "aria-label": T.dropStop(stopText(text)), title: T.dropStop(stopText(text)), onclick: () => dropStop(i + 1) }, "\u00d7"))));
+}
+async function addStop(text) { const refused = await session.breakpoint(text); if (refused) say(refused, true); else say(T.stopSet(stopText(S.isBuilt ? session.breaks[session.breaks.length - 1] || text : text))); take(await session.look(), { isLight: true }); keepSoon(); }
+async function dropStop(number) { const refused = await session.clearBreak(number); if (refused) say(refused, true); take(await session.look(), { isLight: true }); keepSoon(); }
+// To the nearest step at which something holds: back, on, or on and else back.
+async function toNearest(text, isBack, none) {
+  let step = await during(() => session.nearest(text, isBack === true));
+  if (step === null && isBack === null) step = await during(() => session.nearest(text, true));
+  if (typeof step === "number") await seek(step); else if (step === null) say(none, true);
+}
+// What can be asked of a word, and of a line.
+function wordMenu(name) {
+  const word = machine.wordOf(name), channel = channelOf(name), stop = channel === null ? `word ${name} ${word}` : `chan ${octal(channel, 3)} ${word}`;
+  return [
+    { name: T.word.why, note: "W", work: () => why(name) }, { name: T.word.curve, work: () => chooseCell(name) }, { name: T.word.back, work: () => toNearest(`change ${name}`, true, T.noChangeBack(name)) }, { name: T.word.on, work: () => toNearest(`change ${name}`, false, T.noChangeOn(name)) }, "-",
+    { name: T.word.stopChange, work: () => addStop(`change ${name}`) }, ...(word?.length === 5 ? [{ name: T.word.stopWord(decimalOf(word)), note: word, work: () => addStop(stop) }] : []),
+  ];
+}
+function lineMenu(line) {
+  const row = S.names.rows.get(line), isSet = S.picture?.breaks.some((it) => lineOfBreak(it) === line);
+  if (!row) return [{ name: T.lineMenu.none, work() { /* nothing can be done here */ } }];
+  return [{ name: isSet ? T.lineMenu.drop : T.lineMenu.stop, note: "B", work: () => toggleBreak(line) }, { name: T.lineMenu.exec, work: () => addStop(`exec ${row.place}`) }, "-", ...(editor.counts.get(line) ? [] : [{ name: T.lineMenu.never, work: () => whyNever(row) }]), { name: T.lineMenu.on, work: () => toNearest(`at ${row.place}`, false, T.noStepOn) }, { name: T.lineMenu.back, work: () => toNearest(`at ${row.place}`, true, T.noStepBack) }];
+}
+// Why a line is never executed: the last before it that is, which always goes elsewhere.
+async function whyNever(row) {
+  const later = await during(() => session.nearest(`at ${row.place}`, false));
+  if (later !== null) { if (typeof later === "number") { await seek(later); say(T.comesLater); } return; }
+  const counts = await session.cover(session.n), before = [...S.names.rows.values()].filter((it) => it.line < row.line && counts?.get(it.line)).sort((a, b) => b.line - a.line)[0];
+  if (!before) { say(T.neverAny, true); return; }
+  await toNearest(`at ${before.place}`, null, T.neverAny);
+  say(T.neverCome(codeOf(editor.lines[editor.shownLine(before.line) - 1] || "").join(" "), before.line, group(counts.get(before.line)[0]), row.line), true);
+}
+// The menu of what has the keyboard: a word, or the next line.
+function ownMenu() {
+  const focused = document.activeElement.closest?.("[data-cell]"), line = S.picture?.where.line;
+  if (focused) openContext(new MouseEvent("contextmenu"), focused, wordMenu(focused.dataset.cell));
+  else if (S.chosen) openContext(new MouseEvent("contextmenu"), document.querySelector(`button.cell[data-cell="${CSS.escape(S.chosen)}"]`) || $("why"), wordMenu(S.chosen));
+  else if (line) openContext(new MouseEvent("contextmenu"), document.querySelector("#editor .is-now .g") || $("editor"), lineMenu(line));
+}
+function find() { finder({ names: S.names, lines: editor.lines, wordOf: (name) => machine.wordOf(name), listed: (place, count) => (S.isBuilt ? session.listed(place, count) : null), line(line) { document.body.dataset.room = "source"; showFile("source"); editor.pointAt(line); }, word: (name) => { if (S.isBuilt) why(name); } }); }
 // The word of the operand that comes next.
 function ghost(text) {
   const [, operand, offset] = codeOf(text), name = operand && (/^\+?\d+$/.test(offset || "") ? `${operand} +${offset.replace("+", "")}` : operand), word = name && machine.picture && !S.names.isRope(operand) && S.names.kinds.has(operand) ? machine.wordOf(name) : null;
@@ -297,10 +361,27 @@ function tip(at) {
   if (named) { const word = machine.wordOf(at.word); text = `${at.word} ${named.value}${word && named.kind !== "FIXED" ? `\n${word} = ${decimalOf(word)}` : ""}`; }
   if (at.kind === "op") text = sentenceOf(codeOf(line), (name) => (S.names.isRope(name.split(" ")[0]) ? null : machine.wordOf(name)));
   if (!text) { box.hidden = true; return; }
-  soon("tip", 350, () => { box.textContent = text; box.hidden = false; box.style.left = `${Math.max(4, Math.min(innerWidth - box.offsetWidth - 8, at.x))}px`; box.style.top = `${at.y + box.offsetHeight > innerHeight ? at.y - box.offsetHeight - 26 : at.y + 4}px`; });
+  soon("tip", 350, () => showTip(text, at.x, at.y));
+}
+// What a fault is, beside it.
+const explained = new Map();
+function tipFault(fault, box) {
+  if (!fault?.number) { tip(null); return; }
+  soon("tip", 400, async () => {
+    if (!explained.has(fault.number)) explained.set(fault.number, await session.explain(fault.number));
+    const text = explained.get(fault.number), at = box.getBoundingClientRect();
+    if (text && box.isConnected && box.matches(":hover")) showTip([fault.text, fault.cure, "", text.length > MOST_TIP ? `${text.slice(0, MOST_TIP)} \u2026` : text].filter((it, i) => it || i === 2).join("\n"), at.left, at.bottom);
+  });
+}
+function showTip(text, x, y) {
+  const box = $("hover");
+  box.textContent = text; box.hidden = false;
+  box.style.left = `${Math.max(4, Math.min(innerWidth - box.offsetWidth - 8, x))}px`;
+  box.style.top = `${y + 4 + box.offsetHeight > innerHeight ? Math.max(4, y - box.offsetHeight - 26) : y + 4}px`;
 }
 async function explain(fault) {
   if (!fault?.number) return;
+  tip(null);
   showDialog(fault.number, el("pre", {}, await session.explain(fault.number)));
 }
 function showDialog(title, ...inside) {
@@ -424,12 +505,13 @@ function showTab(name) {
   S.tab = name;
   chooseTab($("tabs"), name, "tab");
   for (const it of TABS) $(`tab-${it}`).hidden = it !== name;
-  document.body.classList.toggle("tall", name === "dsky");
+  document.body.classList.toggle("tall", name === "dsky" || name === "compare");
   if (!S.picture) return;
   if (name === "steps") showSteps();
   if (name === "output") panes.output.show(session.outputs, S.picture.cycles);
   if (name === "memory") panes.memory.show(S.picture, S.old, S.names);
   if (name === "tests" && S.tests?.length && !S.results.length) runTests();
+  if (name === "compare") compare.show(true);
   if (name === "console") panes.console.line.focus();
 }
 function showFile(name) {
@@ -456,6 +538,7 @@ async function openDoc(doc, { id = null, isExample = false } = {}) {
   const { name = "", source, feed: inputs = "", tests: stated = "", flight = false, steps = 0, position, breaks = [], cell: wanted = "", why: asked = "" } = doc;
   S.isOpen = false;
   Object.assign(S, { name: name || T.unnamed, flight, isBuilt: false, chosen: null, picture: null, old: null });
+  compare.take(null);
   storage.begin(id);
   S.isOwn = !isExample;
   $("name").textContent = S.name;
@@ -533,10 +616,23 @@ function openMenu(id, button, items) {
   closeMenus();
   menu.replaceChildren(...items.map((it) => (it === "-" ? el("hr") : it.head ? el("h3", {}, it.head) : el("div", { class: "item", role: "none" }, el("button", { role: it.isOn === undefined ? "menuitem" : "menuitemcheckbox", "aria-checked": it.isOn === undefined ? null : String(it.isOn), tabindex: -1, onclick: () => { closeMenus(); it.work(); } }, el("b", {}, it.name), el("span", {}, it.note || "")), it.remove ? el("button", { class: "remove", role: "menuitem", tabindex: -1, "aria-label": `${T.menu.remove}: ${it.name}`, title: T.menu.remove, onclick: (event) => { it.remove(); event.target.closest(".item").remove(); menu.querySelector("button")?.focus(); } }, "\u00d7") : ""))));
   menu.hidden = false;
-  button.setAttribute("aria-expanded", "true");
+  if (id !== "context") button.setAttribute("aria-expanded", "true");
   menu.querySelector("button").focus();
 }
-function closeMenus() { for (const [id, button] of [["menu", "menu-open"], ["more-menu", "more"]]) { if ($(id).contains(document.activeElement)) $(button).focus(); $(id).hidden = true; $(button).setAttribute("aria-expanded", "false"); } }
+// A menu where something was asked of a thing.
+let contextOf = null;
+function openContext(event, opener, items) {
+  event.preventDefault();
+  closeMenus();
+  contextOf = opener.closest("button, .editor, .pane");
+  openMenu("context", contextOf, items);
+  const menu = $("context"), at = opener.getBoundingClientRect(), x = event.clientX || at.left + 12, y = event.clientY || at.bottom;
+  menu.style.left = `${Math.max(4, Math.min(x, innerWidth - menu.offsetWidth - 6))}px`;
+  menu.style.top = `${Math.max(4, Math.min(y, innerHeight - menu.offsetHeight - 6))}px`;
+}
+function closeMenus() {
+  if (!$("context").hidden) { const had = $("context").contains(document.activeElement); $("context").hidden = true; if (had && contextOf?.isConnected) contextOf.focus({ preventScroll: true }); }
+  for (const [id, button] of [["menu", "menu-open"], ["more-menu", "more"]]) { if ($(id).contains(document.activeElement)) $(button).focus(); $(id).hidden = true; $(button).setAttribute("aria-expanded", "false"); } }
 function menuKeys(event) {
   const all = [...event.currentTarget.querySelectorAll("button")], at = all.indexOf(document.activeElement), to = { ArrowDown: at + 1, ArrowUp: at - 1, Home: 0, End: all.length - 1 }[event.key];
   if (event.key === "Escape" || event.key === "Tab") { closeMenus(); event.stopPropagation(); if (event.key === "Escape") event.preventDefault(); return; }
@@ -548,7 +644,7 @@ function showMenu() {
   const mine = storage.all().filter((it) => it.id !== storage.id).slice(0, 12);
   openMenu("menu", $("menu-open"), [
     { name: T.menu.open, note: T.menu.openNote, work: () => $("picker").click() }, { name: T.menu.fresh, work: () => openDoc({ name: T.unnamed, source: "        SETLOC  4000\n\n", feed: "" }) }, "-",
-    { name: T.menu.save, note: `${base()}.agc`, work: saveSource }, { name: T.menu.saveFeed, note: `${base()}.feed`, work: () => download(`${base()}.feed`, feed.text) }, { name: T.menu.saveAll, note: `${base()}.json`, work: saveAll }, { name: T.menu.link, work: copyLink },
+    { name: T.menu.save, note: `${base()}.agc`, work: saveSource }, { name: T.menu.saveFeed, note: `${base()}.feed`, work: () => download(`${base()}.feed`, feed.text) }, ...(tests.text.trim() ? [{ name: T.menu.saveTests, note: `${base()}.tests`, work: () => download(`${base()}.tests`, tests.text) }] : []), { name: T.menu.saveAll, note: `${base()}.json`, work: saveAll }, { name: T.menu.link, work: copyLink },
     ...(mine.length ? [{ head: T.menu.mine }, ...mine.map((it) => ({ name: it.name || T.unnamed, note: new Date(it.at).toLocaleString("en", { dateStyle: "medium", timeStyle: "short" }), work: () => openDoc(it, { id: it.id }), remove: () => storage.remove(it.id) }))] : []),
     { head: T.menu.examples }, ...examples.map((it) => ({ name: it.name, note: it.about, work: () => openDoc(it, { isExample: true }) })),
   ]);
@@ -562,7 +658,8 @@ function showMore() {
   ]);
 }
 function toggleNotes() { const isOff = setting.get("notes") === "off"; setting.set("notes", isOff ? "on" : "off"); if (isOff) loadNotes(); else { editor.mark({ notes: new Map() }); axis.notes = []; axis.draw(); } }
-async function saveHandout() { if (S.isBuilt) download(`${base()}.html`, await handoutOf({ session, names: S.names, name: S.name, source: editor.lines, cell: cell(), why: S.chosen, picture: S.picture, say }), "text/html"); }
+const handout = () => handoutOf({ session, names: S.names, name: S.name, source: editor.lines, cell: cell(), why: S.chosen, picture: S.picture, say });
+async function saveHandout() { if (S.isBuilt) download(`${base()}.html`, await handout(), "text/html"); }
 function setTheme(name, isKept = true) { document.documentElement.dataset.theme = name; axis.draw(); if (isKept) setting.set("theme", name); }
 function lecture() { const is = document.documentElement.classList.toggle("lecture"); setting.set("lecture", is ? "on" : "off"); scaled(); }
 // The form of the page, by its width in rem.
@@ -586,17 +683,19 @@ function label() {
   for (const id of ["run", "stop", "pace", "more", "keys", "position"]) $(id).title = T.tips[id];
   $("pace").setAttribute("aria-label", T.realTime); $("more").append(icon("more")); $("more").setAttribute("aria-label", T.tips.more); $("keys").setAttribute("aria-label", T.tips.keys);
   $("curve").prepend(icon("curve"));
+  $("find").append(icon("find")); $("find").title = T.tips.find; $("find").setAttribute("aria-label", T.tips.find);
+  $("stops").setAttribute("aria-label", T.stopsHead);
   axis.whole.textContent = T.tips.whole.split(" (")[0].toLowerCase().replace("the ", ""); axis.whole.title = T.tips.whole;
   $("faults").setAttribute("aria-description", T.toFault);
 }
 function bind() {
   document.querySelector(".transport").addEventListener("click", (event) => { const it = event.target.closest("[data-go]"); if (it && S.isBuilt) go[it.dataset.go](); });
-  for (const [id, work] of [["run", run], ["stop", stop], ["pace", pace], ["keys", showSheet], ["menu-open", showMenu], ["more", showMore], ["faults", nextFault]]) $(id).addEventListener("click", work);
-  for (const id of ["menu", "more-menu"]) $(id).addEventListener("keydown", menuKeys);
+  for (const [id, work] of [["run", run], ["stop", stop], ["pace", pace], ["keys", showSheet], ["menu-open", showMenu], ["more", showMore], ["faults", nextFault], ["find", find]]) $(id).addEventListener("click", work);
+  for (const id of ["menu", "more-menu", "context"]) $(id).addEventListener("keydown", menuKeys);
   $("picker").addEventListener("change", () => { openPicked($("picker").files); $("picker").value = ""; });
   $("count").addEventListener("keydown", (event) => { if (event.key === "Enter") run(); });
   $("position").addEventListener("focus", () => { $("position").value = session.p; $("position").select(); });
-  $("position").addEventListener("keydown", (event) => { if (event.key !== "Enter") return; const step = stepsOf($("position").value); $("position").blur(); if (step !== null) seek(step); });
+  $("position").addEventListener("keydown", (event) => { if (event.key !== "Enter") return; const { value } = $("position"), step = stepsOf(value), cycles = cyclesOf(value); $("position").blur(); if (cycles !== null) move("until", cycles); else if (step !== null) seek(step); else say(T.whereTo, true); });
   $("position").addEventListener("blur", () => S.picture && setPosition(S.picture.p, S.picture.n, S.picture.cycles));
   $("cell").addEventListener("change", () => { loadSurvey(); keepSoon(); });
   for (const [list, key, work] of [[$("tabs"), "tab", showTab], [$("files"), "file", showFile]]) {
@@ -615,7 +714,7 @@ function bind() {
     });
   }
   $("rooms").addEventListener("click", (event) => { const it = event.target.closest("[data-room]"); if (it) { document.body.dataset.room = it.dataset.room; for (const one of [editor, feed, tests]) one.measure(); showTab(S.tab); axis.draw(); } });
-  document.addEventListener("click", (event) => { if (!event.target.closest(".file")) closeMenus(); });
+  document.addEventListener("click", (event) => { if (!event.target.closest(".file, .context")) closeMenus(); });
   const dock = (height) => { const most = innerHeight - 330, now = Math.max(90, Math.min(most, height)); document.body.style.setProperty("--dock", `${now}px`); $("split").setAttribute("aria-valuenow", Math.round(now)); editor.measure(); };
   $("split").addEventListener("pointerdown", (event) => { $("split").setPointerCapture(event.pointerId); $("split").onpointermove = (moved) => dock(innerHeight - moved.clientY - 4); $("split").onpointerup = () => { $("split").onpointermove = null; }; });
   $("split").addEventListener("keydown", (event) => { const by = { ArrowUp: 24, ArrowDown: -24 }[event.key]; if (by) { event.preventDefault(); event.stopPropagation(); dock(document.querySelector(".dock").offsetHeight + by); } });
@@ -626,7 +725,7 @@ function bind() {
   addEventListener("drop", (event) => { event.preventDefault(); if (event.dataTransfer.files.length) openPicked(event.dataTransfer.files); });
   addEventListener("hashchange", openLink);
   addEventListener("resize", shape);
-  bindKeys({ go, run, stop, pace, seek, showTab(name) { document.body.classList.add("unfolded"); showTab(name); }, tabs: TABS, closeMenus, isBusy: () => S.isMoving || S.isPacing, isBuilt: () => S.isBuilt, why: () => why(S.chosen || cell()), toggleBreak: () => toggleBreak(document.activeElement === editor.area ? editor.builtLine(editor.caretLine()) : S.picture?.where.line), edit: () => { showFile("source"); editor.enter(); }, theme: () => setTheme(document.documentElement.dataset.theme === "dark" ? "light" : "dark"), lecture, save: saveSource, dsky: (event) => S.tab === "dsky" && dsky.key(event) });
+  bindKeys({ go, run, stop, pace, seek, showTab(name) { document.body.classList.add("unfolded"); showTab(name); }, tabs: TABS, closeMenus, isBusy: () => S.isMoving || S.isPacing, isBuilt: () => S.isBuilt, why: () => why(S.chosen || cell()), toggleBreak: () => toggleBreak(document.activeElement === editor.area ? editor.builtLine(editor.caretLine()) : S.picture?.where.line), edit: () => { showFile("source"); editor.enter(); }, find, menu: ownMenu, theme: () => setTheme(document.documentElement.dataset.theme === "dark" ? "light" : "dark"), lecture, save: saveSource, dsky: (event) => S.tab === "dsky" && dsky.key(event) });
 }
 async function begin() {
   setTheme(setting.get("theme") || (matchMedia("(prefers-color-scheme: dark)").matches ? "dark" : "light"), false);
@@ -647,5 +746,5 @@ async function begin() {
   document.body.dataset.ready = String(Math.round(performance.now()));
 }
 // (for the tests of the page)
-window.workbench = { S, session, engine, editor, feed, tests, axis, chain, go, seek, move, why, openDoc, openPicked, cell, storage };
+window.workbench = { S, session, engine, editor, feed, tests, axis, chain, compare, handout, svg: () => svgOf(chain), go, seek, move, why, openDoc, openPicked, cell, storage };
 begin();

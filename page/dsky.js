@@ -47,12 +47,15 @@ export class Dsky {
     const other = el("input", { list: "inputs", "aria-label": T.otherInput, placeholder: "TIME3 PINC", maxlength: 30, spellcheck: "false", autocomplete: "off" });
     const form = el("form", {}, other, el("datalist", { id: "inputs" }, ...PULSES.map((it) => el("option", { value: it }))), el("button", { class: "small" }, T.putIn));
     form.addEventListener("submit", (event) => { event.preventDefault(); const text = other.value.trim().toUpperCase().replace(/\s+/g, " "); if (text) heard.press(text, text); });
-    this.side = el("div", { class: "presses" }, this.list, form);
+    this.quick = el("div", { class: "quick", role: "group", "aria-label": T.otherInput });
+    this.side = el("div", { class: "presses" }, this.list, this.quick, form);
     this.face = el("div", { class: "dsky" });
     root.append(this.face, this.side);
     this.show(null);
     this.tell([]);
   }
+  // Inputs that a program takes, each with a button.
+  offer(texts) { this.quick.replaceChildren(...texts.map((text) => el("button", { class: "small", title: T.putInNow, onclick: () => this.heard.press(text, text) }, text))); }
   press(name) { const word = KEYS.find((it) => it[0] === name)?.[1]; if (word) this.heard.press(`CHAN 15 ${word}`, name); }
   // A key of the keyboard. True where it is one of these.
   key(event) {

@@ -45,6 +45,10 @@ export class Editor {
       if (gutter) heard.line?.(this.builtLine(Number(gutter.parentNode.dataset.line)));
       else if (told) heard.fault?.(this.faults.get(Number(told.parentNode.dataset.line))?.[0], told);
     });
+    // (a fault is told of where the pointer rests on it, and a line has a menu beside it)
+    root.addEventListener("mouseover", (event) => { const told = event.target.closest(".told:not(.note)"); if (told) heard.about?.(this.faults.get(Number(told.parentNode.dataset.line))?.[0], told); });
+    root.addEventListener("mouseout", (event) => { if (event.target.closest(".told")) heard.hover?.(null); });
+    root.addEventListener("contextmenu", (event) => { const gutter = event.target.closest(".g"); if (gutter) heard.context?.(event, this.builtLine(Number(gutter.parentNode.dataset.line))); });
     new ResizeObserver(() => this.measure()).observe(root);
   }
   get rowHeight() { return ROW * unit(); }
@@ -170,7 +174,7 @@ export class Editor {
     row.append(this.gutterOf(line, built), this.code(i, faults));
     const ghost = built === this.now && !faults.length && this.heard.ghost?.(this.lines[i]);
     if (ghost) row.append(el("span", { class: "ghost" }, ghost));
-    if (faults.length) row.append(el("span", { class: `told ${faults[0].kind}`, title: `${faults[0].text}${faults[0].cure ? `\n${faults[0].cure}` : ""}\n${T.faultTitle}` }, `${faults[0].number} ${faults[0].text}`, faults[0].cure ? el("i", {}, faults[0].cure) : ""));
+    if (faults.length) row.append(el("span", { class: `told ${faults[0].kind}`, title: this.heard.about ? null : faults[0].text }, `${faults[0].number} ${faults[0].text}`, faults[0].cure ? el("i", {}, faults[0].cure) : ""));
     for (const note of notes.slice(0, 2)) row.append(el("button", { class: "told warning note", tabindex: -1, title: T.noteTitle, onclick: (event) => { event.stopPropagation(); this.heard.note?.(note); } }, T.noteKinds[note.kind] || note.kind, note.times > 1 ? el("i", {}, `${group(note.times)}×`) : ""));
     return row;
   }
@@ -215,6 +219,19 @@ export class Editor {
     if (!line) return;
     const high = this.rowHeight, top = (line - 1) * high, { scrollTop, clientHeight } = this.root;
     if (top < scrollTop + high || top > scrollTop + clientHeight - 3 * high) this.root.scrollTop = Math.max(0, Math.round((top - clientHeight / 2.6) / high) * high);
+  }
+  // Shows a line, and marks it for a while.
+  pointAt(line) {
+    this.showLine(line);
+    this.mark({ pointed: this.builtLine(line) });
+    clearTimeout(this.pointing);
+    this.pointing = setTimeout(() => this.mark({ pointed: 0 }), 4000);
+  }
+  // Takes another text in place of this one, which undoing brings back.
+  replace(text) {
+    if (this.isLong || text.length > 300_000) { this.text = text; return; }
+    this.area.focus({ preventScroll: true }); this.area.select();
+    if (!document.execCommand("insertText", false, text)) this.text = text;
   }
   mark(props) { Object.assign(this, props); this.drawAll(); }
 }

@@ -25,7 +25,7 @@ export function svgOf(chain) {
   return `<?xml version="1.0" encoding="UTF-8"?>\n${new XMLSerializer().serializeToString(svg)}\n`;
 }
 
-const STYLE = `:root{color-scheme:light dark;--ink:light-dark(#1f1d1a,#ebe8e1);--pane:light-dark(#fffefb,#1a1c1f);--soft:light-dark(#67625a,#a8a49b);--line:light-dark(#e5e1d7,#2d3035);--now:light-dark(#a94307,#ffb454);--wash:light-dark(#fdf0dc,#292319);--chain:light-dark(#2456c9,#86aaff)}
+const STYLE = `:root{color-scheme:light dark;--ink:light-dark(#1f1d1a,#ebe8e1);--pane:light-dark(#fffefb,#1a1c1f);--soft:light-dark(#67625a,#a8a49b);--line:light-dark(#e5e1d7,#2d3035);--now:light-dark(#b24c00,#ffc35c);--wash:light-dark(#fdf0dc,#292319);--chain:light-dark(#123f8f,#b4ccff)}
 *{box-sizing:border-box}body{margin:0;font:14px/1.5 system-ui,sans-serif;color:var(--ink);background:var(--pane);display:grid;grid-template:auto auto minmax(0,1fr) auto/minmax(0,1.2fr) minmax(0,1fr);height:100vh}
 header,.time{grid-column:1/3;padding:8px 16px;display:flex;gap:14px;align-items:baseline;border-bottom:1px solid var(--line)}h1{font-size:16px;margin:0}h2{font-size:14px;margin:12px 0 4px}#p{font-size:28px;font-weight:600;color:var(--now)}.soft{color:var(--soft)}
 .time{align-items:center}input[type=range]{flex:1;accent-color:var(--now)}button{font:inherit;color:inherit;background:none;border:1px solid var(--line);border-radius:6px;padding:2px 12px;cursor:pointer}:focus-visible{outline:2px solid var(--chain)}

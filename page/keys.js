@@ -20,13 +20,14 @@ export function bindKeys(on) {
     if (event.key === "F10") return take(event.shiftKey ? on.go.back : on.go.step);
     if ((event.ctrlKey || event.metaKey) && event.key === "s") return take(on.save);
     if ((event.ctrlKey || event.metaKey) && event.key === "Enter") return take(on.run);
+    if ((event.ctrlKey || event.metaKey) && event.key.toLowerCase() === "k") return take(on.find);
     if (event.key === "Escape") { on.closeMenus(); if (on.isBusy()) on.stop(); else if (field && !event.target.closest("dialog")) document.activeElement.blur(); return null; }
     if (field || event.ctrlKey || event.metaKey || event.altKey) return null;
     if (on.dsky(event)) return event.preventDefault();
     if (event.target.closest?.('[role="tab"], [role="menu"], [role="separator"]') && /^Arrow|Home|End/.test(event.key)) return null;
     const name = event.key.length === 1 ? event.key.toLowerCase() : event.key;
-    const by = { ArrowLeft: event.shiftKey ? on.go.back10 : on.go.back, ArrowRight: event.shiftKey ? on.go.step10 : on.go.step, Home: on.go.first, End: on.go.last, p: on.go.prev, n: on.go.next, o: on.go.over, u: on.go.out, r: on.run, t: on.pace, w: on.why, b: on.toggleBreak }, always = { g: () => $("position").focus(), e: on.edit, d: on.theme, l: on.lecture, "?": showSheet };
-    if (/^[1-6]$/.test(name)) return take(() => on.showTab(on.tabs[Number(name) - 1]));
+    const by = { ArrowLeft: event.shiftKey ? on.go.back10 : on.go.back, ArrowRight: event.shiftKey ? on.go.step10 : on.go.step, Home: on.go.first, End: on.go.last, p: on.go.prev, n: on.go.next, o: on.go.over, u: on.go.out, r: on.run, t: on.pace, w: on.why, b: on.toggleBreak, m: on.menu }, always = { "/": on.find, g: () => $("position").focus(), e: on.edit, d: on.theme, l: on.lecture, "?": showSheet };
+    if (/^[1-7]$/.test(name)) return take(() => on.showTab(on.tabs[Number(name) - 1]));
     if (always[name]) return take(always[name]);
     if (by[name] && on.isBuilt()) return take(by[name]);
     return null;

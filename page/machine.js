@@ -51,11 +51,26 @@ export function sentenceOf(parts, wordOf) {
   return say(name || T.itsPlace, word == null ? "" : `, ${decimalOf(word)}`);
 }
 
+// Which way a choice of the program took: told by where the next step stands, and "" where that is none, or is not known.
+export function wayOf(steps, i) {
+  const it = steps[i], code = it.text.split(" ")[0], next = steps.slice(i + 1).find((one) => one.word !== "INPUT");
+  if (!["BZF", "BZMF", "CCS", "TS"].includes(code) || !next || next.word === "ENTRY") return "";
+  const [bank, at] = it.place.split(","), [other, to] = next.place.split(","), by = bank === other ? parseInt(to, 8) - parseInt(at, 8) : 0;
+  if (code === "TS") return by === 2 ? T.ways.skips : "";
+  return code === "CCS" ? T.ways.signs[by - 1] || "" : by === 1 ? T.ways.not : T.ways.taken;
+}
+// The last choice up to a step, of those that are known.
+function choiceAt({ steps, p }) {
+  for (let i = steps.length - 1; i >= 0; i -= 1) { if (steps[i].t > p) continue; const way = wayOf(steps, i); if (way) return { ...steps[i], way }; }
+  return null;
+}
+
 export class Machine {
   constructor(root, heard) {
     Object.assign(this, { root, heard, chosen: null });
     for (const id of ["regs", "words", "chans"]) $(id).addEventListener("click", (event) => { const it = event.target.closest("[data-cell]"); if (it) heard.why(it.dataset.cell); });
     roving(root, "button.cell");
+    root.addEventListener("contextmenu", (event) => { const it = event.target.closest("button.cell"); if (it) heard.context(event, it.dataset.cell); });
     root.addEventListener("dblclick", (event) => { const it = event.target.closest("button.cell"); if (it) heard.curve(it.dataset.cell); });
   }
   // The word of a cell at the position.
@@ -107,6 +122,8 @@ export class Machine {
       for (const [name, word] of did.written.slice(0, 4)) line.append("  ", el("b", {}, `${names.of(name)}=${word}`));
       lines.push(line);
     }
+    const choice = did && choiceAt(picture);
+    if (choice) lines.push(el("button", { class: "line did choice", title: T.toChoice, onclick: () => heard.seek(choice.t - 1) }, `${T.choice(group(choice.t))} `, el("code", {}, choice.text), el("em", {}, choice.way)));
     $("now").replaceChildren(...lines);
   }
 }

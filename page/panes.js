@@ -1,6 +1,7 @@
 // What stands below: the steps around the position, what was put out, erasable memory, and the console.
 import { el, reachable, roving } from './dom.js';
 import { channelName, decimalOf, formsOf, group, octal, placeOf, timeOf } from './words.js';
+import { wayOf } from './machine.js';
 import { T } from './texts.js';
 
 const MOST_PUT = 200;
@@ -30,11 +31,12 @@ export class Steps {
     if (!steps.length) { root.replaceChildren(el("p", { class: "empty-tab" }, n ? T.noStepsHere : T.noStepsYet)); return; }
     const [made, body] = table("steps-table", T.stepHeads, T.tabs.steps);
     let isInside = false;
-    for (const it of steps) {
+    for (const [i, it] of steps.entries()) {
+      const way = wayOf(steps, i);
       if (it.word === "ENTRY") isInside = true;
       const kinds = [it.t === p && "at", it.t > p && "later", it.word === "ENTRY" && "entry", it.word === "INPUT" && "input", isInside && "rupt"].filter(Boolean).join(" ");
       const written = it.written.flatMap(([name, word]) => [el("span", { "data-cell": name, title: T.whyThen(it.t) }, `${names.of(name)}=${word}`), " "]);
-      body.append(el("tr", { class: kinds, "data-t": it.t, tabindex: -1, "aria-current": it.t === p ? "step" : null }, el("td", {}, group(it.t)), el("td", {}, group(it.cycles)), el("td", {}, it.place), el("td", {}, it.word), el("td", {}, it.text), el("td", {}, ...written), el("td", { class: "out" }, it.output ? `CH ${octal(it.output.channel, 3)} ${it.output.word}` : ""), el("td", { class: "said" }, commentOf(it.line))));
+      body.append(el("tr", { class: kinds, "data-t": it.t, tabindex: -1, "aria-current": it.t === p ? "step" : null }, el("td", {}, group(it.t)), el("td", {}, group(it.cycles)), el("td", {}, it.place), el("td", {}, it.word), el("td", {}, it.text, way ? el("em", { class: "way" }, way) : ""), el("td", {}, ...written), el("td", { class: "out" }, it.output ? `CH ${octal(it.output.channel, 3)} ${it.output.word}` : ""), el("td", { class: "said" }, commentOf(it.line))));
       if (/^RESUME/.test(it.text)) isInside = false;
     }
     const wasFocused = root.contains(document.activeElement) && document.activeElement.matches("tr");

@@ -14,6 +14,8 @@ export const AROUND = 24, MOST_STEPS = 1_099_511_627_774;
 // The line of time is exact for so many steps, and has so many samples beyond.
 const MOST_EXACT = 60_000, SAMPLES = 400, MOST_COVER = 60_000_000, MOST_NOTED = 30_000_000;
 const MOST_FAULTS = 300;
+// How many steps of another run are read at once, at first and at most.
+const FIRST_READ = 500, MOST_READ = 4_000;
 // The channels that are looked at: those of the machine, and those that the feed or the program has used.
 const CHANNELS = [0o3, 0o4, 0o5, 0o6, 0o7, 0o10, 0o11, 0o12, 0o13, 0o14, 0o15, 0o16, 0o30, 0o31, 0o32, 0o33, 0o34, 0o35, 0o163];
 const VECTORS = [0o4004, 0o4010, 0o4014, 0o4020, 0o4024, 0o4030, 0o4034, 0o4040, 0o4044, 0o4050];
@@ -98,6 +100,26 @@ function inputsOf(feed) {
   return { single: single.sort((a, b) => a.cycle - b.cycle), series };
 }
 
+// The steps of a run, one after the other.
+class Reader {
+  constructor(line) { Object.assign(this, { line, at: 0, size: FIRST_READ }); }
+  // Some more steps, up to one.
+  async next(to) {
+    const size = Math.min(this.size, to - this.at);
+    if (size <= 0) return [];
+    const told = (await this.line.ask(`step ${size}`, `trace ${size}`))[1];
+    this.at += size;
+    this.size = Math.min(2 * this.size, MOST_READ);
+    return linesOf(told).map(stepOf);
+  }
+  // Erasable memory after a step, no earlier than those that were read.
+  async words(step) {
+    if (step > this.at) { await this.line.ask(`step ${step - this.at}`); this.at = step; }
+    return (await this.line.ask("mem 0 999", "mem 1747 999", "mem 3716 50")).flatMap((reply) => linesOf(reply).map((it) => it.slice(it.lastIndexOf(" ") + 1)));
+  }
+  end() { this.line.end(); }
+}
+
 export class Session {
   constructor(engine, heard = {}) {
     Object.assign(this, { engine, heard, turn: 0, last: Promise.resolve(), main: null, views: [], jobs: new Map(), number: 0, asked: 0 });
@@ -167,9 +189,10 @@ export class Session {
     });
   }
   close() {
-    for (const it of [this.main, this.surveyor, ...this.views]) it?.end();
+    this.drop();
+    this.main?.end();
     for (const it of this.jobs.values()) it.stop();
-    Object.assign(this, { main: null, surveyor: null, views: [] });
+    this.main = null;
     this.jobs.clear();
   }
 
@@ -190,15 +213,16 @@ export class Session {
   stop() {
     this.turn += 1;
     this.isStopped = true;
-    for (const it of [this.main, ...this.views]) if (it?.since && performance.now() - it.since > 600) it.end();
+    for (const it of [this.main, this.seeker, ...this.views]) if (it?.since && performance.now() - it.since > 600) it.end();
     return this.alone(() => null);
   }
   // Another session makes the same run.
   async remake(feed = this.feed, goal = this.n) {
     const { p, breaks } = this;
     this.feed = feed;
-    for (const it of [this.main, ...this.views, this.surveyor]) it?.end();
-    Object.assign(this, { views: [], surveyor: null, around: null, outputs: new Outputs(), known: null });
+    this.main?.end();
+    this.drop();
+    this.outputs = new Outputs();
     const line = this.main = new Line(this.engine, this.words, this.files);
     this.n = 0; this.p = 0;
     await line.ask(...breaks.map((it) => `break ${it}`));
@@ -324,8 +348,8 @@ export class Session {
   refeed(feed) { this.turn += 1; return this.alone(() => this.guarded(async () => { await this.remake(feed); return ""; })); }
   // The run is another one from here on: the other sessions over it end.
   drop() {
-    for (const it of [...this.views, this.surveyor]) it?.end();
-    Object.assign(this, { views: [], surveyor: null, around: null, known: null });
+    for (const it of [...this.views, this.surveyor, this.seeker]) it?.end();
+    Object.assign(this, { views: [], surveyor: null, seeker: null, around: null, known: null });
   }
 
   // Looks.
@@ -449,6 +473,27 @@ export class Session {
     this.breaks = linesOf((await this.main.ask("breaks"))[0]).filter((it) => it.startsWith("BREAK ")).map((it) => it.replace(/^BREAK \d+ /, ""));
     return /^E\d/.test(reply) ? reply.trim() : "";
   }
+  // The nearest step before or after the position at which a breakpoint would hold, or null. No breakpoint is set for it.
+  nearest(text, isBack) {
+    const mine = ++this.turn;
+    return this.alone(async () => {
+      try {
+        const line = await this.lineAt("seeker", this.p, () => mine !== this.turn), [refused, told] = await line.ask(`break ${text}`, isBack ? "seek" : `on ${this.n - this.p}`), at = atOf(told);
+        line.n = Math.max(line.n, at?.p || 0);
+        return /^E\d/.test(refused) || !/^HIT/m.test(told) ? null : at.p;
+      } catch (failed) { if (failed instanceof Ended) return "stopped"; throw failed; }
+    });
+  }
+  // The rows of some places.
+  listed(place, count) {
+    return this.alone(() => this.guarded(async () => linesOf((await (await this.view()).ask(`list ${place} ${count}`))[0]).map((it) => it.replace(/^LIST /, ""))));
+  }
+  // What may come in, as lines of a feed: what the feed has, and what the program has a handler for.
+  offers() {
+    const { single, series } = inputsOf(this.feed), pulses = { 1: "TIME6 DINC", 2: "TIME5 PINC", 3: "TIME3 PINC", 4: "TIME4 PINC" }, handled = this.vectors.map((it) => (it - 0o4000) / 4);
+    const all = [...series, ...single].map((it) => it.text).filter((it) => !/^CHAN 0*1[56] /.test(it));
+    return [...new Set([...all.map((it) => it.replace(/\s+/g, " ")), ...handled.map((it) => pulses[it]).filter(Boolean), ...handled.map((it) => `RUPT ${it}`)])].slice(0, 8);
+  }
   // A line that a person has typed.
   console(text) {
     this.turn += 1;
@@ -513,12 +558,13 @@ export class Session {
       return isOver() || !found ? null : { ...found, from, to, cell };
     } catch (failed) { if (failed instanceof Ended) return null; throw failed; }
   }
-  async surveyorAt(step, isOver) {
-    if (!this.surveyor || this.surveyor.isOver) this.surveyor = new Line(this.engine, this.words, this.files);
-    const line = this.surveyor;
+  surveyorAt(step, isOver) { return this.lineAt("surveyor", step, isOver); }
+  async lineAt(which, step, isOver) {
+    if (!this[which] || this[which].isOver) this[which] = new Line(this.engine, this.words, this.files);
+    const line = this[which];
     await line.ask("clear");
     while (line.n < step) {
-      await this.leisure(isOver);
+      if (which === "surveyor") await this.leisure(isOver);
       const size = Math.min(step - line.n, 1 << 22);
       await line.ask(`goto ${line.n}`, `step ${size}`);
       line.n += size;
@@ -616,6 +662,8 @@ export class Session {
     }
     return told;
   }
+  // A run from its first step on, of this program or of another, read by a session of its own.
+  reader({ source, feed, flight }) { return new Reader(new Line(this.engine, [...(flight ? ["--flight"] : []), SOURCE, FEED], { [SOURCE]: source, [FEED]: feed })); }
   // What the program tells of a rope image, and of two.
   async rope(command, image, other) {
     const told = await this.engine.call([command, "a.rope", ...(other ? ["b.rope"] : [])], { "a.rope": image, ...(other ? { "b.rope": other } : {}) }, "");

@@ -12,6 +12,9 @@ printed, and no test depends on it. The last line is 'N passed, M failed'.
 import functools
 import http.server
 import importlib.util
+import itertools
+import json
+import math
 import os
 import re
 import subprocess
@@ -225,6 +228,9 @@ class Search(Workbench):
         browser.click('[data-go="back"]')
         self.wait("return workbench.session.p === 2")
         browser.click("#position")
+        browser.keys(*"cycle 42", "Enter")
+        self.wait("return workbench.session.cycles >= 42 && workbench.session.cycles < 48")
+        browser.click("#position")
         browser.keys(*"22", "Enter")
         self.wait("return workbench.session.p === 22")
         self.wait("return document.querySelector('#editor .is-now')?.textContent.includes('CCS')")
@@ -294,6 +300,200 @@ class Keys(Workbench):
         self.assertIn("7", browser.text(".presses"))
         browser.click(".presses .undo")
         self.wait(f"return workbench.session.outputs.count === {before} && !workbench.S.isMoving")
+
+
+class Beside(Workbench):
+    def test_the_run_before_an_edit_stands_beside_the_new_one(self):
+        browser = self.browser
+        self.take(MENDED, 60)
+        browser.click('[data-tab="compare"]')
+        self.wait("return document.querySelector('#tab-compare .pairs.ends')")
+        self.assertEqual(browser.text('[data-tab="compare"] i'), "\u2260")
+        said = browser.text("#tab-compare .tests")
+        self.assertRegex(said, r"Word 1 differs: 00075 \(61\) on CH 012, cycle 87 before, 00062 \(50\) on CH 012, cycle \d+ now\.")
+        self.assertIn("They part at step 19: CA ONE before, TS KEPT now.", said)
+        # (TS KEPT stands beside nothing, and the steps below it beside those that they were)
+        self.assertEqual(self.js("return [...document.querySelectorAll('#tab-compare .pairs:not(.ends) tr.apart')].slice(0, 2).map(it => it.textContent.includes('TS KEPT'))"), [True, False])
+        self.assertRegex(browser.text("#tab-compare .ends"), r"SUM 00075 61 00062 50")
+        browser.click("#tab-compare .test.bad:nth-of-type(2)")
+        self.wait("return workbench.session.p === 19 && !workbench.S.isMoving")
+        browser.click("#tab-compare .ends tbody tr")
+        self.wait("return workbench.session.p === 60 && document.querySelector('.why h2')")
+
+    def test_a_comment_changes_nothing_and_code_that_has_moved_is_the_same(self):
+        source = read(f"{ROOT}/examples/waitlist.agc")
+        self.example("waitlist")
+        n = self.at()[1]
+        # (three words more before the program: all places move)
+        moved = source.replace("        SETLOC  4100\n", "        SETLOC  4100   # further on\n        OCT     1\n        OCT     2\n        OCT     3\n", 1)
+        self.assertNotEqual(moved, source)
+        self.take(moved, n)
+        self.browser.click('[data-tab="compare"]')
+        self.wait("return document.querySelector('#tab-compare .test.good:nth-of-type(2)')")
+        self.assertIn(f"The same up to step {n}.", self.browser.text("#tab-compare .tests"))
+        self.assertEqual(self.browser.text('[data-tab="compare"] i'), "=")
+
+    def test_a_run_that_is_kept_is_compared_with_another_program(self):
+        browser = self.browser
+        browser.click('[data-tab="compare"]')
+        browser.click("#tab-compare .small")
+        self.example("five_plus_five")
+        browser.click('[data-tab="compare"]')
+        self.wait("return document.querySelector('#tab-compare .test.bad:nth-of-type(2)')")
+        self.assertIn("the kept run lost_sum.agc, 60 steps", browser.text("#tab-compare .other"))
+        self.js("[...document.querySelectorAll('#tab-compare .small')].find(it => it.textContent === 'Put its text back').click()")
+        self.wait("return workbench.S.name === 'lost_sum.agc' && workbench.session.n === 60 && !workbench.S.isMoving")
+
+    def test_an_input_of_the_past_is_compared_with_the_run_without_it(self):
+        self.example("key_echo")
+        self.js("await workbench.seek(30)")
+        self.browser.click('[data-tab="dsky"]')
+        self.browser.click('[data-key="7"]')
+        self.wait("return document.querySelector('[data-tab=\"compare\"] i')?.textContent === '\u2260' && !workbench.S.isMoving")
+        self.browser.click('[data-tab="compare"]')
+        self.wait("return document.querySelector('#tab-compare .test.bad:nth-of-type(2)')")
+        self.assertRegex(self.browser.text("#tab-compare .tests"), r"They part at step 3\d: .* before, CHAN 015 00007 .*now")
+
+
+class Asked(Workbench):
+    def test_a_name_a_place_and_a_text_are_found(self):
+        browser = self.browser
+        browser.keys("/")
+        self.wait("return document.activeElement.classList.contains('finder')")
+        browser.keys(*"su")
+        self.wait("return document.querySelector('.found')?.textContent.includes('SUM')")
+        browser.keys("Enter")
+        self.wait("return document.querySelector('.why h2')?.textContent.includes('SUM')")
+        browser.click("#find")
+        browser.keys(*"02,4104")
+        self.wait("return [...document.querySelectorAll('.found')].some(it => it.textContent.includes('02,4104'))")
+        browser.keys("Enter")
+        self.wait("return !document.getElementById('dialog').open && document.querySelector('#editor .is-pointed')?.textContent.includes('4104')")
+        browser.click("#find")
+        browser.keys(*"resume")
+        self.wait("return [...document.querySelectorAll('.found')].some(it => it.textContent.includes('RESUME'))")
+        browser.keys("Escape")
+        self.wait("return !document.getElementById('dialog').open")
+
+    def test_a_word_has_a_menu(self):
+        browser = self.browser
+        browser.pointer(self.place('#words [data-cell="SUM"]'), "down", "up", button=2)
+        self.wait("return !document.getElementById('context').hidden")
+        self.choose("Back to its last change")
+        self.wait("return workbench.session.p === 43 && !workbench.S.isMoving")
+        self.js("document.querySelector('#words [data-cell=\"SUM\"]').focus()")
+        browser.keys("m")
+        self.choose("Stop where it changes")
+        self.wait("return document.querySelector('#stops .chip-of')?.textContent.includes('SUM changes')")
+        browser.keys("p")
+        self.wait("return workbench.session.p === 36 && !workbench.S.isMoving")
+        browser.click("#stops .undo")
+        self.wait("return document.getElementById('stops').hidden")
+
+    def test_the_last_choice_is_told_with_its_way(self):
+        self.assertRegex(self.browser.text("#now .choice"), r"choice at step \d+: CCS COUNT\s*\+0")
+        self.browser.click("#now .choice")
+        self.wait("return document.querySelector('#editor .is-now')?.textContent.includes('CCS')")
+        self.assertEqual(self.js("return [...document.querySelectorAll('.steps-table .way')].map(it => it.textContent).includes('+0')"), True)
+
+    def test_what_a_run_puts_out_is_stated_by_a_click(self):
+        self.example("key_echo")
+        self.browser.click('[data-tab="tests"]')
+        self.js("[...document.querySelectorAll('#tab-tests button')].find(it => it.textContent === 'State what this run puts out').click()")
+        self.wait("return document.querySelector('.test.good')")
+        self.assertEqual(self.js("return workbench.tests.text.match(/^  out /gm).length"), self.js("return workbench.session.outputs.count"))
+
+    def test_a_line_has_a_menu(self):
+        browser = self.browser
+        browser.keys("Home")
+        self.wait("return workbench.session.p === 0 && !workbench.S.isMoving")
+        line = self.js("return workbench.S.names.lineOf.get('02,4104')")
+        self.js("workbench.editor.showLine(arguments[0])", line)
+        seen = []
+        for name in ("On to its next execution", "On to its next execution", "Back to the one before"):
+            browser.pointer(self.place(f'#editor [data-line="{line}"] .g'), "down", "up", button=2)
+            self.choose(name)
+            self.wait("return !workbench.S.isMoving")
+            self.wait("return document.querySelector('#editor .is-now')?.textContent.includes('4104')")
+            time.sleep(0.2)
+            seen.append(self.at()[0])
+        self.assertEqual(seen[2], seen[0])
+        self.assertLess(seen[0], seen[1])
+
+    def choose(self, name):
+        self.wait("return !document.getElementById('context').hidden")
+        self.js("[...document.querySelectorAll('#context b')].find(it => it.textContent === arguments[0]).closest('button').click()", name)
+
+    def test_why_a_line_is_not_executed(self):
+        source = "        SETLOC  4000\n        CAF     ONE\n        EXTEND\n        BZF     ON\n        TCF     DONE\nON      CA      ONE\nDONE    TCF     DONE\nONE     OCT     1\n"
+        self.js("await workbench.openDoc({name: 'never.agc', source: arguments[0], steps: 20})", source)
+        self.browser.pointer(self.place('#editor [data-line="6"] .g'), "down", "up", button=2)
+        self.choose("Why is it not executed?")
+        self.wait("return document.getElementById('said').textContent.includes('TCF DONE, on line 5, is the last before line 6')")
+        self.wait("return workbench.S.picture.where.line === 5")
+
+    def test_a_fault_is_explained_where_the_pointer_rests_on_it(self):
+        self.js("const {editor} = workbench; editor.area.focus(); editor.area.setSelectionRange(0, 0); document.execCommand('insertText', false, '        CB      SUM\\n')")
+        self.wait("return document.querySelector('#editor .told')")
+        self.browser.pointer(self.place("#editor .told", 40, 9), self.place("#editor .told", 44, 9))
+        self.wait("return !document.getElementById('hover').hidden && document.getElementById('hover').textContent.length > 60")
+
+    def test_what_the_program_takes_has_a_button(self):
+        self.browser.click('[data-tab="dsky"]')
+        self.assertIn("TIME3 PINC", self.browser.text(".quick"))
+        self.js("await workbench.seek(30)")
+        self.browser.click(".quick .small")
+        self.wait("return document.querySelector('.press')?.textContent.includes('TIME3 PINC') && !workbench.S.isMoving")
+        self.browser.click(".presses .undo")
+        self.wait("return !document.querySelector('.press') && !workbench.S.isMoving")
+
+
+class Handed(Workbench):
+    def test_a_handout_of_a_thousand_steps_stands_by_itself(self):
+        self.js("await workbench.openDoc({...JSON.parse(document.getElementById('examples').textContent).find(it => it.name === 'waitlist.agc'), steps: 1000}, {isExample: true}); await workbench.seek(500)")
+        name = self.js("return workbench.S.names.erasable.find(it => workbench.S.picture.words[it.at] !== '00000').name")
+        links = self.js("await workbench.why(arguments[0]); return workbench.chain.links.map(it => it.t)", name)
+        text = self.js("return workbench.handout()")
+        figure(f"a handout of 1,000 steps has {len(text.encode())} bytes")
+        self.assertLess(len(text.encode()), 100_000)
+        self.assertNotRegex(text, r"(?:src|href)=|https?:")
+        path = f"{ROOM.name}/handout.html"
+        with open(path, "w", encoding="utf-8") as file:
+            file.write(text)
+        self.browser.open("about:blank")
+        self.browser.open(driver.url_of(path))
+        self.assertEqual(self.js("return [document.getElementById('p').textContent, document.getElementById('n').textContent]"), ["500", "1000"])
+        told = self.js("return [...document.querySelectorAll('#why button span:first-child')].map(it => Number(it.textContent))")
+        self.assertEqual(told[: len(links)], links)
+        self.browser.keys("Left")
+        self.assertEqual(self.js("return document.getElementById('p').textContent"), "499")
+        self.js("document.querySelector('#why button').click()")
+        self.assertEqual(self.js("return Number(document.getElementById('p').textContent)"), links[0])
+
+    def test_the_line_of_time_and_the_chain_are_pictures(self):
+        self.js("await workbench.why('SUM'); await new Promise(done => setTimeout(done, 300))")
+        self.assertRegex(self.js("return workbench.axis.picture().toDataURL('image/png')"), r"^data:image/png;base64,.{4000}")
+        said = self.js("const text = workbench.svg(), made = new DOMParser().parseFromString(text, 'image/svg+xml'); return [made.querySelector('parsererror')?.textContent ?? '', made.querySelectorAll('text').length, made.documentElement.textContent]")
+        self.assertEqual(said[0], "")
+        self.assertGreater(said[1], 20)
+        self.assertIn("TS SUM", said[2])
+
+
+class Ropes(Workbench):
+    def test_images_that_are_dropped_are_told_of_and_compared(self):
+        browser = self.browser
+        self.js("""
+            const image = workbench.session.image.slice(), other = image.slice(), transfer = new DataTransfer();
+            other[2 * 0o104] ^= 6; // (two bits, so that the parity stays)
+            for (const [name, it] of [['one.rope', image], ['other.rope', other]]) transfer.items.add(new File([it], name));
+            dispatchEvent(new DragEvent('drop', {dataTransfer: transfer, bubbles: true, cancelable: true}))""")
+        self.wait("return document.querySelector('#dialog pre')?.textContent.includes('02')")
+        for name, said in (("parity", ""), ("words", "TS"), ("compare other.rope", "COUNT 1")):
+            self.js("[...document.querySelectorAll('#dialog .small')].find(it => it.textContent === arguments[0]).click()", name)
+            self.wait("return document.querySelector('#dialog pre').textContent.length > 0 && !document.querySelector('#dialog pre').textContent.startsWith('Starting')")
+            self.assertIn(said, browser.text("#dialog pre"))
+        self.js("[...document.querySelectorAll('#dialog .small')].find(it => it.textContent === 'Open as a source').click()")
+        self.wait("return workbench.S.name === 'one.agc' && workbench.S.isBuilt")
 
 
 class Long(Workbench):
@@ -422,19 +622,46 @@ return faults;
 """
 
 
+# What is seen of red, green and blue (linear) by those who lack one of the three (Machado, Oliveira and Fernandes, 2009).
+EYES = {
+    "all": [(1, 0, 0), (0, 1, 0), (0, 0, 1)],
+    "without red": [(0.152286, 1.052583, -0.204868), (0.114503, 0.786281, 0.099216), (-0.003882, -0.048116, 1.051998)],
+    "without green": [(0.367322, 0.860646, -0.227968), (0.280085, 0.672501, 0.047413), (-0.011820, 0.042940, 0.968881)],
+    "without blue": [(1.255528, -0.076749, -0.178779), (-0.078411, 0.930809, 0.147602), (0.004733, 0.691367, 0.303900)],
+}
+
+
+def lab(colour, eyes):
+    """A colour, as #rrggbb, as those eyes see it: lightness and two hues (CIELAB)."""
+    parts = [int(colour[at : at + 2], 16) / 255 for at in (1, 3, 5)]
+    linear = [it / 12.92 if it <= 0.04045 else ((it + 0.055) / 1.055) ** 2.4 for it in parts]
+    r, g, b = (min(1, max(0, sum(a * it for a, it in zip(row, linear)))) for row in eyes)
+    x, y, z = (it ** (1 / 3) if it > 0.008856 else 7.787 * it + 16 / 116 for it in ((0.4124 * r + 0.3576 * g + 0.1805 * b) / 0.95047, 0.2126 * r + 0.7152 * g + 0.0722 * b, (0.0193 * r + 0.1192 * g + 0.9505 * b) / 1.08883))
+    return 116 * y - 16, 500 * (x - y), 200 * (y - z)
+
+
 class Reach(Workbench):
     def test_names_roles_order_and_contrast_in_all_views(self):
         for theme in ("light", "dark"):
             self.js("document.documentElement.dataset.theme = arguments[0]; await workbench.why('SUM'); await workbench.seek(22)", theme)
-            for tab in ("steps", "dsky", "output", "memory", "tests", "console"):
+            for tab in ("steps", "dsky", "output", "memory", "tests", "compare", "console"):
                 self.js("document.querySelector(`[data-tab=\"${arguments[0]}\"]`).click(); await new Promise(done => setTimeout(done, 120))", tab)
                 with self.subTest(theme=theme, tab=tab):
                     self.assertEqual(self.js(RULES), [])
-            for button in ("menu-open", "more", "keys"):
+            for button in ("menu-open", "more", "keys", "find"):
                 self.js("document.getElementById(arguments[0]).click(); await new Promise(done => setTimeout(done, 60))", button)
                 with self.subTest(theme=theme, menu=button):
                     self.assertEqual(self.js(RULES), [])
                 self.js("document.getElementById('dialog').close?.(); document.body.click()")
+
+    def test_those_who_see_some_colours_alike_tell_the_five_meanings_apart(self):
+        for theme in ("light", "dark"):
+            told = self.js("document.documentElement.dataset.theme = arguments[0]; const style = getComputedStyle(document.documentElement); return ['now', 'rupt', 'in', 'out', 'chain'].map(it => style.getPropertyValue(`--${it}`).trim())", theme)
+            for eyes, matrix in EYES.items():
+                seen = [lab(it, matrix) for it in told]
+                least = min(math.dist(a, b) for a, b in itertools.combinations(seen, 2))
+                with self.subTest(theme=theme, eyes=eyes):
+                    self.assertGreater(least, 15)
 
     def test_tab_reaches_everything_in_order_and_is_seen(self):
         self.js("document.activeElement.blur(); scrollTo(0, 0)")
@@ -512,6 +739,9 @@ SCENES = {
     "waitlist": EXAMPLE % "waitlist" + "document.querySelector('[data-tab=\"output\"]').click()",
     "product": EXAMPLE % "double_product" + "document.querySelector('[data-tab=\"memory\"]').click(); await workbench.why('PRODUCT')",
     "fault": "workbench.editor.showLine(27); const at = workbench.editor.text.indexOf('INDEX   COUNT'); workbench.editor.area.focus({preventScroll: true}); workbench.editor.area.setSelectionRange(at + 3, at + 4); document.execCommand('insertText', false, 'X'); workbench.editor.showLine(27); document.querySelector('[data-tab=\"tests\"]').click(); document.body.dataset.room = 'source'",
+    "two_runs": f"workbench.editor.area.focus(); workbench.editor.area.select(); document.execCommand('insertText', false, {json.dumps(MENDED)}); document.getElementById('run').click(); await new Promise(done => setTimeout(done, 900)); document.activeElement.blur(); document.querySelector('[data-tab=\"compare\"]').click(); document.body.dataset.room = 'dock'",
+    "found": "document.getElementById('find').click(); const field = document.querySelector('.finder'); field.value = 't'; field.dispatchEvent(new Event('input'))",
+    "word_menu": "await workbench.seek(22); await workbench.session.breakpoint('change SUM'); await workbench.session.breakpoint('at LOOP'); await workbench.seek(23); document.body.dataset.room = 'state'; document.querySelector('#words [data-cell=\"SUM\"]').dispatchEvent(new MouseEvent('contextmenu', {bubbles: true, cancelable: true}))",
     "menu": "document.getElementById('menu-open').click()",
     "keys": "document.getElementById('keys').click()",
     "lecture": "document.activeElement.blur(); document.dispatchEvent(new KeyboardEvent('keydown', {key: 'l'})); await workbench.why('SUM'); await workbench.seek(22)",

@@ -4,6 +4,8 @@ import { decimalOf, group, numberOf, octal } from './words.js';
 import { withInput } from './session.js';
 import { T } from './texts.js';
 
+const MOST_STATED = 40;
+
 // A word as a person states it: octal, or with a sign decimal.
 function statedOf(text) {
   if (/^[+-]\d{1,5}$/.test(text)) { const value = Number(text); return Math.abs(value) < 16384 ? octal(value < 0 || Object.is(value, -0) ? 0o77777 + value : value) : null; }
@@ -29,6 +31,12 @@ export function testsOf(text) {
     else fault(T.testLine);
   });
   return { tests, faults };
+}
+// A test that states what a run has put out, and no more.
+export function statedBy({ name, n, outputs }) {
+  const lines = [`test ${name}`, `  steps ${n}`], most = Math.min(outputs.count, MOST_STATED);
+  for (let i = 0; i < most - outputs.first; i += 1) lines.push(`  out ${octal(outputs.channels[i], 3)} ${octal(outputs.words[i])}`);
+  return `${lines.join("\n")}\n`;
 }
 export const feedOf = (test, feed) => test.inputs.reduce((all, [cycle, text]) => withInput(all, cycle, text), test.hasFeed ? feed : "");
 
@@ -57,7 +65,7 @@ export class Tests {
     this.results = results;
     const good = results.filter((it) => it && !it.wrong).length, all = results.filter(Boolean).length;
     this.heard.counted(all ? `${good}/${all}` : "", all > 0 && good < all);
-    if (!tests.length) { this.root.replaceChildren(el("div", { class: "empty-tab" }, el("p", {}, T.noTests), el("pre", {}, T.testExample), el("button", { onclick: () => this.heard.write() }, T.writeTests))); return; }
+    if (!tests.length) { this.root.replaceChildren(el("div", { class: "empty-tab" }, el("p", {}, T.noTests), el("pre", {}, T.testExample), el("button", { onclick: () => this.heard.write() }, T.writeTests), " ", el("button", { onclick: () => this.heard.take() }, T.takeTests))); return; }
     const list = el("div", { class: "tests", role: "list" });
     tests.forEach((test, i) => {
       const result = results[i], kind = !result ? "waits" : result.wrong ? "bad" : "good";

@@ -37,6 +37,11 @@ export function stepsOf(text) {
   const found = /^(\d+(?:\.\d+)?)(k|m|g)?$/.exec(text.replace(/[ ,_]/g, "").toLowerCase());
   return found ? Math.round(Number(found[1]) * ({ k: 1e3, m: 1e6, g: 1e9 }[found[2]] || 1)) : null;
 }
+// What a person means by a time: 12 ms, 1.5 s, or cycle 5,000. In cycles.
+export function cyclesOf(text) {
+  const found = /^(?:c|cycle) ?(\d+)$|^(\d+(?:\.\d+)?) ?(ms|s)$/.exec(text.trim().replace(/[,_]/g, "").toLowerCase());
+  return found && (found[1] ? Number(found[1]) : Math.round(Number(found[2]) * (found[3] === "s" ? 1 : 1e-3) * CYCLES_A_SECOND));
+}
 
 // Erasable memory: its 2048 words by number, and as a listing names them.
 export const placeOf = (number) => `E${(number >> 8).toString(8)},${octal(number < 0o1400 ? number : 0o1400 | (number & 0o377), 4)}`;

@@ -167,11 +167,11 @@ def check_runs(served):
         same(f"a session, at {lines!r}", page.until("waits")[0], wanted)
     page.send({"id": number, "end": True})
     same("the end of a session", page.until("status")[1]["status"], 0)
-    numbers = [page.begin(["run", "my.agc", "my.feed", STEPS], {"my.agc": ENDLESS, "my.feed": ""}) for _ in range(8)]
+    numbers = [page.begin(["run", "my.agc", "my.feed", STEPS], {"my.agc": ENDLESS, "my.feed": ""}) for _ in range(12)]
     page.begin(["--version"], {})
-    told("web: a ninth run", "8 runs" in page.until("failed")[1]["failed"])
+    told("web: a run more than a page may have", "12 runs" in page.until("failed")[1]["failed"])
     page.send({"id": numbers[0], "stop": True})
-    told("web: a run is stopped", wait_until(lambda: len(served.engines()) == 7), f"{served.engines()}")
+    told("web: a run is stopped", wait_until(lambda: len(served.engines()) == 11), f"{served.engines()}")
     page.close()
     told("web: what a page runs ends with it", wait_until(lambda: not served.engines()), f"{served.engines()}")
 
