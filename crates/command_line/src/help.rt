@@ -360,6 +360,9 @@ With --extended there are these besides, and after E50 COMMAND stands why:
   value PLACE, .. K    the word there, or K from there on, each as VALUE, its
                        place, the word in octal, decimal, fraction and binary
   mem PLACE K          K words from there on, each as MEM, its place, the word
+  chans                CHAN C W for each channel whose word is not zero; COUNT
+  differs T            what is another word at P than at step T: registers as
+                       regs all has them, MEM, CHAN; COUNT
   find TEXT            the symbols whose names begin so, as FIND; COUNT
   breaks               the breakpoints, one a line, as BREAK I at PLACE; COUNT
   clear I              breakpoint I is taken away: CLEAR I, or NONE

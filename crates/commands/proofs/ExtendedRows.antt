@@ -21,7 +21,7 @@ use Rattle.commands.specs.declared.command.Command.TheVariants.{Registers, Memor
 use Rattle.commands.specs.declared.command.ParsedLine.TheVariants.{Nothing, TooLong, WrongCounter}
 use Rattle.commands.specs.declared.extended.ExtendedLine.{ExtendedLine}
 use Rattle.commands.specs.declared.extended.IndexLines.TheVariants.{Omitted, Told}
-use Rattle.commands.specs.declared.extended.ExtendedLine.TheVariants.{Plain, Common, Says, Help, Breaks, ClearOne, On, AllRegisters, Until, WhyStep, Why, Words, Where, Find, Trace, Inputs, Over, Out, Listed, Values}
+use Rattle.commands.specs.declared.extended.ExtendedLine.TheVariants.{Plain, Common, Says, Help, Breaks, ClearOne, On, AllRegisters, Until, WhyStep, Why, Words, Where, Find, Trace, Inputs, Over, Out, Listed, Values, Channels, Differs}
 
 -- a place in fixed memory, and a number that is no place
 abbrev symbols : SymbolTable
@@ -270,3 +270,17 @@ in_fixed_memory : asked (codes "break word FIVE 5" ∷ codes "break word 4000" �
     ∷ [])
 unfolding extended_line extended_forms usages forms runs parsed counters sequences registers window
 in_fixed_memory = refl
+
+-- whole states: the channels that hold something, and what differs from a step
+states : asked (codes "chans" ∷ codes "differs 5" ∷ codes "differs 123456789012345 # far" ∷ codes "chans 1" ∷ codes "differs" ∷ codes "differs x" ∷ codes "differs 5 6" ∷ codes "chans all" ∷ codes "help chans" ∷ codes "help differs" ∷ [])
+    ≡ Channels ∷ Differs 5 ∷ Differs 123456789012345
+    ∷ Says (codes "E50 COMMAND chans takes nothing\n")
+    ∷ Says (codes "E50 COMMAND differs takes a step\n")
+    ∷ Says (codes "E50 COMMAND differs takes a step\n")
+    ∷ Says (codes "E50 COMMAND differs takes a step\n")
+    ∷ Says (codes "E50 COMMAND chans takes nothing\n")
+    ∷ Says (codes "HELP chans takes nothing: the channels whose words are not zero\n")
+    ∷ Says (codes "HELP differs takes a step: the words that differ from those at the step\n")
+    ∷ []
+unfolding extended_line extended_forms usages forms runs parsed counters sequences registers window
+states = refl

@@ -21,7 +21,7 @@ use Rattle.commands.specs.declared.command.ParsedLine.TheVariants.{Nothing, TooL
 use Rattle.commands.specs.declared.extended.IndexLines.{IndexLines}
 use Rattle.commands.specs.declared.extended.IndexLines.TheVariants.{Omitted, Told}
 use Rattle.commands.specs.declared.extended.ExtendedLine.{ExtendedLine}
-use Rattle.commands.specs.declared.extended.ExtendedLine.TheVariants.{Plain, Common, Says, Help, Breaks, ClearOne, On, AllRegisters, Until, WhyStep, Why, Words, Where, Find, Trace, Inputs, Over, Out, Listed, Values}
+use Rattle.commands.specs.declared.extended.ExtendedLine.TheVariants.{Plain, Common, Says, Help, Breaks, ClearOne, On, AllRegisters, Until, WhyStep, Why, Words, Where, Find, Trace, Inputs, Over, Out, Listed, Values, Channels, Differs}
 
 -- the most steps that a command can name
 abbrev pub most_count : ℕ
@@ -204,6 +204,8 @@ extended_forms symbols =
     ∷ (codes "trace", with_field count_in (λ k. Trace k))
     ∷ (codes "list", with_counted_place symbols usual_links (λ place k. Listed place k))
     ∷ (codes "value", with_counted_place symbols 1 (λ place k. Values place k))
+    ∷ (codes "chans", with_none Channels)
+    ∷ (codes "differs", with_field count_in (λ t. Differs t))
     ∷ []
 
 -- what any session is asked for, with words for what is no command

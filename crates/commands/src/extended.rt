@@ -87,6 +87,10 @@ pub enum ExtendedLine {
     Listed(Linear, u64),
     /// The words from a place on as numbers, at most so many.
     Values(Linear, u64),
+    /// The channels whose words are not zero.
+    Channels,
+    /// The words that are other ones than after a step.
+    Differs(u64),
 }
 
 /// What a line of an extended session asks for, where the symbols of a program stand.
@@ -197,6 +201,21 @@ fn row_command_in(symbols: &Symbols, name: &[u8], rest: &[u8]) -> Option<Extende
         list_form(symbols, rest)
     } else if is_word(name, "value") {
         value_form(symbols, rest)
+    } else {
+        state_command_in(symbols, name, rest)
+    }
+}
+
+// The same of the names after the first eighteen, which ask for words of whole states.
+#[tactic(auto, unfolding(crate::specs::Extended::extended_forms))]
+fn state_command_in(symbols: &Symbols, name: &[u8], rest: &[u8]) -> Option<ExtendedLine>
+    requires { All (λ field. length field ≤ 80) (texts (runs rest.now)) }
+    ensures { result ≡ option_and_then (λ form. form (texts (runs rest.now))) (value_in (drop 18 (extended_forms symbols.now)) name.now) }
+{
+    if is_word(name, "chans") {
+        with_none(ExtendedLine::Channels, rest)
+    } else if is_word(name, "differs") {
+        count_alone(rest).map(ExtendedLine::Differs)
     } else {
         None
     }

@@ -16,7 +16,7 @@ use words::push_all;
 type Row = (&'static str, &'static str, &'static str);
 
 /// The rows of the help.
-const ROWS: [Row; 30] = [
+const ROWS: [Row; 32] = [
     (
         "step",
         "a number of steps",
@@ -72,6 +72,7 @@ const ROWS: [Row; 30] = [
         "the word there, or so many from there on",
     ),
     ("chan", "a channel", "the word there"),
+    ("chans", "nothing", "the channels whose words are not zero"),
     (
         "last",
         "an erasable place",
@@ -112,6 +113,11 @@ const ROWS: [Row; 30] = [
         "changed",
         "a step",
         "the erasable places that differ since then",
+    ),
+    (
+        "differs",
+        "a step",
+        "the words that differ from those at the step",
     ),
     ("tail", "nothing", "the last channel lines"),
     ("add", "a line of a feed", "one input more"),

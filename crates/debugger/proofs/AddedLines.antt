@@ -28,7 +28,7 @@ use Rattle.commands.specs.declared.command.ParsedLine.TheVariants.{Nothing, TooL
 use Rattle.commands.specs.declared.subject.Subject.{Subject}
 use Rattle.commands.specs.declared.extended.IndexLines.{IndexLines}
 use Rattle.commands.specs.declared.extended.ExtendedLine.{ExtendedLine}
-use Rattle.commands.specs.declared.extended.ExtendedLine.TheVariants.{Plain, Common, Says, Help, Breaks, ClearOne, On, AllRegisters, Until, WhyStep, Why, Words, Where, Find, Trace, Inputs, Over, Out, Listed, Values}
+use Rattle.commands.specs.declared.extended.ExtendedLine.TheVariants.{Plain, Common, Says, Help, Breaks, ClearOne, On, AllRegisters, Until, WhyStep, Why, Words, Where, Find, Trace, Inputs, Over, Out, Listed, Values, Channels, Differs}
 
 -- what is asked for adds nothing, or an input that a line can give
 abbrev pub AddsGivable : Command → Type 0
@@ -267,7 +267,13 @@ asked_adds symbols name = All-lookup AskedAdds (same_name name) (extended_forms 
                                   (λ fs. mapped AskedGivable (λ (r : Linear × ℕ). Listed r.0 r.1) (λ r. tt) (counted_place symbols usual_links fs)),
                                   (
                                     (λ fs. mapped AskedGivable (λ (r : Linear × ℕ). Values r.0 r.1) (λ r. tt) (counted_place symbols 1 fs)),
-                                    tt,
+                                    (
+                                      with_none_adds Channels tt,
+                                      (
+                                        (λ fs. mapped AskedGivable (λ t. Differs t) (λ t. tt) (option_and_then count_in (sole fs))),
+                                        tt,
+                                      ),
+                                    ),
                                   ),
                                 ),
                               ),

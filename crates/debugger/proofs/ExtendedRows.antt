@@ -1,5 +1,6 @@
 -- Extended sessions over a small program, replied by the definitions alone.
 use Rattle.std.proofs.Common.{◌≡◌, ℕ, Bool, List, [], ◌∷◌, ◌++◌, Some, None, true, false, ap, ◌∙◌, refl}
+use Rattle.std.specs.Prelude.{◌==◌, if◌then◌else◌}
 use Rattle.std.specs.Prelude.{codes, decimal}
 use Rattle.std.specs.Fmt.{digits}
 use Rattle.agc_text.specs.Fields.{runs}
@@ -16,7 +17,7 @@ use Rattle.std.specs.FinSet as set
 use Rattle.std.specs.Ordering.{nat_cmp, eq_by_cmp}
 use Rattle.std.specs.Cmp.{nat_cmp_total}
 use Rattle.std.specs.Prelude.{◌||◌}
-use Rattle.space.specs.Cells.{accumulator, lower_accumulator, return_address, program_counter, both_banks, erasable_bank, fixed_bank}
+use Rattle.space.specs.Cells.{Cells, get, accumulator, lower_accumulator, return_address, program_counter, both_banks, erasable_bank, fixed_bank}
 use Rattle.cpu.proofs.Holding.{get-holding, at-holding, superbank-holding}
 use Rattle.cpu.proofs.Held.{state, rope}
 use Rattle.cpu.specs.Codes.{basic_rows, extracode_rows, code_of}
@@ -56,6 +57,8 @@ use Rattle.words.specs.BitSums.{and_sum}
 use Rattle.debugger.specs.History.{History, Sight, history}
 use Rattle.debugger.specs.Growth.{grow, lowest_hit}
 use Rattle.debugger.specs.Replies.{Desk, answer, reply, at_line}
+use Rattle.debugger.specs.Channels.{channel_line, channel_word, channels_set}
+use Rattle.debugger.specs.Differs.{channels_changed, erasable_line}
 use Rattle.debugger.specs.AllRegisters.{register_lines, flag_lines, requested, numbers_text, or_none, sum_line, word_line}
 use Rattle.debugger.specs.ExtendedReplies.{extended_reply}
 use Rattle.debugger.specs.Transcript.{first_desk}
@@ -288,3 +291,29 @@ values_there : values (history five) (linear.Fixed 2 3) 2 ++ values (history fiv
     ≡ ended (codes "VALUE 02,4003 01010 520 0.03173828125000 000001000001000" ∷ codes "VALUE 02,4004 14000 6144 0.37500000000000 001100000000000" ∷ codes "VALUE 02,5777 00000 0 0.00000000000000 000000000000000" ∷ codes "VALUE E0,0000 00012 10 0.00061035156250 000000000001010" ∷ [])
 unfolding rows_text based_text place_text window octal_text digits
 values_there = ap (λ h. values h (linear.Fixed 2 3) 2 ++ values h (linear.Fixed 2 0o1777) 9 ++ values h (linear.Erasable 0) 1 ++ values h (linear.Erasable 0) 0) history-five ∙ refl
+
+-- the channels whose words are not zero, the first and the last too; and those whose words differ
+abbrev word_on : ℕ → ℕ
+word_on c = if c == 0 then 1 else if c == 0o12 then 0o75 else if c == 0o777 then 0o40000 else 0
+
+abbrev other_on : ℕ → ℕ
+other_on c = if c == 0o12 then 0o75 else if c == 0o13 then 1 else 0
+
+channels_told : channels_set word_on ++ channels_set (λ c. 0) ++ channels_changed word_on other_on ++ channels_changed other_on other_on
+    ≡ 0 ∷ 0o12 ∷ 0o777 ∷ 0 ∷ 0o13 ∷ 0o777 ∷ []
+channels_told = refl
+
+-- the line of each register is that of `regs all`, in the order of places, and other places are told with their banks
+lines_of_places : erasable_line indexed.cells 0 ++ erasable_line indexed.cells 1 ++ erasable_line indexed.cells 2 ++ erasable_line indexed.cells 3 ++ erasable_line indexed.cells 4 ++ erasable_line indexed.cells 5 ++ erasable_line indexed.cells 6
+    ≡ ended (codes "A 177715" ∷ codes "L 00005" ∷ codes "Q 000000" ∷ codes "EB 3" ∷ codes "FB 12" ∷ codes "Z 4107" ∷ codes "BB 24003" ∷ [])
+unfolding octal_text
+lines_of_places =
+    rw (get-holding cells accumulator, get-holding cells lower_accumulator, get-holding cells return_address, at-holding cells erasable_bank, at-holding cells fixed_bank, get-holding cells program_counter, get-holding cells both_banks) refl
+
+line_of_memory : (c : Cells) → get c 0o1402 ≡ 0o177776 → erasable_line c 0o1402 ≡ codes "MEM E3,1402 77776\n"
+unfolding octal_text place_text window
+line_of_memory c is = rw is refl
+
+line_of_channel : (c : Cells) → channel_word c 0o12 ≡ 0o75 → channel_line c 0o12 ≡ codes "CHAN 012 00075\n"
+unfolding octal_text
+line_of_channel c is = rw is refl

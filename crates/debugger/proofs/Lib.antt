@@ -9,6 +9,7 @@ pub mod Moved
 pub mod PartByPart
 pub mod Standings
 pub mod Based
+pub mod Filtered
 pub mod WholeReplies
 pub mod InputsAdded
 pub mod LineByLine

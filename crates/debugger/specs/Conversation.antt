@@ -10,7 +10,7 @@ use Rattle.commands.specs.Extended.{extended_line}
 use Rattle.commands.specs.declared.extended.IndexLines.{IndexLines}
 use Rattle.commands.specs.declared.extended.IndexLines.TheVariants.{Omitted, Told}
 use Rattle.commands.specs.declared.extended.ExtendedLine.{ExtendedLine}
-use Rattle.commands.specs.declared.extended.ExtendedLine.TheVariants.{Plain, Common, Says, Help, Breaks, ClearOne, On, AllRegisters, Until, WhyStep, Why, Words, Where, Find, Trace, Inputs, Over, Out, Listed, Values}
+use Rattle.commands.specs.declared.extended.ExtendedLine.TheVariants.{Plain, Common, Says, Help, Breaks, ClearOne, On, AllRegisters, Until, WhyStep, Why, Words, Where, Find, Trace, Inputs, Over, Out, Listed, Values, Channels, Differs}
 use Rattle.commands.specs.declared.command.ParsedLine.TheVariants.{Known}
 use Rattle.debugger.specs.declared.manner.Manner.{Manner}
 use Rattle.debugger.specs.declared.manner.Manner.TheVariants as manner
@@ -67,6 +67,8 @@ is_end (Over k) = false
 is_end (Out k) = false
 is_end (Listed place k) = false
 is_end (Values place k) = false
+is_end Channels = false
+is_end (Differs t) = false
 
 -- what a request brings, in terms and over the reference run of what runs now
 abbrev pub to_asked : Terms → ExtendedLine → Desk → Reply

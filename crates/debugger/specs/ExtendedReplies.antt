@@ -10,11 +10,13 @@ use Rattle.commands.specs.declared.command.Breakpoint.TheVariants.{Place, Word, 
 use Rattle.commands.specs.declared.subject.Subject.{Subject}
 use Rattle.commands.specs.declared.subject.Subject.TheVariants as subject
 use Rattle.commands.specs.declared.extended.ExtendedLine.{ExtendedLine}
-use Rattle.commands.specs.declared.extended.ExtendedLine.TheVariants.{Plain, Common, Says, Help, Breaks, ClearOne, On, AllRegisters, Until, WhyStep, Why, Words, Where, Find, Trace, Inputs, Over, Out, Listed, Values}
+use Rattle.commands.specs.declared.extended.ExtendedLine.TheVariants.{Plain, Common, Says, Help, Breaks, ClearOne, On, AllRegisters, Until, WhyStep, Why, Words, Where, Find, Trace, Inputs, Over, Out, Listed, Values, Channels, Differs}
 use Rattle.cpu.specs.Run.{run}
 use Rattle.debugger.specs.History.{History, in_manner}
 use Rattle.debugger.specs.declared.manner.Manner.TheVariants as manner
 use Rattle.debugger.specs.AllRegisters.{all_registers}
+use Rattle.debugger.specs.Channels.{channels_text}
+use Rattle.debugger.specs.Differs.{differs_text}
 use Rattle.debugger.specs.Whys.{subject_spots, why_text, last_text}
 use Rattle.debugger.specs.Standing.{where_text, found_text, words_text, rows_text}
 use Rattle.debugger.specs.declared.rows.RowKind.TheVariants.{Instruction, Number}
@@ -117,3 +119,5 @@ extended_reply terms h d (Over k) = goes_over (further h) d k
 extended_reply terms h d (Out k) = goes_out (further h) d k
 extended_reply terms h d (Listed place k) = says (rows_text Instruction terms.symbols terms.source d.scenario.rope h (here h d) place k) d
 extended_reply terms h d (Values place k) = says (rows_text Number terms.symbols terms.source d.scenario.rope h (here h d) place k) d
+extended_reply terms h d Channels = says (channels_text (run d.scenario d.position).cells) d
+extended_reply terms h d (Differs t) = says (differs_text d.scenario d.steps d.position t) d

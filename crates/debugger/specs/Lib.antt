@@ -24,6 +24,8 @@ pub mod ValueTold
 pub mod Routines
 pub mod ExtendedReplies
 pub mod AllRegisters
+pub mod Channels
+pub mod Differs
 pub mod Transcript
 pub mod Sessions
 pub mod Conversation

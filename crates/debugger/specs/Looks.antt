@@ -5,7 +5,7 @@ use Rattle.commands.specs.declared.command.ParsedLine.TheVariants.{Known}
 use Rattle.commands.specs.declared.command.Command.{Command}
 use Rattle.commands.specs.declared.command.Command.TheVariants.{Registers, Memory, Channel}
 use Rattle.commands.specs.declared.extended.ExtendedLine.{ExtendedLine}
-use Rattle.commands.specs.declared.extended.ExtendedLine.TheVariants.{Plain, Common, AllRegisters, Words, Listed, Values}
+use Rattle.commands.specs.declared.extended.ExtendedLine.TheVariants.{Plain, Common, AllRegisters, Words, Listed, Values, Channels}
 
 -- the state after the steps up to the position is all that the reply is made of
 abbrev pub command_looks : Command → Bool
@@ -25,4 +25,5 @@ looks AllRegisters = true
 looks (Words place k) = true
 looks (Listed place k) = true
 looks (Values place k) = true
+looks Channels = true
 looks request = false

@@ -97,6 +97,8 @@ impl Desk {
             ExtendedLine::Values(place, count) => {
                 self.rows(session, symbols, rows, RowKind::Number, place, *count, out)
             }
+            ExtendedLine::Channels => write_all(out, self.channels(session).as_slice()),
+            ExtendedLine::Differs(step) => self.differs(session, *step, out),
         }
     }
 

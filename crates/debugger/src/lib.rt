@@ -7,7 +7,9 @@
 mod adding;
 mod all_registers;
 mod breakpoints;
+mod channels;
 mod desk;
+mod differs;
 mod ending;
 mod executing;
 mod extended;

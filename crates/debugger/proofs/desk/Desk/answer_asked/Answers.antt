@@ -4,9 +4,12 @@ use Rattle.yayul.specs.Program.{Source}
 use Rattle.debugger.specs.Terms.{Terms}
 use Rattle.debugger.specs.Inputs.{inputs_text}
 use Rattle.debugger.specs.ExtendedReplies.{extended_reply}
-use Rattle.commands.specs.declared.extended.ExtendedLine.TheVariants.{Plain, Common, WhyStep, Why, Words, Where, Find, Trace, Inputs, Listed, Values}
+use Rattle.commands.specs.declared.extended.ExtendedLine.TheVariants.{Plain, Common, WhyStep, Why, Words, Where, Find, Trace, Inputs, Listed, Values, Channels, Differs}
 use Rattle.debugger.specs.Conversation.{to_asked}
 use Rattle.debugger.specs.History.{history}
+use Rattle.debugger.specs.Channels.{channels_text}
+use Rattle.debugger.specs.Differs.{differs_text}
+use Rattle.cpu.specs.Run.{run}
 use Rattle.debugger.specs.Standing.{words_text, where_text, found_text, rows_text}
 use Rattle.debugger.specs.declared.rows.RowKind.TheVariants.{Instruction, Number}
 use Rattle.debugger.specs.Retracing.{traced_text}
@@ -122,3 +125,15 @@ returns-in-Values-clause-executes g c = λ told.
     let scenario = c.args.session.now.scenario in
     let h = history scenario in
     rw c.in-Values.is (replies-text g.K.Keeper.may_refuse (to_asked (terms c.args.symbols.now c.args.rows.now c.args.first_added) (Values c.in-Values.place c.in-Values.count)) _ _ _ _ (rows_text Number c.args.symbols.now c.args.rows.now scenario.rope h (h.after c.args.self.now.position) c.in-Values.place c.in-Values.count) _ _ (λ answers additions. rw (looked.scenario, looked.steps) refl) refl (c.rows-in-Values.ensures.writes told))
+
+pub returns-in-Channels-clause-executes : goal.returns-in-Channels-clause-executes
+unfolding extended_reply
+returns-in-Channels-clause-executes g c = λ told.
+    let looked = c.channels.ensures.looked in
+    rw c.in-Channels.is (replies-text g.K.Keeper.may_refuse (to_asked (terms c.args.symbols.now c.args.rows.now c.args.first_added) Channels) _ _ _ _ (channels_text (run c.args.session.now.scenario c.args.self.now.position).cells) _ _ (λ answers additions. rw (looked.scenario, looked.steps) refl) (c.as_slice-in-Channels.ensures.value ∙ c.channels.ensures.text) (c.write_all-in-Channels.ensures.written told))
+
+pub returns-in-Differs-clause-executes : goal.returns-in-Differs-clause-executes
+unfolding extended_reply
+returns-in-Differs-clause-executes g c = λ told.
+    let looked = c.differs.ensures.looked in
+    rw c.in-Differs.is (replies-text g.K.Keeper.may_refuse (to_asked (terms c.args.symbols.now c.args.rows.now c.args.first_added) (Differs c.in-Differs.step)) _ _ _ _ (differs_text c.args.session.now.scenario c.args.session.now.n c.args.self.now.position c.in-Differs.step) _ _ (λ answers additions. rw (looked.scenario, looked.steps) refl) refl (c.differs.ensures.writes told))
