@@ -42,9 +42,9 @@ plain : asked (codes "clear" ∷ codes "mem FIVE" ∷ codes " step 1 # one" ∷ 
 unfolding extended_line extended_forms usages forms runs parsed counters sequences registers window
 plain = refl
 
--- what stands after `echo` and one byte, a comment sign too
-echoes : asked (codes "echo DONE 5" ∷ codes " echo  two # three" ∷ codes "echo" ∷ codes "echo " ∷ [])
-    ≡ Says (codes "DONE 5\n") ∷ Says (codes " two # three\n") ∷ Says (codes "\n") ∷ Says (codes "\n") ∷ []
+-- what stands after `echo` and one blank, a comment sign too; and after `echo`, where none stands
+echoes : asked (codes "echo DONE 5" ∷ codes " echo  two # three" ∷ codes "echo" ∷ codes "echo " ∷ codes "echo#x" ∷ codes "echo\t#x" ∷ [])
+    ≡ Says (codes "DONE 5\n") ∷ Says (codes " two # three\n") ∷ Says (codes "\n") ∷ Says (codes "\n") ∷ Says (codes "#x\n") ∷ Says (codes "#x\n") ∷ []
 unfolding extended_line extended_forms usages forms runs parsed counters sequences registers window
 echoes = refl
 
@@ -117,10 +117,10 @@ every_place = refl
 -- an address that is none of the bank, a place past the end of its bank, a sign without number, and too many words
 wrong_places : asked (codes "mem 02,2005" ∷ codes "mem E3,1377" ∷ codes "mem E8,1400" ∷ codes "mem 50,2000" ∷ codes "mem FIVE +1773" ∷ codes "mem SUM +" ∷ codes "mem SUM -1" ∷ codes "mem SUM 1000" ∷ codes "mem SUM +1 +1" ∷ codes "why CH7 +1" ∷ codes "break word SUM +1" ∷ [])
     ≡ map (λ text. Says (codes "E50 COMMAND " ++ text))
-    (codes "no symbol 02,2005\n"
-    ∷ codes "no symbol E3,1377\n"
+    (codes "no place 02,2005: places are octal, to 7777, or BANK,OFFSET to 47,1777, or as a listing has them\n"
+    ∷ codes "no place E3,1377: places are octal, to 7777, or BANK,OFFSET to 47,1777, or as a listing has them\n"
     ∷ codes "no symbol E8,1400\n"
-    ∷ codes "no symbol 50,2000\n"
+    ∷ codes "no place 50,2000: places are octal, to 7777, or BANK,OFFSET to 47,1777, or as a listing has them\n"
     ∷ codes "mem takes a place, or a place and a count\n"
     ∷ codes "mem takes a place, or a place and a count\n"
     ∷ codes "mem takes a place, or a place and a count\n"
@@ -250,13 +250,27 @@ not_octal_alone : asked (codes "mem SUM 18" ∷ codes "why SUM 9" ∷ codes "mem
     ∷ Says (codes "E50 COMMAND no symbol 18A\n")
     ∷ Says (codes "E50 COMMAND mem takes a place, or a place and a count\n")
     ∷ Says (codes "E50 COMMAND chan takes a channel\n")
-    ∷ Says (codes "E50 COMMAND no symbol 77777\n")
+    ∷ Says (codes "E50 COMMAND no place 77777: places are octal, to 7777, or BANK,OFFSET to 47,1777, or as a listing has them\n")
     ∷ Common (Memory (Fixed 2 5))
     ∷ Says (codes "E50 COMMAND mem takes a place, or a place and a count\n")
     ∷ Says (codes "E50 COMMAND numbers of places, channels and words are octal, and X,19 has a digit 8 or 9\n")
     ∷ []
 unfolding extended_line extended_forms usages forms runs parsed counters sequences registers window
 not_octal_alone = refl
+
+-- numbers that no place has: alone, as a bank and an offset, and as a listing has them
+no_places : asked (codes "mem 10000" ∷ codes "last 010000" ∷ codes "break at 50,0000" ∷ codes "list 44,4000 2" ∷ codes "value E3,1200" ∷ codes "why 10000 +1" ∷ [])
+    ≡ map (λ field. Says (codes "E50 COMMAND no place " ++ field ++ codes ": places are octal, to 7777, or BANK,OFFSET to 47,1777, or as a listing has them\n"))
+    (codes "10000" ∷ codes "010000" ∷ codes "50,0000" ∷ codes "44,4000" ∷ codes "E3,1200" ∷ codes "10000" ∷ [])
+unfolding extended_line extended_forms usages forms runs parsed counters sequences registers window
+no_places = refl
+
+-- what is no number, and the last places
+no_numbers : asked (codes "mem E9,1400" ∷ codes "mem E5" ∷ codes "mem ,5" ∷ codes "mem 2," ∷ codes "mem X10000" ∷ codes "mem 7777" ∷ codes "mem 3777" ∷ codes "mem 47,1777" ∷ [])
+    ≡ map (λ field. Says (codes "E50 COMMAND no symbol " ++ field ++ codes "\n")) (codes "E9,1400" ∷ codes "E5" ∷ codes ",5" ∷ codes "2," ∷ codes "X10000" ∷ [])
+    ++ map (λ place. Common (Memory place)) (Fixed 3 0o1777 ∷ Erasable 0o3777 ∷ Fixed 0o47 0o1777 ∷ [])
+unfolding extended_line extended_forms usages forms runs parsed counters sequences registers window
+no_numbers = refl
 
 -- fixed memory, where an erasable place is asked for; a word is missing besides
 in_fixed_memory : asked (codes "break word FIVE 5" ∷ codes "break word 4000" ∷ codes "last CH12" ∷ codes "why 02,4005 index" ∷ codes "break word BIG 5" ∷ codes "break at FIVE 5" ∷ [])

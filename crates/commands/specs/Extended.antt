@@ -1,7 +1,7 @@
 -- What a line of an extended session asks for: the commands of any session, some more, and refusals in words.
-use Rattle.std.specs.Prelude.{ℕ, ◌+◌, nat_lt, nat_le, ◌&&◌, ◌||◌, not, Bool, false, List, [], ◌∷◌, ◌++◌, length, drop, Option, None, Some, is_some, codes, if◌then◌else◌, option_and_then}
+use Rattle.std.specs.Prelude.{ℕ, ◌+◌, nat_lt, nat_le, Bool, false, List, [], ◌∷◌, ◌++◌, length, drop, Option, None, Some, codes, if◌then◌else◌, option_and_then}
 use Rattle.std.specs.Option.{option_map, option_or}
-use Rattle.agc_text.specs.Fields.{Piece, fields, texts}
+use Rattle.agc_text.specs.Fields.{Piece, fields, is_blank, texts}
 use Rattle.agc_text.specs.Tables.{same_name, value_in}
 use Rattle.symbols.specs.Values.{SymbolTable}
 use Rattle.feed.specs.Statements.{word_in}
@@ -221,9 +221,14 @@ abbrev pub or_plain : Option ExtendedLine → ExtendedLine → ExtendedLine
 or_plain None request = request
 or_plain (Some extended) request = extended
 
--- what stands after a field and one byte
+-- a text, without a blank that it begins with
+abbrev pub behind_blank : List ℕ → List ℕ
+behind_blank [] = []
+behind_blank (byte ∷ more) = if is_blank byte then more else byte ∷ more
+
+-- what stands after a field, and after a blank there
 abbrev pub text_after : Piece → List ℕ → List ℕ
-text_after field line = drop (field.start + length field.text + 1) line
+text_after field line = behind_blank (drop (field.start + length field.text) line)
 
 -- what a line asks for whose first field is `echo`
 abbrev pub echoed : List ℕ → List Piece → ExtendedLine

@@ -82,11 +82,27 @@ is_no_octal symbols field =
     not (is_some (value_in symbols field))
     && (is_beyond_octal (if begins_with_plus field then drop 1 field else before_comma field) || is_beyond_octal (after_comma field))
 
+-- octal digits
+abbrev pub is_octal : List ℕ → Bool
+is_octal text = is_some (digits_value 8 text)
+
+-- the number of a place, or a bank of fixed memory, or an erasable one after an E, and an octal number beside a comma
+abbrev pub is_numbered : List ℕ → Bool
+is_numbered field =
+    is_octal field
+    || (is_octal (if same_name (take 1 field) (codes "E") then drop 1 (before_comma field) else before_comma field) && is_octal (after_comma field))
+
+-- what is said of a field that names no place
+abbrev pub no_such : List ℕ → List ℕ
+no_such field =
+    if is_numbered field then codes "no place " ++ field ++ codes ": places are octal, to 7777, or BANK,OFFSET to 47,1777, or as a listing has them"
+    else codes "no symbol " ++ field
+
 -- why a line has no form of its command
 abbrev pub wrong_form : SymbolTable → List ℕ → List (List ℕ) → List ℕ → List ℕ
 wrong_form symbols name fields takes =
     option_map_or (λ field. codes "numbers of places, channels and words are octal, and " ++ field ++ codes " has a digit 8 or 9") (find (is_no_octal symbols) (octal_fields name fields))
-    (option_map_or (λ symbol. codes "no symbol " ++ symbol) (missing_symbol symbols (place_field name fields))
+    (option_map_or no_such (missing_symbol symbols (place_field name fields))
     (option_map_or (λ field. field ++ codes " is in fixed memory, whose words never change") (fixed_field symbols (erasable_field name fields)) (name ++ codes " takes " ++ takes)))
 
 -- why a line is no command

@@ -7,7 +7,7 @@ ghost use Rattle.agc_text.specs.Tables.{value_in};
 ghost use Rattle.commands.specs.Lines.{kept_line};
 ghost use Rattle.commands.specs.Commands.{count_in};
 ghost use Rattle.commands.specs.declared.extended.ExtendedLine.TheVariants as asked;
-ghost use Rattle.commands.specs.Extended.{extended_forms, most_count, sole, with_none, with_word, with_field, with_field_or, help_in, few_in, index_in, counted_links, links_in, why_of, why_place, why_form, memory_of, channel_form, memory_form, count_after, counted_place, with_counted_place, usual_links, if_none, place_alone, last_form, broken_at, watches, bits_of, watches_bits, subject_alone, break_form, in_words, echoed, extended_in, extended_line, steps_in};
+ghost use Rattle.commands.specs.Extended.{extended_forms, most_count, sole, with_none, with_word, with_field, with_field_or, help_in, few_in, index_in, counted_links, links_in, why_of, why_place, why_form, memory_of, channel_form, memory_form, count_after, counted_place, with_counted_place, usual_links, if_none, place_alone, last_form, broken_at, watches, bits_of, watches_bits, subject_alone, break_form, in_words, behind_blank, echoed, extended_in, extended_line, steps_in};
 
 use crate::command::{Breakpoint, Command, ParsedLine};
 use crate::fields::{channel_in, count_in, is_word};
@@ -127,13 +127,24 @@ fn echoed(line: &[u8]) -> ExtendedLine
 {
     match next_field(line, 0) {
         Some(name) => {
-            let start = line.len().min(name.start + name.text.len() + 1);
+            let end = line.len().min(name.start + name.text.len());
             let mut phrase = Phrase::new();
-            phrase.push(&line[start..]);
+            phrase.push(behind_blank(&line[end..]));
             phrase.push(b"\n");
             ExtendedLine::Says(phrase)
         }
         None => ExtendedLine::Plain(ParsedLine::Nothing),
+    }
+}
+
+// A text, without a blank that it begins with.
+fn behind_blank(text: &[u8]) -> &[u8]
+    ensures { result.now ≡ behind_blank text.now }
+{
+    if !text.is_empty() && (text[0] == b' ' || text[0] == b'\t') {
+        &text[1..]
+    } else {
+        text
     }
 }
 

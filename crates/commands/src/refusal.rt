@@ -4,7 +4,7 @@ ghost use Rattle.std.specs.Prelude.{◌≡◌, ◌+◌, ◌≤◌, ◌++◌, All
 ghost use Rattle.std.specs.Option.{option_map};
 ghost use Rattle.agc_text.specs.Fields.{runs, texts};
 ghost use Rattle.commands.specs.Commands.{before_comma, after_comma};
-ghost use Rattle.commands.specs.Refusals.{begins_with_place, breakpoint_place_field, place_field, is_no_symbol, missing_symbol, erasable_breakpoint_field, erasable_field, is_in_fixed_memory, fixed_field, octal_fields, is_beyond_octal, is_no_octal, wrong_form, refusal_line};
+ghost use Rattle.commands.specs.Refusals.{begins_with_place, breakpoint_place_field, place_field, is_no_symbol, missing_symbol, erasable_breakpoint_field, erasable_field, is_in_fixed_memory, fixed_field, octal_fields, is_beyond_octal, is_no_octal, is_octal, is_numbered, no_such, wrong_form, refusal_line};
 
 use crate::fields::is_word;
 use crate::named_places::{begins_with_plus, named_place};
@@ -41,15 +41,14 @@ fn push_wrong_form(phrase: &mut Phrase, symbols: &Symbols, name: &[u8], rest: &[
     requires fields { All (λ field. length field ≤ 80) (texts (runs rest.now)) }
     requires takes { length takes.now ≤ 48 }
     ensures text { phrase.new ≡ phrase.old ++ wrong_form symbols.now name.now (texts (runs rest.now)) takes.now }
-    ensures short { length phrase.new ≤ 164 }
+    ensures short { length phrase.new ≤ 184 }
 {
     if let Some(field) = number_not_octal(symbols, name, rest) {
         phrase.push(b"numbers of places, channels and words are octal, and ");
         phrase.push(field);
         phrase.push(b" has a digit 8 or 9");
     } else if let Some(symbol) = missing_symbol(symbols, name, rest) {
-        phrase.push(b"no symbol ");
-        phrase.push(symbol);
+        push_no_such(phrase, symbol);
     } else if let Some(field) = fixed_field(symbols, name, rest) {
         phrase.push(field);
         phrase.push(b" is in fixed memory, whose words never change");
@@ -58,6 +57,45 @@ fn push_wrong_form(phrase: &mut Phrase, symbols: &Symbols, name: &[u8], rest: &[
         phrase.push(b" takes ");
         phrase.push(takes);
     }
+}
+
+// Adds what is said of a field that names no place.
+fn push_no_such(phrase: &mut Phrase, field: &[u8])
+    requires phrase { length phrase.old ≤ 12 }
+    requires field { length field.now ≤ 80 }
+    ensures text { phrase.new ≡ phrase.old ++ no_such field.now }
+    ensures short { length phrase.new ≤ 184 }
+{
+    if is_numbered(field) {
+        phrase.push(b"no place ");
+        phrase.push(field);
+        phrase.push(
+            b": places are octal, to 7777, or BANK,OFFSET to 47,1777, or as a listing has them",
+        );
+    } else {
+        phrase.push(b"no symbol ");
+        phrase.push(field);
+    }
+}
+
+// Whether a field is the number of a place, or a bank and an octal number beside a comma.
+fn is_numbered(field: &[u8]) -> bool
+    ensures { result ≡ is_numbered field.now }
+{
+    let length = length_before_byte(field, b',');
+    let first = if !field.is_empty() && &field[..1] == "E".as_bytes() {
+        &field[1.min(length)..length]
+    } else {
+        &field[..length]
+    };
+    is_octal(field) || is_octal(first) && length < field.len() && is_octal(&field[length + 1..])
+}
+
+// Whether octal digits stand there.
+fn is_octal(text: &[u8]) -> bool
+    ensures { result ≡ is_octal text.now }
+{
+    octal_value(text).is_some()
 }
 
 // The first of the fields in which octal numbers stand that is none.
