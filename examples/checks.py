@@ -224,6 +224,12 @@ SILENT = [
     ("nothing: no SETLOC, which is harmless", " CA FIVE|DONE TCF DONE|FIVE OCT 5", []),
     ("run --notes: an interrupt that does not end", "ARUPT EQUALS 10| RELINT|LOOP TCF LOOP| SETLOC 4014| XCH ARUPT| TCF LOOP", []),
 ]
+# Labels that are operators' names with --flight alone, and those that are in both languages: where W1 is told of each without and with the option.
+NAMED = [
+    ("COUNT OCT 1;OCTAL OCT 2; OCTAL 3", [], [(1, 1), (2, 1)]),
+    ("RETURN OCT 1;2DEC OCT 2;DNCHAN OCT 3;COUNTS OCT 4", [(1, 1)], [(1, 1), (2, 1), (3, 1)]),
+    ("X OCT 1;-CCS OCT 1;+3 OCT 4", [], [(2, 1)]),
+]
 # A fault and warnings on one line and beside it.
 BOTH = " CA 5;CA FIV; AD 6"
 TOLD = re.compile(rb"^(.*):(\d+):(\d+): error E(\d+): (.+)$")
@@ -266,6 +272,10 @@ def check_warnings(program, room, told):
             rows = [(line, column, f"W{number}") for line, column, number in drawn]
             faults = len(found) - len(warned)
             told(f"warnings {options} of {shown}", (warned, count, errors) == (rows, [f"{counted(faults, 'error')}, {counted(len(rows), 'warning')}".encode()], b""), f"wanted {rows}, got {found} {count}")
+    for shown, *wanted in NAMED:
+        written(path, shown.replace(";", "\n").encode() + b"\n")
+        got = [[it[:2] for it in warned_by(program, path, *options)[1] if it[2] == "W1"] for options in ((), ("--flight",))]
+        told(f"W1 of {shown}", got == wanted, f"wanted {wanted}, got {got}")
     with open(path, "wb") as file:
         file.write(BOTH.replace(";", "\n").encode() + b"\n")
     wanted = 1, [(1, 5, "W2"), (2, 4, "E15"), (2, 1, "W1"), (3, 2, "W4"), (3, 5, "W2")], [b"1 error, 4 warnings"], b""

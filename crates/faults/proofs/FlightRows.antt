@@ -80,8 +80,14 @@ abbrev warning : Finding → ℕ × ℕ × ℕ × ℕ
 warning f = (f.line, f.span.start + 1, f.span.width, f.number)
 
 counted : map warning (warnings Flight true (source (codes "+3 CA 5; -2D CA 5;-X CA -X;+4 DXCH -X;-X ERASE;+5"))) ≡ (1, 7, 1, 2) ∷ (2, 9, 1, 2) ∷ (4, 9, 2, 3) ∷ []
-unfolding warnings lines runs operators
+unfolding warnings lines runs operators flight_operators
 counted = refl
+
+-- names of operators that flight programs alone have, as labels
+named_as_operators : map warning (warnings Flight false (source (codes "OCTAL 5;+3 OCTAL 5;COUNT;-CCS TC COUNT;RETURN")) ++ warnings Standard false (source (codes "OCTAL 5;COUNT;RETURN")))
+    ≡ (1, 1, 5, 1) ∷ (3, 1, 5, 1) ∷ (4, 1, 4, 1) ∷ (5, 1, 6, 1) ∷ (3, 1, 6, 1) ∷ []
+unfolding warnings lines runs operators flight_operators
+named_as_operators = refl
 
 -- ## Words
 -- what is wrong with a line and how it is mended, by its number

@@ -9,7 +9,7 @@ use Rattle.agc_text.specs.declared.digits.Number.{Number}
 use Rattle.agc_text.specs.declared.digits.Number.TheVariants.{Small}
 use Rattle.agc_text.specs.declared.fields.Line.{Line}
 use Rattle.agc_text.specs.Tables.{same_name, value_in}
-use Rattle.yayul.specs.Flight.{uncounted}
+use Rattle.yayul.specs.Flight.{flight_operators, uncounted}
 use Rattle.yayul.specs.Operators.{operators}
 use Rattle.yayul.specs.Survey.{field_at, looked_at, span_of}
 use Rattle.yayul.specs.declared.finding.Finding.{Finding}
@@ -96,8 +96,17 @@ at_field warn field = option_map_or warn field []
 abbrev pub operator_names : List (List ℕ)
 operator_names = map (λ row. row.0) operators
 
-abbrev pub label_warnings : ℕ → Parts → List Finding
-label_warnings line parts = at_field (λ p. warned_if (is_among operator_names p.text) line 1 p) parts.label
+-- those that flight programs have besides, or with more forms
+abbrev pub flight_names : List (List ℕ)
+flight_names = map (λ row. row.0) flight_operators
+
+-- an operator's name in a language
+abbrev pub is_name_in : Language → List ℕ → Bool
+is_name_in Standard text = is_among operator_names text
+is_name_in Flight text = is_among operator_names text || is_among flight_names text
+
+abbrev pub label_warnings : Language → ℕ → Parts → List Finding
+label_warnings language line parts = at_field (λ p. warned_if (is_name_in language p.text) line 1 p) parts.label
 
 -- ## 2: the number of a register or a counter where a word is read: `CA 5` reads Z
 abbrev pub readers : List (List ℕ)
@@ -459,8 +468,8 @@ is_standard Standard = true
 is_standard Flight = false
 
 -- the warnings of a line's label; of one that nothing names where they are asked for
-abbrev pub name_warnings : Bool → Names → Before → ℕ → Parts → List Finding
-name_warnings unused names before line parts = label_warnings line parts ++ register_warnings before.place line parts ++ (if unused then unused_warnings names.operands line parts else [])
+abbrev pub name_warnings : Language → Bool → Names → Before → ℕ → Parts → List Finding
+name_warnings language unused names before line parts = label_warnings language line parts ++ register_warnings before.place line parts ++ (if unused then unused_warnings names.operands line parts else [])
 
 -- the warnings of its operator, by what stands before it and the lines after it
 abbrev pub flow_warnings : Language → Names → Before → List Parts → ℕ → Parts → List Finding
@@ -474,7 +483,7 @@ operand_warnings names before line parts =
 -- the warnings of a line, in the order of its fields
 abbrev pub line_warnings : Language → Bool → Names → Before → List Parts → ℕ → Parts → List Finding
 line_warnings language unused names before after line parts =
-    name_warnings unused names before line parts ++ flow_warnings language names before after line parts ++ operand_warnings names before line parts
+    name_warnings language unused names before line parts ++ flow_warnings language names before after line parts ++ operand_warnings names before line parts
 
 -- the warnings of some lines of a source of a language, the first of them with a number
 abbrev pub warned_lines : Language → Bool → Names → Before → ℕ → List Parts → List Finding

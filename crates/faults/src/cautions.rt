@@ -46,7 +46,7 @@ pub(crate) fn warning_meaning(number: u8) -> &'static [u8]
 }
 
 const CAUSES_1: &[u8] = b"
-- an operator's name in the first column, where it is a label
+- an operator's name in the first column, where it is a label; with --flight those of its forms too
   > RETURN
   Cure: a blank before it
 ";

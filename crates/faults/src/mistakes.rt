@@ -10,7 +10,7 @@ ghost use Rattle.faults.specs.Warnings.{parts_of, parts_for, parts_in, is_among,
 
 use crate::flow::{Before, is_instruction, still_operators, warn_of_end, warn_of_vector};
 use crate::names::{NameSet, is_among, is_short};
-use crate::operators::is_operator;
+use crate::operators::is_operator_in;
 use crate::parts::parts_for;
 use crate::registers::warn_of_register;
 use crate::switched::{Banks, Region, is_common};
@@ -161,7 +161,7 @@ impl Names {
     ) -> Result<(), AllocError>
         ensures { OnOk result (found.new.items ≡ found.old.items ++ line_warnings language unused self.now before (map parts_in after.now) line (parts_in parts.now)) }
     {
-        self.warn_of_names(unused, before, line, parts, found)?;
+        self.warn_of_names(language, unused, before, line, parts, found)?;
         self.warn_of_flow(language, before, after, line, parts, found)?;
         self.warn_of_operand(before, line, parts, found)
     }
@@ -169,15 +169,16 @@ impl Names {
     // Appends those of its label.
     fn warn_of_names(
         &self,
+        language: Language,
         unused: bool,
         before: Before,
         line: u32,
         parts: &Line<'_>,
         found: &mut Vec<Finding>,
     ) -> Result<(), AllocError>
-        ensures { OnOk result (found.new.items ≡ found.old.items ++ name_warnings unused self.now before line (parts_in parts.now)) }
+        ensures { OnOk result (found.new.items ≡ found.old.items ++ name_warnings language unused self.now before line (parts_in parts.now)) }
     {
-        warn_of_label(line, parts, found)?;
+        warn_of_label(language, line, parts, found)?;
         warn_of_register(before.place, line, parts, found)?;
         if unused {
             warn_of_unused(&self.operands, line, parts, found)?;
@@ -338,11 +339,16 @@ fn reads_word(parts: &Line<'_>) -> bool
 }
 
 // An operator's name as a label.
-fn warn_of_label(line: u32, parts: &Line<'_>, found: &mut Vec<Finding>) -> Result<(), AllocError>
-    ensures { OnOk result (found.new.items ≡ found.old.items ++ label_warnings line (parts_in parts.now)) }
+fn warn_of_label(
+    language: Language,
+    line: u32,
+    parts: &Line<'_>,
+    found: &mut Vec<Finding>,
+) -> Result<(), AllocError>
+    ensures { OnOk result (found.new.items ≡ found.old.items ++ label_warnings language line (parts_in parts.now)) }
 {
     match parts.label {
-        Some(label) => warn_if(is_operator(label.text), line, 1, label, found),
+        Some(label) => warn_if(is_operator_in(language, label.text), line, 1, label, found),
         None => Ok(()),
     }
 }

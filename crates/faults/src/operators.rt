@@ -3,17 +3,28 @@
 ghost use Rattle.std.specs.Prelude.{◌≡◌, ◌==◌, length, map, filter};
 ghost use Rattle.std.specs.Option.{option_map};
 ghost use Rattle.faults.specs.Causes.{near_name};
-ghost use Rattle.faults.specs.Warnings.{is_among, operator_names};
+ghost use Rattle.faults.specs.Warnings.{flight_names, is_among, is_name_in, operator_names};
 
 use crate::mistakes::operator_names;
 use crate::names::is_among;
 use crate::nearness::near_in;
+use yayul::Language;
 
 /// An operator's name.
 pub(crate) fn is_operator(text: &[u8]) -> bool
     ensures { result ≡ is_among operator_names text.now }
 {
     is_among(names_of_length(text.len()), text)
+}
+
+/// An operator's name in a language.
+pub(crate) fn is_operator_in(language: Language, text: &[u8]) -> bool
+    ensures { result ≡ is_name_in language text.now }
+{
+    match language {
+        Language::Standard => is_operator(text),
+        Language::Flight => is_operator(text) || is_among(flight_names(), text),
+    }
 }
 
 /// The operator's name that is near to a text: most that are have its length, and stand first.
@@ -41,6 +52,21 @@ fn names_of_length(count: usize) -> &'static [&'static str]
         _ => &[],
     }
 }
+
+// The operators' names that flight programs have besides, or with more forms.
+#[tactic(auto, unfolding(yayul::specs::Flight::flight_operators))]
+fn flight_names() -> &'static [&'static str]
+    ensures { map (λ name. name.now) result.now ≡ flight_names }
+{
+    &FLIGHT_NAMES
+}
+
+const FLIGHT_NAMES: [&str; 35] = [
+    "EQUALS", "=", "BANK", "BLOCK", "COUNT", "COUNT*", "BNKSUM", "SUBRO", "MEMORY", "OCT", "OCTAL",
+    "2OCT", "VN", "DEC", "2DEC", "BBCON", "-2CADR", "-CADR", "-GENADR", "-CCS", "-1DNADR",
+    "-2DNADR", "-3DNADR", "-4DNADR", "-5DNADR", "-6DNADR", "GENADR", "REMADR", "1DNADR", "2DNADR",
+    "3DNADR", "4DNADR", "5DNADR", "6DNADR", "DNCHAN",
+];
 
 const NAMES_OF_ONE: [&str; 1] = ["="];
 
