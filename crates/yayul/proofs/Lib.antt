@@ -39,6 +39,9 @@ mod LeastTold
 mod ToldOnce
 mod Sure
 mod NoLabel
+mod KindsAs
+mod Early
+mod ValueSure
 mod SurveyRows
 mod PatchedRequest
 mod NoneWaits

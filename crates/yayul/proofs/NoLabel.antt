@@ -39,7 +39,7 @@ stands_more (x ∷ table) e name is = by_test (stands_more table e name) (same_n
     by_test later true is = refl
     by_test later false is = later is
 
-stands_last : (table : Table) (name : List ℕ) (value : Value) → stands_in (table ++ (name, value) ∷ []) name ≡ true
+pub stands_last : (table : Table) (name : List ℕ) (value : Value) → stands_in (table ++ (name, value) ∷ []) name ≡ true
 stands_last [] name value = ap (λ b. is_some (cond b (Some value) None)) (nat_list_eq_equiv.refl name)
 stands_last (x ∷ table) name value = by_test (stands_last table name value) (same_name name x.0)
   where
@@ -56,7 +56,7 @@ noted_keeps lost (Named other) name is = by_test (stands_in lost other)
     by_test true = is
     by_test false = stands_more lost (other, Num 0) name is
 
-noted_stands : (lost : Table) (name : List ℕ) → stands_in (noted lost (Named name)) name ≡ true
+pub noted_stands : (lost : Table) (name : List ℕ) → stands_in (noted lost (Named name)) name ≡ true
 noted_stands lost name = by_test (stands_in lost name) refl
   where
     by_test : (b : Bool) → stands_in lost name ≡ b → stands_in (cond b lost (lost ++ (name, Num 0) ∷ [])) name ≡ true
@@ -65,20 +65,20 @@ noted_stands lost name = by_test (stands_in lost name) refl
 
 -- ## Lines keep names
 -- a layout has a name wherever another has it
-record Keeps (name : List ℕ) (s t : Layout) : Type 0 where
-  symbols : stands_in s.symbols name ≡ true → stands_in t.symbols name ≡ true
-  promised : stands_in s.promised name ≡ true → stands_in t.promised name ≡ true
+pub record Keeps (name : List ℕ) (s t : Layout) : Type 0 where
+  pub symbols : stands_in s.symbols name ≡ true → stands_in t.symbols name ≡ true
+  pub promised : stands_in s.promised name ≡ true → stands_in t.promised name ≡ true
 
 -- a survey has it
 abbrev stands : Survey → List ℕ → Bool
 stands s name = stands_in s.layout.symbols name || (stands_in s.layout.promised name || stands_in s.lost name)
 
 -- a survey has it wherever another has it
-record KeepsAll (name : List ℕ) (s t : Survey) : Type 0 where
-  layout : Keeps name s.layout t.layout
-  lost : stands_in s.lost name ≡ true → stands_in t.lost name ≡ true
+pub record KeepsAll (name : List ℕ) (s t : Survey) : Type 0 where
+  pub layout : Keeps name s.layout t.layout
+  pub lost : stands_in s.lost name ≡ true → stands_in t.lost name ≡ true
 
-or_true : (b : Bool) → (b || true) ≡ true
+pub or_true : (b : Bool) → (b || true) ≡ true
 or_true true = refl
 or_true false = refl
 
@@ -156,7 +156,7 @@ module _ (name : List ℕ) where
       by_faults true = same s.layout
       by_faults false = statement_keeps line s.layout label operation
 
-  known_keeps : (s : Survey) (known : Known) → KeepsAll name s (with_known s known)
+  pub known_keeps : (s : Survey) (known : Known) → KeepsAll name s (with_known s known)
   known_keeps s known = record { layout = by_known known.location; lost = λ is. is }
     where
       by_known : (b : Bool) → Keeps name s.layout (cond b s.layout (record s.layout { location = nowhere }))
@@ -164,7 +164,7 @@ module _ (name : List ℕ) where
       by_known false = record { symbols = λ is. is; promised = λ is. is }
 
   -- what follows the label, whether the line is done or not
-  followed_keeps : (line : ℕ) (s : Survey) (label : Label) (operation : Operation) (done kept : Bool) (known : Known)
+  pub followed_keeps : (line : ℕ) (s : Survey) (label : Label) (operation : Operation) (done kept : Bool) (known : Known)
       → KeepsAll name (label_passed kept s label operation) (with_known (done_line line s label operation done kept) known)
   followed_keeps line s label operation true kept known =
       all_both (label_passed kept s label operation) (laid line (label_passed kept s label operation) (kept_label kept label) operation) _
@@ -173,16 +173,18 @@ module _ (name : List ℕ) where
       all_both (label_passed kept s label operation) (passed_over (label_passed kept s label operation) operation) _
       (record { layout = record { symbols = λ is. is; promised = λ is. is }; lost = λ is. is }) (known_keeps _ known)
 
-  passed_keeps : (line : ℕ) (s : Survey) (text : List ℕ) → stands s name ≡ true → stands (passed_line line s text) name ≡ true
+  pub line_keeps : (line : ℕ) (s : Survey) (text : List ℕ) → KeepsAll name s (passed_line line s text)
   unfolding passed_line
-  passed_keeps line s text is =
+  line_keeps line s text =
       let label : Label = (statement_on s.layout text).label in
       let operation : Operation = operation_on s.layout text in
       let kinds : List FaultKind = layout_kinds line s.layout label operation in
       let done : Bool = is_done s.known (lacks_operand s.layout.language text) operation kinds in
-      keeps_stands name s _
-      (all_both s (label_passed (is_kept done kinds) s label operation) _ (passed_label_keeps (is_kept done kinds) s label operation)
-      (followed_keeps line s label operation done (is_kept done kinds) (known_after s.known text operation done))) is
+      all_both s (label_passed (is_kept done kinds) s label operation) _ (passed_label_keeps (is_kept done kinds) s label operation)
+      (followed_keeps line s label operation done (is_kept done kinds) (known_after s.known text operation done))
+
+  passed_keeps : (line : ℕ) (s : Survey) (text : List ℕ) → stands s name ≡ true → stands (passed_line line s text) name ≡ true
+  passed_keeps line s text is = keeps_stands name s (passed_line line s text) (line_keeps line s text) is
 
 -- ## A line's label is kept or lost
 standing_one : (kind : FaultKind) → standing (Some kind ∷ []) ≡ [] → ⊥
@@ -196,7 +198,7 @@ module _ (name : List ℕ) (line : ℕ) (s : Layout) where
   by_symbol : (t : Layout) → stands_in t.symbols name ≡ true → Given t
   by_symbol t is = ap (λ b. b || stands_in t.promised name) is
 
-  own_kind : (kind : FaultKind) → standing (fault_if (is_malformed (Named name)) BadLabel ∷ fault_if (is_twice s (Named name)) TwiceDefined ∷ Some kind ∷ []) ≡ [] → ⊥
+  pub own_kind : (kind : FaultKind) → standing (fault_if (is_malformed (Named name)) BadLabel ∷ fault_if (is_twice s (Named name)) TwiceDefined ∷ Some kind ∷ []) ≡ [] → ⊥
   own_kind kind e = standing_one kind (none_stands (is_twice s (Named name)) TwiceDefined (Some kind ∷ []) e).1
 
   asked_given : (content : Content) (t : Layout) → stands_in t.symbols name ≡ true → Given (asked_here line t content)
@@ -225,7 +227,7 @@ module _ (name : List ℕ) (line : ℕ) (s : Layout) where
   statement_given (Gives (Some content)) e = asked_given content (defined s (Named name) (value_here s.location)) (stands_last s.symbols name (value_here s.location))
 
 -- faults of a label alone, and none of a label
-no_kinds : (kinds : List FaultKind) → list_all is_of_label kinds ≡ true → list_any is_of_label kinds ≡ false → kinds ≡ []
+pub no_kinds : (kinds : List FaultKind) → list_all is_of_label kinds ≡ true → list_any is_of_label kinds ≡ false → kinds ≡ []
 no_kinds [] all none = refl
 no_kinds (kind ∷ kinds) all none =
     let is = and_parts (is_of_label kind) (list_all is_of_label kinds) all in
@@ -440,7 +442,7 @@ content_lacks table here extracode eb (FarComplement operand) e = low_lacks tabl
 content_lacks table here extracode eb (BankWord operand) e = low_lacks table here operand (λ place. Ok (bank_word eb place.0 place.1 ∷ [])) (λ place. tt) e
 
 -- a line's symbol has no value
-abbrev LacksValue : Table → Operation → Type 0
+abbrev pub LacksValue : Table → Operation → Type 0
 LacksValue table operation = (name : List ℕ) × ((symbol_of operation ≡ Some name) × (stands_in table name ≡ false))
 
 word_lacks : (table : Table) (s : Layout) (formless : Bool) (operation : Operation) → is_one_of (word_kinds table s formless operation) Undefined ≡ true → LacksValue table operation
@@ -493,7 +495,7 @@ line_lacks whole line s text e =
     (sym (any_of_five of_text (form_kinds formless) of_layout of_vain of_words) ∙ e))
 
 -- ## A symbol of a line
-names_symbol : (table : Table) (operation : Operation) (name : List ℕ) → symbol_of operation ≡ Some name → names_one table operation ≡ stands_in table name
+pub names_symbol : (table : Table) (operation : Operation) (name : List ℕ) → symbol_of operation ≡ Some name → names_one table operation ≡ stands_in table name
 names_symbol table operation name is = by_operand (operand_of operation) is
   where
     by_term : (term : Term) → symbol_in term ≡ Some name → is_among table term ≡ stands_in table name

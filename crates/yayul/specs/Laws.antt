@@ -4,12 +4,13 @@ use Rattle.std.specs.List.{list_any}
 use Rattle.agc_text.specs.Lines.{lines}
 use Rattle.agc_text.specs.Tables.{same_name}
 use Rattle.yayul.specs.Forms.{scaled}
-use Rattle.yayul.specs.Layout.{Request, start, extends, stands_at, fault_number, layout_after, layout_faults, statement_on}
+use Rattle.yayul.specs.Layout.{Layout, Request, start, extends, stands_at, fault_number, is_later, layout_after, layout_faults, statement_on}
+use Rattle.yayul.specs.Mended.{lacks_operand}
 use Rattle.yayul.specs.Operators.{operators}
 use Rattle.yayul.specs.Program.{Program, program}
-use Rattle.yayul.specs.Survey.{Survey, counts_from_here, erases, looked_at, operand_of, operation_on, passed_lines, told, unmarked}
+use Rattle.yayul.specs.Survey.{Survey, counts_from_here, erases, layout_kinds, looked_at, operand_of, operation_on, passed_lines, rests_on_known, told, unmarked}
 use Rattle.yayul.specs.Words.{addressed_word}
-use Rattle.yayul.specs.Language.{AddressedCode, BankFull, Channel, CodeInErasable, Content, Either, Extracode, Fault, Label, Language, Named, No, Num, Operand, Operation, Operator, OutOfRange, PlaceTaken, Takes, Term, Undefined, Value, WrongKindOfAddress, Yes}
+use Rattle.yayul.specs.Language.{AddressedCode, BankFull, Channel, CodeInErasable, Content, Either, Equals, Extracode, Fault, FaultKind, Label, Language, Named, No, Num, Operand, Operation, Operator, OutOfRange, PlaceTaken, Takes, Term, Undefined, UsedTooEarly, Value, WrongKindOfAddress, Yes}
 use Rattle.yayul.specs.declared.finding.Finding.{Finding}
 
 -- ## The words of instructions
@@ -175,3 +176,51 @@ NamesNoLabel language source line = (name : List ℕ) × ((symbol_of (said_on la
 -- that no line defines a symbol is told only where none has it as its label
 abbrev pub UndefinedIsSure : Language → List ℕ → Type 0
 UndefinedIsSure language source = All (λ f. f.number ≡ fault_number Undefined → NamesNoLabel language source f.line) (told language source)
+
+-- a line lets its label wait for a symbol of a later line
+abbrev pub is_waiting : Layout → Operation → Bool
+is_waiting s (Equals (Some operand)) = is_later s operand
+is_waiting s _ = false
+
+abbrev pub IsWaiting : Language → List ℕ → ℕ → Type 0
+IsWaiting language source line = is_waiting (before_line language source line).layout (said_on language source line) ≡ true
+
+-- no line above another has a name as its label, a refused one neither, but one that lets it wait
+abbrev pub IsNotAbove : Language → List ℕ → ℕ → List ℕ → Type 0
+IsNotAbove language source last name = (line : ℕ) → 1 ≤ line → line < last → label_on language source line ≡ Named name → IsWaiting language source line
+
+-- the operand of a line is a symbol, and no line above gives it a value
+abbrev pub NamesNoneAbove : Language → List ℕ → ℕ → Type 0
+NamesNoneAbove language source line = (name : List ℕ) × ((symbol_of (said_on language source line) ≡ Some name) × IsNotAbove language source line name)
+
+-- that the value of a symbol is needed too early is told only where no line above gives it one
+abbrev pub EarlyIsSure : Language → List ℕ → Type 0
+EarlyIsSure language source = All (λ f. f.number ≡ fault_number UsedTooEarly → NamesNoneAbove language source f.line) (told language source)
+
+-- the layout faults of what a line says
+abbrev pub faults_on : Language → List ℕ → ℕ → List FaultKind
+faults_on language source line = layout_kinds line (before_line language source line).layout (label_on language source line) (said_on language source line)
+
+-- all is known that a line rests on
+abbrev pub RestsOnKnown : Language → List ℕ → ℕ → Type 0
+RestsOnKnown language source line =
+    rests_on_known (before_line language source line).known (lacks_operand (before_line language source line).layout.language (text_of_line language source line)) (said_on language source line) ≡ true
+
+-- a line gives a name its value: it has the name as its label, no layout fault stands on it, and all is known that it rests on
+pub record GivesValue (language : Language) (source : List ℕ) (name : List ℕ) (line : ℕ) : Type 0 where
+  pub counted : (1 ≤ line) × (line ≤ length (looked_at language source))
+  pub label : label_on language source line ≡ Named name
+  pub faultless : faults_on language source line ≡ []
+  pub known : RestsOnKnown language source line
+
+abbrev pub IsGiven : Language → List ℕ → List ℕ → Type 0
+IsGiven language source name = (line : ℕ) × GivesValue language source name line
+
+-- a fault is one of the kind of a value, or of its range
+abbrev pub is_of_value : ℕ → Bool
+is_of_value number = number == fault_number WrongKindOfAddress || number == fault_number OutOfRange
+
+-- that the value of a symbol is of the wrong kind or out of range is told only where a line without a layout fault gives it
+abbrev pub ValueIsSure : Language → List ℕ → Type 0
+ValueIsSure language source =
+    All (λ f. is_of_value f.number ≡ true → (name : List ℕ) → symbol_of (said_on language source f.line) ≡ Some name → IsGiven language source name) (told language source)

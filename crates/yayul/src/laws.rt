@@ -1,6 +1,6 @@
 //! Laws of the source language. Each is the contract of a call that does nothing.
 
-ghost use Rattle.yayul.specs.Laws.{ScalesToNearest, WordsShareNoPlace, NamesStandOnce, FindingsAgree, FindingsAreSure, FindingsStandOnce, UndefinedIsSure};
+ghost use Rattle.yayul.specs.Laws.{ScalesToNearest, WordsShareNoPlace, NamesStandOnce, EarlyIsSure, FindingsAgree, FindingsAreSure, FindingsStandOnce, UndefinedIsSure, ValueIsSure};
 
 use crate::language::Language;
 
@@ -62,6 +62,26 @@ pub fn findings_are_sure(language: Language, source: &[u8])
 #[tactic(auto, using(crate::proofs::NoLabel::undefined_is_sure))]
 pub fn undefined_is_sure(language: Language, source: &[u8])
     ensures { UndefinedIsSure language source.now }
+{
+    let _language = language;
+    let _source = source;
+}
+
+/// That the value of a symbol is needed too early is told only where this is so: no line above gives it one, and none that is
+/// refused has it as its label.
+#[tactic(auto, using(crate::proofs::Early::early_is_sure))]
+pub fn early_is_sure(language: Language, source: &[u8])
+    ensures { EarlyIsSure language source.now }
+{
+    let _language = language;
+    let _source = source;
+}
+
+/// That the value of a symbol is of the wrong kind or out of range is told only where it is sure: a line without a layout fault gives
+/// it, and what that line rests on is known.
+#[tactic(auto, using(crate::proofs::ValueSure::value_is_sure))]
+pub fn value_is_sure(language: Language, source: &[u8])
+    ensures { ValueIsSure language source.now }
 {
     let _language = language;
     let _source = source;
