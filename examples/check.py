@@ -847,6 +847,7 @@ def check_command_line():
         status, out, err = agcws(*words)
         told(f"agcws {' '.join(words[:1])} with {len(words)} words", (status, out) == (2, b"") and err)
     compare("+4 steps", agcws("run", source, empty, "+4"), 0, b"7 CH 010 00012\n")
+    compare("an argument that is no text", agcws("asm", source, b"\xff"), 2, b"", b"error: an argument is not valid UTF-8\n")
 
 
 def text_of(name):
@@ -916,6 +917,8 @@ def check_whole_images(room):
             os.remove(rope)
         write(f"{rope}.part0", b"mine")
         write(rope, b"old")
+        compare(f"{name} of 40960 bytes beside a file that has a draft's name", with_short_files(words, 40960), 3, b"", b"agcws: E7\n")
+        told(f"{name} beside it keeps the old file", read(rope) == b"old" and sorted(os.listdir(folder)) == ["my.rope", "my.rope.part0"])
         os.chmod(rope, 0o640)
         status, _, err = agcws(*words)
         told(f"{name} puts the image in place of an old file", (status, err) == (0, b"") and read(rope) == read(two))
