@@ -271,7 +271,7 @@ class Arguments:
     def try_unread(self):
         """What cannot be read: a file, told by its own name, whichever of two it is; and a number."""
         self.same("words --where none.rope", 3, "", "agcws: E6\n")
-        for number in ("EE17", "WW4", "EW4", "WE17", "4W", "E", "W", "E256"):
+        for number in ("EE17", "WW4", "EW4", "WE17", "4W", "E", "W", "E256", "E+17", "+17", "W+4", "E-17"):
             none = "error: no refusal and no warning has this number; agcws explain lists them\n"
             self.same(f"explain {number}", 2, "", none)
         for command, one, other in (("compare", "five.rope", "six.rope"), ("compare --only", "five.agc", "five.rope")):
@@ -298,8 +298,8 @@ class Arguments:
             shown = [int(it.split()[0]) for it in out.splitlines()]
             is_good = shown == list(range(first, last + 1)) and out == b"".join(lines[first - 1 : last])
             self.told(f"agcws trace {options}", (status, err) == (0, b"") and is_good, f"{shown}")
-        for options in ("--from 5 --to 3", "--to 3 --from 5", "--from 10 --to 9"):
-            self.same(f"trace {options} five.agc good.feed 9", 2, "", "error: --from names a later step than --to\n")
+        for options in ("--from 5 --to 3", "--to 3 --from 5", "--from 10 --to 9", "--to 0"):
+            self.same(f"trace {options} five.agc good.feed 9", 2, "", "error: --to names an earlier step than --from, which is 1 where it is not given\n")
 
 
 def check_arguments(program, told, room):

@@ -228,7 +228,7 @@ def check_traces(room):
     compare("a trace of an image", agcws("trace", "--image", rope, empty, "4"), 0, b"".join(lines))
     compare("a trace of some steps", agcws("trace", "--image", rope, empty, "1099511627774", "--from", "2", "--to", "3"), 0, b"".join(lines[1:3]))
     compare("a trace of later steps than there are", agcws("trace", source, empty, "4", "--from", "5", "--to", "9"), 0, b"")
-    compare("a trace that ends before it begins", agcws("trace", source, empty, "60", "--from", "50", "--to", "40"), 2, b"", b"error: --from names a later step than --to\n")
+    compare("a trace that ends before it begins", agcws("trace", source, empty, "60", "--from", "50", "--to", "40"), 2, b"", b"error: --to names an earlier step than --from, which is 1 where it is not given\n")
     compare("a trace of no steps", agcws("trace", source, empty, "0"), 0, b"")
     check_trace_of_inputs(room)
     compare("a trace of a refused feed", agcws("trace", source, source, "4"), 1, b"", b"agcws: E30 LINE 2\n")

@@ -46,7 +46,8 @@ const NO_REFUSAL: &[u8] =
     b"error: no refusal and no warning has this number; agcws explain lists them\n";
 
 /// What is said of a trace whose first step is after its last.
-const NO_STEPS: &[u8] = b"error: --from names a later step than --to\n";
+const NO_STEPS: &[u8] =
+    b"error: --to names an earlier step than --from, which is 1 where it is not given\n";
 
 /// The exit status where not even a fault's line can be written.
 const NOT_REPORTED: u8 = 3;
@@ -137,12 +138,19 @@ fn explain(rt: &HostRuntime, number: Option<&str>) -> Result<u8, WorkshopFault> 
 
 /// The refusal of a number as it is named: 17, or E17.
 fn refusal_named(name: &str) -> Option<Refusal> {
-    let number = name.strip_prefix('E').unwrap_or(name).parse::<u8>().ok()?;
-    refusal_of(number)
+    refusal_of(number_in(name.strip_prefix('E').unwrap_or(name))?)
 }
 
 /// The warning of a number as it is named: W4.
 fn warning_named(name: &str) -> Option<Refusal> {
-    let number = name.strip_prefix('W')?.parse::<u8>().ok()?;
-    warning_of(number)
+    warning_of(number_in(name.strip_prefix('W')?)?)
+}
+
+/// The number of some digits: `parse` takes a sign too.
+fn number_in(digits: &str) -> Option<u8> {
+    if digits.starts_with('+') {
+        None
+    } else {
+        digits.parse::<u8>().ok()
+    }
 }
