@@ -146,6 +146,7 @@ FEEDS = [
     ("0 RUPT 11", (1, 8, "E30: 11 is no interrupt, which are 1 to 10", "")),
     ("5 TIME1 PINC\r", (1, 13, "E30: a carriage return ends the line; only a line feed may", "")),
     ("5 TIME1 PINC # " + 106 * "x", (1, 121, "E30: the line has more than 120 bytes", "part the comment into two lines")),
+    ("EVERY TIME1 PINC", (1, 7, "E30: a number is missing before TIME1", "EVERY FIRST NUM DEN COUNT, and an input without its cycle")),
     ("EVERY 0 853 5 TIME1 PINC", (1, 15, "E30: a number is missing before TIME1", "EVERY FIRST NUM DEN COUNT, and an input without its cycle")),
     ("EVERY 0 0 1 5 TIME1 PINC", (1, 9, "E30: NUM, DEN and COUNT are 1 or more", "")),
     ("EVERY 0 1000000000 1 5 TIME1 PINC", (1, 9, "E30: NUM, DEN and COUNT have 9 digits at most", "")),

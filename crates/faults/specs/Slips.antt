@@ -60,6 +60,10 @@ cycle_cause text =
     else if is_decimal text then said (codes "a cycle has 15 digits at most")
     else said (codes "~ is no cycle, which is 1 to 15 decimal digits")
 
+-- what stands for FIRST of a series
+abbrev pub first_cause : List ℕ → Cause
+first_cause text = if is_among input_names text then cured (codes "a number is missing before ~") (codes "EVERY FIRST NUM DEN COUNT, and an input without its cycle") else cycle_cause text
+
 -- what stands for NUM, DEN or COUNT of a series
 abbrev pub factor_cause : List ℕ → Cause
 factor_cause text =
@@ -144,7 +148,7 @@ factors_slip (suc left) place (text ∷ rest) = if is_some (factor_in text) then
 -- those after EVERY
 abbrev pub series_slip : List (List ℕ) → Slip
 series_slip [] = at 0 (said (codes "EVERY is followed by FIRST NUM DEN COUNT, and an input without its cycle"))
-series_slip (text ∷ rest) = if is_some (cycle_in text) then factors_slip 3 1 rest else at 1 (cycle_cause text)
+series_slip (text ∷ rest) = if is_some (cycle_in text) then factors_slip 3 1 rest else at 1 (first_cause text)
 
 -- the fields of a line
 abbrev pub line_slip : List (List ℕ) → Slip

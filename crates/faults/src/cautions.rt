@@ -67,7 +67,7 @@ const CAUSES_3: &[u8] = b"
 ";
 
 const CAUSES_4: &[u8] = b"
-- an instruction after which the program runs on to a constant, or where no word stands: the next line with a word or another location has a constant or an address, or none stands. Not told of an instruction that leaves, as TC, TCF, RETURN, RESUME, DTCB, DTCF, TCAA, XLQ and XXALQ do, and TS, XCH, LXCH, QXCH and DXCH of a register's number, Z, FB, FBANK, BB or BBANK; of one whose label is read, as by CAF, and that is executed elsewhere; and with --flight
+- an instruction after which the program runs on to a constant, or where no word stands: the next line with a word or another location has a constant or an address, or none stands. Not told of an instruction that leaves, as TC, TCF, RETURN, RESUME, DTCB, DTCF, TCAA, XLQ and XXALQ do, and TS, XCH, LXCH, QXCH and DXCH of an octal number from 0 to 60, Z, FB, FBANK, BB or BBANK; of one whose label is read, as by CAF, and that is executed elsewhere; and with --flight
   > F CA O
     O OCT 1
   Cure: TCF or RETURN behind it, and constants elsewhere
@@ -97,7 +97,7 @@ const CAUSES_6: &[u8] = b"
 ";
 
 const CAUSES_7: &[u8] = b"
-- the name of a register or a counter, ZERO left out, as a label of another place: beside a word, ERASE or nothing, or EQUALS or = of another number
+- the name of a register or a counter, ZERO left out, as a label of another place: beside a word, ERASE or nothing, or EQUALS or = of another octal number
      SETLOC 100
   > Q ERASE
   Cure: Q EQUALS 2
@@ -115,5 +115,5 @@ const CAUSES_9: &[u8] = b"
     D TCF D
      BANK 10
     R RETURN
-  Cure: CA NAME and TS 4, where NAME FCADR R stands
+  Cure: CA NAME and TS 4, where NAME FCADR R stands; for banks 40 to 43 WRITE 7 of 100 too
 ";

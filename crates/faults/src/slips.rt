@@ -4,7 +4,7 @@ ghost use Rattle.std.specs.Prelude.{◌≡◌, ◌≤◌, ◌+◌, map, is_some,
 ghost use Rattle.agc_text.specs.Fields.{runs, texts};
 ghost use Rattle.agc_text.specs.Tables.{value_in};
 ghost use Rattle.feed.specs.Statements.{channel_in, cycle_in, factor_in, request_in, word_in};
-ghost use Rattle.faults.specs.Slips.{is_decimal, counter_names, sequence_names, input_names, taken_by, cycle_cause, factor_cause, name_cause, channel_cause, word_cause, request_cause, missing_cause, surplus_cause, sequence_cause, surplus_slip, word_slip, channel_slip, request_slip, sequence_slip, input_slip, factors_slip, series_slip, line_slip};
+ghost use Rattle.faults.specs.Slips.{is_decimal, counter_names, sequence_names, input_names, taken_by, cycle_cause, first_cause, factor_cause, name_cause, channel_cause, word_cause, request_cause, missing_cause, surplus_cause, sequence_cause, surplus_slip, word_slip, channel_slip, request_slip, sequence_slip, input_slip, factors_slip, series_slip, line_slip};
 ghost use Rattle.faults.specs.Views.{cause_in, entries, slip_in};
 
 use crate::causes::{Cause, is_beyond_octal, value_in};
@@ -56,7 +56,7 @@ fn series_slip(text: &[u8]) -> Slip
     if is_cycle(first) {
         factors_slip(3, 1, rest)
     } else {
-        at(1, cycle_cause(first))
+        at(1, first_cause(first))
     }
 }
 
@@ -174,6 +174,20 @@ fn cycle_cause(text: &[u8]) -> Cause
         Cause::said(b"a cycle has 15 digits at most")
     } else {
         Cause::said(b"~ is no cycle, which is 1 to 15 decimal digits")
+    }
+}
+
+// What stands for FIRST of a series.
+fn first_cause(text: &[u8]) -> Cause
+    ensures { cause_in result ≡ first_cause text.now }
+{
+    if is_among(input_names(), text) {
+        Cause::cured(
+            b"a number is missing before ~",
+            b"EVERY FIRST NUM DEN COUNT, and an input without its cycle",
+        )
+    } else {
+        cycle_cause(text)
     }
 }
 

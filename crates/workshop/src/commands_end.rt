@@ -63,6 +63,7 @@ impl<R: Read> Read for Counted<R> {
         ensures err { R.told ≡ true → OnErr result (self.new.left ≡ self.old.left) }
         ensures failures { self.new.failures ≡ failures_after self.old.failures result }
         ensures counts { IfOk result (λ n. self.new.bytes ≡ min (self.old.bytes + n) (2 ^ 64 - 1)) }
+        ensures kept { OnErr result (self.new.bytes ≡ self.old.bytes) }
     {
         let count = self.device.read(buf)?;
         self.bytes = self.bytes.saturating_add(count as u64);
