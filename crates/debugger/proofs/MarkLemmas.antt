@@ -1,5 +1,5 @@
 -- What the low eight bits of Z tell of the breakpoints that may hold.
-use Rattle.std.proofs.Common.{◌≡◌, ◌≢◌, ℕ, ◌+◌, ◌-◌, ◌*◌, ◌%◌, ◌<◌, ◌≤◌, ◌==◌, ◌&&◌, Bool, true, false, List, length, get_or, set, Option, Some, None, is_some, not, refl, sym, ap, ◌∙◌, arith, ⊎_elim}
+use Rattle.std.proofs.Common.{◌≡◌, ◌≢◌, ℕ, ◌+◌, ◌-◌, ◌*◌, ◌%◌, ◌<◌, ◌≤◌, ◌==◌, ◌&&◌, Bool, true, false, List, length, get_or, set, Option, Some, None, refl, sym, ap, ◌∙◌, arith, ⊎_elim}
 use Rattle.std.specs.Prelude.{nat_lt, if◌then◌else◌}
 use Rattle.std.specs.List.{list_any}
 use Rattle.std.proofs.lemmas.List.{get_or-set_same, get_or-set_other}
@@ -18,7 +18,6 @@ use Rattle.cpu.specs.Profiles.{account_by, account_of_word}
 use Rattle.commands.specs.declared.command.Breakpoint.{Breakpoint}
 use Rattle.commands.specs.declared.command.Breakpoint.TheVariants.{Place, Word, Channel, Bits, Cycles, Returned, Outside, Executed, Changed}
 use Rattle.debugger.specs.History.{Sight, StepSight, sight, no_step, step_from, place_executed}
-use Rattle.debugger.specs.declared.noted.Noted.{Noted}
 use Rattle.debugger.specs.Growth.{is_executed, holds, lowest_hit}
 use Rattle.debugger.specs.Stopping.{asks, HoldsAlike}
 use Rattle.debugger.specs.Marks.{low_bits, may_hold_at}
@@ -118,11 +117,6 @@ unmarked_alike breakpoints scenario s none = λ index other seen below. unmatter
 -- nor where none asks what a step did
 pub unasked_alike : (breakpoints : List Breakpoint) (scenario : Scenario) (s : State) → list_any asks breakpoints ≡ false → HoldsAlike breakpoints None (next scenario s).0 (step_from scenario s)
 unasked_alike breakpoints scenario s none = λ index other seen below. unasked (get_or breakpoints index other) (not_one asks breakpoints index other none below) no_step (step_from scenario s) seen
-
-pub nothing_noted : (noted : Option Noted) (none : Bool) → is_some noted ≡ not none → none ≡ true → noted ≡ None
-nothing_noted None none is e = refl
-nothing_noted (Some x) true is e = never is
-nothing_noted (Some x) false is e = never (sym e)
 
 -- where nothing was noted, none holds unless one may by the low bits of Z after the step
 pub unmarked_none : (breakpoints : List Breakpoint) (s : State) (rope : Words) (step : StepSight) → list_any (may_hold_at (next_address s % 0o400)) breakpoints ≡ false → HoldsAlike breakpoints None s step → None ≡ lowest_hit breakpoints step (sight rope s)

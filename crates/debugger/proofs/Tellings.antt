@@ -143,7 +143,7 @@ abbrev pub Sees : {W B : Type 0} → Bool → (W → List ℕ) → (W → List �
 Sees told written handed_on failures breakpoints old scenario state ended new =
     (new.tail.ghost_name ≡ old.tail.ghost_name) × (new.out.ghost_name ≡ old.out.ghost_name) × (new.breaks ≡ old.breaks)
     × Tells told (hit_by (breakpoints old.breaks.now) true scenario state) (next scenario state).1 ended new.hit (seen written failures old) (seen written failures new)
-    × HandsOn told ended old.until_flush new.until_flush (handed_on new.out.now) (written new.out.now)
+    × HandsOn told ended old.until_flush.left new.until_flush.left (handed_on new.out.now) (written new.out.now)
 
 -- what no step changes
 same_for : {T X : Type 0} (sees : T → Scenario → State → Bool → T → Type 0) (name : T → X) → ((w : T) (p : Scenario) (s : State) (b : Bool) (w' : T) → sees w p s b w' → name w' ≡ name w)

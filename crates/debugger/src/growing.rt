@@ -1,6 +1,7 @@
 //! New steps.
 
-ghost use Rattle.std.specs.Prelude.{◌≡◌, ◌+◌, ◌*◌, ◌≤◌, ◌∷◌, ◌++◌, [], true, MatchOption, OnOk};
+ghost use Rattle.std.specs.Prelude.{◌≡◌, ◌+◌, ◌*◌, ◌≤◌, ◌<◌, ◌∷◌, ◌++◌, [], true, nat_le, MatchOption, OnOk};
+ghost use Rattle.cpu.specs.ChannelLines.{channel_line};
 ghost use Rattle.cpu.specs.Run.{outs};
 ghost use Rattle.words.specs.Devices.{Writes, failures_after};
 ghost use Rattle.debugger.specs.History.{history};
@@ -15,8 +16,9 @@ use crate::marks::{Breaks, Marks, NoBreaks};
 use crate::tail::Tail;
 use commands::Breakpoints;
 use cpu::{Machine, Output, Processor, write_channel_line};
-use replay::{Keeper, Refusal, Session, Stepper, Stop};
-use words::{Write, WriteFailed};
+use replay::{Keeper, Refusal, Session, Stepper, Stop, make_step};
+use space::Chan;
+use words::{Word, Write, WriteFailed};
 
 /// The most steps that are made before the lines written so far are handed on.
 const STEPS_BETWEEN_FLUSHES: u32 = 1 << 20;
@@ -66,7 +68,7 @@ fn grow_to<K: Keeper, W: Write, B: Breaks>(
         tail,
         breaks,
         out,
-        until_flush: STEPS_BETWEEN_FLUSHES,
+        until_flush: Countdown::new(),
         hit: None,
     };
     match session.advance_by(more, &mut teller) {
@@ -103,8 +105,7 @@ struct Teller<'a, W: Write, B: Breaks> {
 
     out: &'a mut W,
 
-    /// The steps that are left before the lines are handed on.
-    until_flush: u32,
+    until_flush: Countdown,
 
     /// Once the steps are ended: the number of the breakpoint, or none after a failure of the writer.
     hit: Option<u64>,
@@ -118,11 +119,27 @@ impl<'a, W: Write, B: Breaks> Stepper for Teller<'a, W, B> {
 
     ghost sees = { λ old scenario state ended new. (new.tail.ghost_name ≡ old.tail.ghost_name) × (new.out.ghost_name ≡ old.out.ghost_name) × (new.breaks ≡ old.breaks)
         × Tells W.told (hit_by (B.breakpoints old.breaks.now) true scenario state) (next scenario state).1 ended new.hit (record { tail = old.tail.now; text = W.written old.out.now; failures = W.failures old.out.now }) (record { tail = new.tail.now; text = W.written new.out.now; failures = W.failures new.out.now })
-        × HandsOn W.told ended old.until_flush new.until_flush (W.handed_on new.out.now) (W.written new.out.now) };
+        × HandsOn W.told ended old.until_flush.left new.until_flush.left (W.handed_on new.out.now) (W.written new.out.now) };
 
     #[inline(always)]
     fn make_step(&mut self, processor: &mut Processor, machine: &mut Machine) -> bool {
-        let noted = self.breaks.look(processor, machine);
+        if self.breaks.asks(machine) {
+            let noted = self.breaks.look(processor, machine);
+            let output = make_step(processor, machine);
+            if tell(self.tail, output, self.out).is_err()
+                || hand_on_in_time(&mut self.until_flush, self.out).is_err()
+            {
+                self.hit = None;
+                return true;
+            }
+            return match self.breaks.lowest_hit(&noted, machine) {
+                Some(number) => {
+                    self.hit = Some(number);
+                    true
+                }
+                None => false,
+            };
+        }
         let output = processor.step(machine);
         if tell(self.tail, output, self.out).is_err()
             || hand_on_in_time(&mut self.until_flush, self.out).is_err()
@@ -130,7 +147,7 @@ impl<'a, W: Write, B: Breaks> Stepper for Teller<'a, W, B> {
             self.hit = None;
             return true;
         }
-        match self.breaks.lowest_hit(&noted, machine) {
+        match self.breaks.lowest_unnoted(machine) {
             Some(number) => {
                 self.hit = Some(number);
                 true
@@ -149,27 +166,76 @@ fn tell<W: Write>(tail: &mut Tail, output: Option<Output>, out: &mut W) -> Resul
 {
     match output {
         None => Ok(()),
-        Some(output) => {
-            tail.push(output);
-            write_channel_line(&output, out)
+        Some(output) => tell_parts(tail, output.cycles, output.channel, output.word, out),
+    }
+}
+
+/// Keeps an output of these parts among the last ones, and writes its line. It stands apart, so that a step without one has none
+/// of its locals.
+#[inline(never)]
+fn tell_parts<W: Write>(
+    tail: &mut Tail,
+    cycles: u64,
+    channel: Chan,
+    word: Word,
+    out: &mut W,
+) -> Result<(), WriteFailed>
+    ensures tail { tail.new ≡ last_of tail_length (tail.old ++ record { cycles = cycles; channel = channel; word = word } ∷ []) }
+    ensures written { W.told ≡ true → Writes (W.written out.old) (W.written out.new)
+        (channel_line (record { cycles = cycles; channel = channel; word = word })) result }
+    ensures failures { W.failures out.new ≡ failures_after (W.failures out.old) result }
+{
+    let output = Output {
+        cycles,
+        channel,
+        word,
+    };
+    tail.push(output);
+    write_channel_line(&output, out)
+}
+
+/// The steps that are left before the lines are handed on.
+#[derive(Drop)]
+struct Countdown {
+    left: u32,
+    ghost some_left: { 0 < left },
+}
+
+impl Countdown {
+    /// As many as are made between.
+    fn new() -> Countdown {
+        Countdown {
+            left: STEPS_BETWEEN_FLUSHES,
         }
+    }
+
+    /// Counts a step, and answers whether it was the last one of them; then it begins anew.
+    #[inline(always)]
+    fn count(&mut self) -> bool
+        ensures left { self.new.left ≡ steps_left_after self.old.left }
+        ensures last { result ≡ nat_le self.old.left 1 }
+    {
+        self.left -= 1;
+        if self.left == 0 {
+            self.left = STEPS_BETWEEN_FLUSHES;
+            return true;
+        }
+        false
     }
 }
 
 /// Counts a step, and hands the lines on once so many were made.
 #[inline(always)]
-fn hand_on_in_time<W: Write>(until_flush: &mut u32, out: &mut W) -> Result<(), WriteFailed>
-    ensures counts { until_flush.new ≡ steps_left_after until_flush.old }
+fn hand_on_in_time<W: Write>(until_flush: &mut Countdown, out: &mut W) -> Result<(), WriteFailed>
+    ensures counts { until_flush.new.left ≡ steps_left_after until_flush.old.left }
     ensures written { W.told ≡ true → W.written out.new ≡ W.written out.old }
-    ensures handed_on { W.told ≡ true → until_flush.old ≤ 1 → OnOk result (W.handed_on out.new ≡ W.written out.new) }
+    ensures handed_on { W.told ≡ true → until_flush.old.left ≤ 1 → OnOk result (W.handed_on out.new ≡ W.written out.new) }
     ensures failures { W.failures out.new ≡ failures_after (W.failures out.old) result }
 {
-    if *until_flush > 1 {
-        *until_flush -= 1;
-        return Ok(());
+    if until_flush.count() {
+        return hand_on(out);
     }
-    *until_flush = STEPS_BETWEEN_FLUSHES;
-    hand_on(out)
+    Ok(())
 }
 
 /// Hands on the lines that a writer holds back. It stands apart, so that a step without it has none of its locals.

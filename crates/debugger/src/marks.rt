@@ -1,10 +1,10 @@
 //! The breakpoints at which new steps end, and what tells of most steps that none holds.
 
-ghost use Rattle.std.specs.Prelude.{◌≡◌, ◌<◌, ◌%◌, ℕ, [], Option, List, false, slice_index_or};
+ghost use Rattle.std.specs.Prelude.{◌≡◌, ◌<◌, ◌%◌, ℕ, [], Option, None, List, false, slice_index_or};
 ghost use Rattle.std.specs.List.{list_any};
 ghost use Rattle.rope.specs.Places.{Words};
 ghost use Rattle.space.specs.declared.place.Linear.{Linear};
-ghost use Rattle.cpu.specs.State.{FitsRun};
+ghost use Rattle.cpu.specs.State.{FitsRun, Scenario};
 ghost use Rattle.cpu.specs.Next.{next};
 ghost use Rattle.cpu.specs.Effects.{next_address};
 ghost use Rattle.commands.specs.declared.command.Breakpoint.{Breakpoint};
@@ -28,6 +28,10 @@ pub(crate) trait Breaks {
     /// The breakpoints that end them.
     ghost breakpoints: { Self → List Breakpoint };
 
+    /// Whether what the next step does may matter to one of them. Else nothing has to be noted of it.
+    fn asks(&self, machine: &Machine) -> bool
+        ensures { (scenario : Scenario) → result ≡ false → HoldsAlike (breakpoints self.now) None (next scenario machine.now).0 (step_from scenario machine.now) };
+
     /// What they ask of the next step, if what it does may matter to any of them.
     fn look(&self, processor: &Processor, machine: &Machine) -> Option<Noted>
         ensures { FitsRun processor.now.scenario machine.now → HoldsAlike (breakpoints self.now) result (next processor.now.scenario machine.now).0 (step_from processor.now.scenario machine.now) };
@@ -35,6 +39,10 @@ pub(crate) trait Breaks {
     /// The lowest number, counted from 1, of those that hold after a step, by what was noted before it.
     fn lowest_hit(&self, noted: &Option<Noted>, machine: &Machine) -> Option<u64>
         ensures { (rope : Words) (step : StepSight) → HoldsAlike (breakpoints self.now) noted.now machine.now step → result ≡ lowest_hit (breakpoints self.now) step (sight rope machine.now) };
+
+    /// The same, where nothing was noted.
+    fn lowest_unnoted(&self, machine: &Machine) -> Option<u64>
+        ensures { (rope : Words) (step : StepSight) → HoldsAlike (breakpoints self.now) None machine.now step → result ≡ lowest_hit (breakpoints self.now) step (sight rope machine.now) };
 }
 
 /// No breakpoint.
@@ -45,6 +53,11 @@ impl Breaks for NoBreaks {
     ghost breakpoints = { λ _. [] };
 
     #[inline(always)]
+    fn asks(&self, _machine: &Machine) -> bool {
+        false
+    }
+
+    #[inline(always)]
     fn look(&self, _processor: &Processor, _machine: &Machine) -> Option<Noted> {
         None
     }
@@ -52,6 +65,12 @@ impl Breaks for NoBreaks {
     #[inline(always)]
     #[tactic(auto, unfolding(crate::specs::Growth::lowest_hit))]
     fn lowest_hit(&self, _noted: &Option<Noted>, _machine: &Machine) -> Option<u64> {
+        None
+    }
+
+    #[inline(always)]
+    #[tactic(auto, unfolding(crate::specs::Growth::lowest_hit))]
+    fn lowest_unnoted(&self, _machine: &Machine) -> Option<u64> {
         None
     }
 }
@@ -94,23 +113,37 @@ impl<'a> Breaks for Marks<'a> {
     ghost breakpoints = { λ marks. marks.breakpoints.now };
 
     #[inline(always)]
-    fn look(&self, processor: &Processor, machine: &Machine) -> Option<Noted> {
+    fn asks(&self, machine: &Machine) -> bool {
         if !self.looks {
-            return None;
+            return false;
         }
-        if !self.is_marked(machine) {
-            return None;
-        }
+        self.is_marked(machine)
+    }
+
+    fn look(&self, processor: &Processor, machine: &Machine) -> Option<Noted> {
         look_closely(self.breakpoints, processor, machine)
     }
 
-    #[inline(always)]
     fn lowest_hit(&self, noted: &Option<Noted>, machine: &Machine) -> Option<u64> {
-        if noted.is_none() && !self.is_marked(machine) {
-            return None;
-        }
         lowest_hit(self.breakpoints.as_slice(), noted, machine)
     }
+
+    #[inline(always)]
+    fn lowest_unnoted(&self, machine: &Machine) -> Option<u64> {
+        if !self.is_marked(machine) {
+            return None;
+        }
+        lowest_of_all(self.breakpoints, machine)
+    }
+}
+
+/// The lowest number, counted from 1, of some breakpoints that hold after a step of which nothing was noted. It stands apart, so
+/// that a step without it has none of its locals.
+#[inline(never)]
+fn lowest_of_all(breakpoints: &Breakpoints, machine: &Machine) -> Option<u64>
+    ensures { (rope : Words) (step : StepSight) → HoldsAlike breakpoints.now None machine.now step → result ≡ lowest_hit breakpoints.now step (sight rope machine.now) }
+{
+    lowest_hit(breakpoints.as_slice(), &None, machine)
 }
 
 /// What some breakpoints ask of the next step, if what it does may matter to any of them. It stands apart, so that a step
