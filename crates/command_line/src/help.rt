@@ -344,8 +344,11 @@ With --extended there are these besides, and after E50 COMMAND stands why:
                        most K or 16: BY T, the step, what it wrote, FROM, what
                        it read; then ALL, MORE how many cells, or START
   why                  the same of the step that led to P, whatever it wrote
+  why .. index places  and INDEX, what moved its operand; WHERE, its place
+  why PLACE .. since T by steps from T on alone, and then MORE how many BEFORE T
   trace K              a line for each of the last K steps up to P, as agcws
                        trace has it
+  tail steps, K steps  the last 32 channel lines, or K, each after STEP T
   break chan C W MASK  where a channel has the bits of W where MASK has ones
   break exec PLACE     where the step executed the instruction at PLACE, as an
                        input and an interrupt do not, nor a word that waited

@@ -1,5 +1,5 @@
 -- Lines of extended sessions, read by the definitions alone.
-use Rattle.std.proofs.Common.{◌≡◌, ℕ, List, [], ◌∷◌, ◌++◌, map, refl}
+use Rattle.std.proofs.Common.{◌≡◌, ℕ, true, false, List, [], ◌∷◌, ◌++◌, map, refl}
 use Rattle.std.specs.Prelude.{codes, replicate}
 use Rattle.agc_text.specs.Fields.{runs}
 use Rattle.feed.specs.Names.{counters, sequences}
@@ -11,17 +11,18 @@ use Rattle.space.specs.declared.place.Linear.TheVariants.{Erasable, Fixed}
 use Rattle.symbols.specs.declared.values.Value.TheVariants as value
 use Rattle.symbols.specs.Values.{SymbolTable}
 use Rattle.commands.specs.Commands.{forms}
-use Rattle.commands.specs.Extended.{extended_line, extended_forms}
+use Rattle.commands.specs.Extended.{extended_line, extended_forms, telling}
 use Rattle.commands.specs.Usages.{usages}
 use Rattle.commands.specs.NamedPlaces.{registers}
 use Rattle.space.specs.Places.{window}
 use Rattle.commands.specs.declared.subject.Subject.TheVariants as subject
 use Rattle.commands.specs.declared.command.Breakpoint.TheVariants as breakpoint
-use Rattle.commands.specs.declared.command.Command.TheVariants.{Registers, Memory, Channel, Last, Break, Clear, Step, Add}
+use Rattle.commands.specs.declared.command.Command.TheVariants.{Registers, Memory, Channel, Last, Break, Clear, Step, Add, Tail}
 use Rattle.commands.specs.declared.command.ParsedLine.TheVariants.{Nothing, TooLong, WrongCounter}
 use Rattle.commands.specs.declared.extended.ExtendedLine.{ExtendedLine}
 use Rattle.commands.specs.declared.extended.IndexLines.TheVariants.{Omitted, Told}
-use Rattle.commands.specs.declared.extended.ExtendedLine.TheVariants.{Plain, Common, Says, Help, Breaks, ClearOne, On, AllRegisters, Until, WhyStep, Why, Words, Where, Find, Trace, Inputs, Over, Out, Listed, Values, Channels, Differs}
+use Rattle.commands.specs.declared.extended.ExtendedLine.TheVariants.{Plain, Common, Says, Help, Breaks, ClearOne, On, AllRegisters, Until, WhyStep, Why, Words, Where, Find, Trace, Inputs, Over, Out, Listed, Values, Channels, Differs, WhySince, TailSteps}
+use Rattle.commands.specs.declared.extended.LinkLines.{LinkLines}
 
 -- a place in fixed memory, and a number that is no place
 abbrev symbols : SymbolTable
@@ -48,22 +49,58 @@ echoes : asked (codes "echo DONE 5" ∷ codes " echo  two # three" ∷ codes "ec
 unfolding extended_line extended_forms usages forms runs parsed counters sequences registers window
 echoes = refl
 
+-- what is told besides the lines of steps
+abbrev plainly : LinkLines
+plainly = telling Omitted false
+
+abbrev with_index : LinkLines
+with_index = telling Told false
+
 -- what `why` is about: an erasable place, and where no symbol has the name a register or a channel; and how many links it tells
 whys : asked (codes "why" ∷ codes "why SUM" ∷ codes "why SUM 3" ∷ codes "why 101 999" ∷ codes "why A" ∷ codes "why BB 0" ∷ codes "why Q" ∷ codes "why CH010" ∷ codes "why CH7 2" ∷ [])
-    ≡ WhyStep Omitted ∷ Why (subject.Place 0o101) 16 Omitted ∷ Why (subject.Place 0o101) 3 Omitted ∷ Why (subject.Place 0o101) 999 Omitted ∷ Why (subject.Place 0) 16 Omitted ∷ Why (subject.Place 6) 0 Omitted ∷ Why (subject.Place 0o102) 16 Omitted ∷ Why (subject.Channel 8) 16 Omitted ∷ Why (subject.Channel 7) 2 Omitted ∷ []
+    ≡ WhyStep plainly ∷ Why (subject.Place 0o101) 16 plainly ∷ Why (subject.Place 0o101) 3 plainly ∷ Why (subject.Place 0o101) 999 plainly ∷ Why (subject.Place 0) 16 plainly ∷ Why (subject.Place 6) 0 plainly ∷ Why (subject.Place 0o102) 16 plainly ∷ Why (subject.Channel 8) 16 plainly ∷ Why (subject.Channel 7) 2 plainly ∷ []
 unfolding extended_line extended_forms usages forms runs parsed counters sequences registers window
 whys = refl
 
 -- and whether the lines of INDEX are told. Where `index` stands alone it is the word, though a symbol has this name
 indexed : asked (codes "why index" ∷ codes "why SUM index" ∷ codes "why SUM +1 3 index" ∷ codes "why CH010 index" ∷ codes "why CH7 0 index # told" ∷ codes "why index 3" ∷ codes "why index index" ∷ codes "why index +0" ∷ [])
-    ≡ WhyStep Told ∷ Why (subject.Place 0o101) 16 Told ∷ Why (subject.Place 0o102) 3 Told ∷ Why (subject.Channel 8) 16 Told ∷ Why (subject.Channel 7) 0 Told ∷ Why (subject.Place 0o103) 3 Omitted ∷ Why (subject.Place 0o103) 16 Told ∷ Why (subject.Place 0o103) 16 Omitted ∷ []
+    ≡ WhyStep with_index ∷ Why (subject.Place 0o101) 16 with_index ∷ Why (subject.Place 0o102) 3 with_index ∷ Why (subject.Channel 8) 16 with_index ∷ Why (subject.Channel 7) 0 with_index ∷ Why (subject.Place 0o103) 3 plainly ∷ Why (subject.Place 0o103) 16 with_index ∷ Why (subject.Place 0o103) 16 plainly ∷ []
 unfolding extended_line extended_forms usages forms runs parsed counters sequences registers window
 indexed = refl
 
 unindexed : asked (codes "why SUM index 3" ∷ codes "why SUM 3 INDEX" ∷ codes "why SUM 3 index index" ∷ codes "why SUM indexes" ∷ [])
-    ≡ replicate 4 (Says (codes "E50 COMMAND why takes a place, a place and a count, or nothing [index]\n"))
+    ≡ replicate 4 (Says (codes "E50 COMMAND why takes [PLACE [k]] [index] [places], PLACE .. since T\n"))
 unfolding extended_line extended_forms usages forms runs parsed counters sequences registers window
 unindexed = refl
+
+-- and whether places are told, after `index` where both stand
+placed : asked (codes "why places" ∷ codes "why index places" ∷ codes "why SUM places" ∷ codes "why SUM +1 3 index places" ∷ codes "why CH010 0 places # told" ∷ codes "why places 3" ∷ codes "why places index" ∷ [])
+    ≡ WhyStep (telling Omitted true) ∷ WhyStep (telling Told true) ∷ Why (subject.Place 0o101) 16 (telling Omitted true) ∷ Why (subject.Place 0o102) 3 (telling Told true) ∷ Why (subject.Channel 8) 0 (telling Omitted true)
+    ∷ Says (codes "E50 COMMAND no symbol places\n") ∷ Says (codes "E50 COMMAND no symbol places\n") ∷ []
+unfolding extended_line extended_forms usages forms runs parsed counters sequences registers window
+placed = refl
+
+unplaced : asked (codes "why SUM places 3" ∷ codes "why SUM places index" ∷ codes "why SUM 3 index places places" ∷ codes "why SUM PLACES" ∷ codes "why index 3 places index" ∷ [])
+    ≡ replicate 5 (Says (codes "E50 COMMAND why takes [PLACE [k]] [index] [places], PLACE .. since T\n"))
+unfolding extended_line extended_forms usages forms runs parsed counters sequences registers window
+unplaced = refl
+
+-- and since which step
+since : asked (codes "why SUM since 5" ∷ codes "why SUM 3 since 0" ∷ codes "why SUM +1 3 index places since 12 # steps" ∷ codes "why CH010 places since 7" ∷ codes "why index index since 7" ∷ [])
+    ≡ WhySince (subject.Place 0o101) 16 plainly 5 ∷ WhySince (subject.Place 0o101) 3 plainly 0 ∷ WhySince (subject.Place 0o102) 3 (telling Told true) 12 ∷ WhySince (subject.Channel 8) 16 (telling Omitted true) 7 ∷ WhySince (subject.Place 0o103) 16 with_index 7
+    ∷ []
+unfolding extended_line extended_forms usages forms runs parsed counters sequences registers window
+since = refl
+
+not_since : asked (codes "why SUM since" ∷ codes "why SUM since x" ∷ codes "why SUM since 5 3" ∷ codes "why SUM since 5 index" ∷ codes "why SUM 1000 since 5" ∷ codes "why SUM places index since 5" ∷ codes "why SUM Since 5" ∷ [])
+    ≡ replicate 7 (Says (codes "E50 COMMAND why takes [PLACE [k]] [index] [places], PLACE .. since T\n"))
+unfolding extended_line extended_forms usages forms runs parsed counters sequences registers window
+not_since = refl
+
+since_nothing : asked (codes "why since 5" ∷ codes "why FIVE since 5" ∷ [])
+    ≡ Says (codes "E50 COMMAND no symbol since\n") ∷ Says (codes "E50 COMMAND FIVE is in fixed memory, whose words never change\n") ∷ []
+unfolding extended_line extended_forms usages forms runs parsed counters sequences registers window
+since_nothing = refl
 
 wrong_whys : asked (codes "why FIVE" ∷ codes "why CH12" ∷ codes "why SUMM" ∷ codes "why SUMM 3" ∷ codes "why SUM x" ∷ codes "why SUM 1000" ∷ codes "why SUM 3 4" ∷ codes "why CH1000" ∷ codes "why CH" ∷ [])
     ≡ map (λ text. Says (codes "E50 COMMAND " ++ text))
@@ -71,9 +108,9 @@ wrong_whys : asked (codes "why FIVE" ∷ codes "why CH12" ∷ codes "why SUMM" �
     ∷ codes "CH12 is in fixed memory, whose words never change\n"
     ∷ codes "no symbol SUMM\n"
     ∷ codes "no symbol SUMM\n"
-    ∷ codes "why takes a place, a place and a count, or nothing [index]\n"
-    ∷ codes "why takes a place, a place and a count, or nothing [index]\n"
-    ∷ codes "why takes a place, a place and a count, or nothing [index]\n"
+    ∷ codes "why takes [PLACE [k]] [index] [places], PLACE .. since T\n"
+    ∷ codes "why takes [PLACE [k]] [index] [places], PLACE .. since T\n"
+    ∷ codes "why takes [PLACE [k]] [index] [places], PLACE .. since T\n"
     ∷ codes "no symbol CH1000\n"
     ∷ codes "no symbol CH\n"
     ∷ [])
@@ -110,7 +147,7 @@ places = refl
 
 -- in each command that takes one
 every_place : asked (codes "mem SUM +3 5" ∷ codes "mem 02,4005 999" ∷ codes "mem L 0" ∷ codes "last L" ∷ codes "last SUM +1" ∷ codes "why SUM +1" ∷ codes "why E3,1400 +2 4" ∷ codes "break at FIVE +1" ∷ codes "break at 02,4005" ∷ codes "break word Z 5" ∷ codes "break word SUM +3 75" ∷ [])
-    ≡ Words (Erasable 0o104) 5 ∷ Words (Fixed 2 5) 999 ∷ Words (Erasable 1) 0 ∷ Common (Last 1) ∷ Common (Last 0o102) ∷ Why (subject.Place 0o102) 16 Omitted ∷ Why (subject.Place 0o1402) 4 Omitted ∷ Common (Break (breakpoint.Place (Fixed 2 6))) ∷ Common (Break (breakpoint.Place (Fixed 2 5))) ∷ Common (Break (breakpoint.Word 5 5)) ∷ Common (Break (breakpoint.Word 0o104 0o75)) ∷ []
+    ≡ Words (Erasable 0o104) 5 ∷ Words (Fixed 2 5) 999 ∷ Words (Erasable 1) 0 ∷ Common (Last 1) ∷ Common (Last 0o102) ∷ Why (subject.Place 0o102) 16 plainly ∷ Why (subject.Place 0o1402) 4 plainly ∷ Common (Break (breakpoint.Place (Fixed 2 6))) ∷ Common (Break (breakpoint.Place (Fixed 2 5))) ∷ Common (Break (breakpoint.Word 5 5)) ∷ Common (Break (breakpoint.Word 0o104 0o75)) ∷ []
 unfolding extended_line extended_forms usages forms runs parsed counters sequences registers window
 every_place = refl
 
@@ -126,7 +163,7 @@ wrong_places : asked (codes "mem 02,2005" ∷ codes "mem E3,1377" ∷ codes "mem
     ∷ codes "mem takes a place, or a place and a count\n"
     ∷ codes "mem takes a place, or a place and a count\n"
     ∷ codes "mem takes a place, or a place and a count\n"
-    ∷ codes "why takes a place, a place and a count, or nothing [index]\n"
+    ∷ codes "why takes [PLACE [k]] [index] [places], PLACE .. since T\n"
     ∷ codes "break takes at|exec|change PLACE, word PLACE W, chan C W [M]\n"
     ∷ [])
 unfolding extended_line extended_forms usages forms runs parsed counters sequences registers window
@@ -188,6 +225,17 @@ last_steps : asked (codes "trace 5" ∷ codes "trace" ∷ codes "trace x" ∷ co
 unfolding extended_line extended_forms usages forms runs parsed counters sequences registers window
 last_steps = refl
 
+-- the last outputs, with their steps
+outputs_with_steps : asked (codes "tail" ∷ codes "tail steps" ∷ codes "tail 5 steps" ∷ codes "tail 999 steps # all" ∷ codes "tail 0 steps" ∷ [])
+    ≡ Common Tail ∷ TailSteps 32 ∷ TailSteps 5 ∷ TailSteps 999 ∷ TailSteps 0 ∷ []
+unfolding extended_line extended_forms usages forms runs parsed counters sequences registers window
+outputs_with_steps = refl
+
+outputs_without : asked (codes "tail 5" ∷ codes "tail 1000 steps" ∷ codes "tail steps 5" ∷ codes "tail steps steps" ∷ codes "tail 5 STEPS" ∷ codes "tail 5 steps 6" ∷ [])
+    ≡ replicate 6 (Says (codes "E50 COMMAND tail takes nothing, or [a count] steps\n"))
+unfolding extended_line extended_forms usages forms runs parsed counters sequences registers window
+outputs_without = refl
+
 -- to the end of a routine, by so many steps at most, and the inputs that were added
 travels : asked (codes "over" ∷ codes "over 20" ∷ codes "out" ∷ codes "out 3 # steps" ∷ codes "inputs" ∷ codes "over x" ∷ codes "out 1 2" ∷ codes "inputs 1" ∷ codes "over 1234567890123456" ∷ [])
     ≡ Over 999999999999999 ∷ Over 20 ∷ Out 999999999999999 ∷ Out 3 ∷ Inputs
@@ -219,7 +267,7 @@ not_shown = refl
 
 -- counters by their names, where no symbol has these
 counters_named : asked (codes "mem TIME3" ∷ codes "last PIPAX" ∷ codes "why INLINK 2" ∷ codes "mem TIME1 +1 3" ∷ codes "mem TIME7" ∷ [])
-    ≡ memory 0o26 ∷ Common (Last 0o37) ∷ Why (subject.Place 0o45) 2 Omitted ∷ Words (Erasable 0o26) 3 ∷ Says (codes "E50 COMMAND no symbol TIME7\n") ∷ []
+    ≡ memory 0o26 ∷ Common (Last 0o37) ∷ Why (subject.Place 0o45) 2 plainly ∷ Words (Erasable 0o26) 3 ∷ Says (codes "E50 COMMAND no symbol TIME7\n") ∷ []
 unfolding extended_line extended_forms usages forms runs parsed counters sequences registers window
 counters_named = refl
 
@@ -246,7 +294,7 @@ abbrev numbered : SymbolTable
 numbered = (codes "X,18", value.Fixed 2 5) ∷ []
 
 not_octal_alone : asked (codes "mem SUM 18" ∷ codes "why SUM 9" ∷ codes "mem 18A" ∷ codes "mem SUM 18 9" ∷ codes "chan 1000" ∷ codes "mem 77777" ∷ []) ++ map (extended_line numbered) (codes "mem X,18" ∷ codes "mem X,18 1000" ∷ codes "mem X,19" ∷ [])
-    ≡ Words (Erasable 0o101) 18 ∷ Why (subject.Place 0o101) 9 Omitted
+    ≡ Words (Erasable 0o101) 18 ∷ Why (subject.Place 0o101) 9 plainly
     ∷ Says (codes "E50 COMMAND no symbol 18A\n")
     ∷ Says (codes "E50 COMMAND mem takes a place, or a place and a count\n")
     ∷ Says (codes "E50 COMMAND chan takes a channel\n")

@@ -1,6 +1,6 @@
 -- What a line of an extended session asks for: the commands of any session, some more, and refusals in words.
-use Rattle.std.specs.Prelude.{ℕ, ◌+◌, nat_lt, nat_le, Bool, false, List, [], ◌∷◌, ◌++◌, length, drop, Option, None, Some, codes, if◌then◌else◌, option_and_then}
-use Rattle.std.specs.Option.{option_map, option_or}
+use Rattle.std.specs.Prelude.{ℕ, ◌+◌, nat_lt, nat_le, Bool, false, List, [], ◌∷◌, ◌++◌, length, drop, Option, None, Some, codes, if◌then◌else◌, option_and_then, true}
+use Rattle.std.specs.Option.{option_map, option_or, option_map_or}
 use Rattle.agc_text.specs.Fields.{Piece, fields, is_blank, texts}
 use Rattle.agc_text.specs.Tables.{same_name, value_in}
 use Rattle.symbols.specs.Values.{SymbolTable}
@@ -20,8 +20,9 @@ use Rattle.commands.specs.declared.command.ParsedLine.{ParsedLine}
 use Rattle.commands.specs.declared.command.ParsedLine.TheVariants.{Nothing, TooLong, Unknown, WrongCounter, Known}
 use Rattle.commands.specs.declared.extended.IndexLines.{IndexLines}
 use Rattle.commands.specs.declared.extended.IndexLines.TheVariants.{Omitted, Told}
+use Rattle.commands.specs.declared.extended.LinkLines.{LinkLines}
 use Rattle.commands.specs.declared.extended.ExtendedLine.{ExtendedLine}
-use Rattle.commands.specs.declared.extended.ExtendedLine.TheVariants.{Plain, Common, Says, Help, Breaks, ClearOne, On, AllRegisters, Until, WhyStep, Why, Words, Where, Find, Trace, Inputs, Over, Out, Listed, Values, Channels, Differs}
+use Rattle.commands.specs.declared.extended.ExtendedLine.TheVariants.{Plain, Common, Says, Help, Breaks, ClearOne, On, AllRegisters, Until, WhyStep, Why, Words, Where, Find, Trace, Inputs, Over, Out, Listed, Values, Channels, Differs, WhySince, TailSteps}
 
 -- the most steps that a command can name
 abbrev pub most_count : ℕ
@@ -81,21 +82,42 @@ usual_links = 16
 abbrev pub few_in : List ℕ → Option ℕ
 few_in field = option_and_then (λ k. if nat_le k most_links then Some k else None) (count_in field)
 
--- no more field, or the word `index`: whether the lines of INDEX are told
-abbrev pub index_in : List (List ℕ) → Option IndexLines
-index_in [] = Some Omitted
-index_in (field ∷ more) = if word_alone (codes "index") (sole (field ∷ more)) then Some Told else None
+-- the word `steps`, and before it a number of outputs or none; and how many outputs are told where none is named
+abbrev pub usual_outputs : ℕ
+usual_outputs = 32
 
--- a number of links, and then the word `index`, if any
-abbrev pub counted_links : List (List ℕ) → Option (ℕ × IndexLines)
+abbrev pub stepped_in : List (List ℕ) → Option ℕ
+stepped_in [] = None
+stepped_in (field ∷ more) =
+    if word_alone (codes "steps") (sole (field ∷ more)) then Some usual_outputs
+    else (if word_alone (codes "steps") (sole more) then few_in field else None)
+
+-- what is told of a step besides its line
+abbrev pub telling : IndexLines → Bool → LinkLines
+telling index places = record { index = index; places = places }
+
+-- no more field, or the word `places`: whether places are told
+abbrev pub places_in : List (List ℕ) → Option Bool
+places_in [] = Some false
+places_in (field ∷ more) = if word_alone (codes "places") (sole (field ∷ more)) then Some true else None
+
+-- the word `index`, if any, and then the word `places`, if any: what is told besides
+abbrev pub lines_in : List (List ℕ) → Option LinkLines
+lines_in [] = Some (telling Omitted false)
+lines_in (field ∷ more) =
+    if same_name field (codes "index") then option_map (telling Told) (places_in more)
+    else option_map (telling Omitted) (places_in (field ∷ more))
+
+-- a number of links, and then what is told besides
+abbrev pub counted_links : List (List ℕ) → Option (ℕ × LinkLines)
 counted_links [] = None
-counted_links (field ∷ more) = option_and_then (λ k. option_map (λ lines. (k, lines)) (index_in more)) (few_in field)
+counted_links (field ∷ more) = option_and_then (λ k. option_map (λ lines. (k, lines)) (lines_in more)) (few_in field)
 
 -- the same, or no number
-abbrev pub links_in : List (List ℕ) → Option (ℕ × IndexLines)
-links_in fields = option_or (option_map (λ lines. (usual_links, lines)) (index_in fields)) (counted_links fields)
+abbrev pub links_in : List (List ℕ) → Option (ℕ × LinkLines)
+links_in fields = option_or (option_map (λ lines. (usual_links, lines)) (lines_in fields)) (counted_links fields)
 
--- what a word is asked of, how many links, and whether the lines of INDEX are told
+-- what a word is asked of, how many links, and what is told besides
 abbrev pub why_of : Option Subject → List (List ℕ) → Option ExtendedLine
 why_of subject fields = option_and_then (λ s. option_map (λ r. Why s r.0 r.1) (links_in fields)) subject
 
@@ -105,9 +127,42 @@ why_place symbols [] = None
 why_place symbols (field ∷ more) =
     option_or (why_of (place_subject symbols (field ∷ more)) (after_place (field ∷ more))) (why_of (channel_subject symbols field) more)
 
--- none of these; and where `index` stands alone it is the word, though a symbol has this name
+-- a word, where it stands first, and what follows it
+abbrev pub word_then : List ℕ → List (List ℕ) → Bool × List (List ℕ)
+word_then word [] = (false, [])
+word_then word (field ∷ more) = if same_name field word then (true, more) else (false, field ∷ more)
+
+-- a number of links, where it stands first, and what follows it
+abbrev pub links_then : List (List ℕ) → ℕ × List (List ℕ)
+links_then [] = (usual_links, [])
+links_then (field ∷ more) = option_map_or (λ k. (k, more)) (few_in field) (usual_links, field ∷ more)
+
+-- the word `since`, and a step
+abbrev pub since_in : List (List ℕ) → Option ℕ
+since_in [] = None
+since_in (field ∷ more) = if same_name field (codes "since") then option_and_then count_in (sole more) else None
+
+abbrev pub index_told : Bool → IndexLines
+index_told false = Omitted
+index_told true = Told
+
+-- a number of links or none, then what is told besides, and then since which step
+abbrev pub since_after : Subject → ℕ → Bool × List (List ℕ) → Option ExtendedLine
+since_after subject links index =
+    let places = word_then (codes "places") index.1 in
+    option_map (λ t. WhySince subject links (telling (index_told index.0) places.0) t) (since_in places.1)
+
+abbrev pub since_of : Option Subject → List (List ℕ) → Option ExtendedLine
+since_of subject fields = option_and_then (λ s. since_after s (links_then fields).0 (word_then (codes "index") (links_then fields).1)) subject
+
+abbrev pub why_since : SymbolTable → ExtendedForm
+why_since symbols [] = None
+why_since symbols (field ∷ more) =
+    option_or (since_of (place_subject symbols (field ∷ more)) (after_place (field ∷ more))) (since_of (channel_subject symbols field) more)
+
+-- none of these; and where `index` or `places` stands alone it is the word, though a symbol has this name
 abbrev pub why_form : SymbolTable → ExtendedForm
-why_form symbols fields = option_or (option_map (λ lines. WhyStep lines) (index_in fields)) (why_place symbols fields)
+why_form symbols fields = option_or (option_map (λ lines. WhyStep lines) (lines_in fields)) (option_or (why_place symbols fields) (why_since symbols fields))
 
 -- the word at a place, or so many from there on
 abbrev pub memory_of : Linear → List (List ℕ) → Option ExtendedLine
@@ -202,6 +257,7 @@ extended_forms symbols =
     ∷ (codes "where", with_none Where)
     ∷ (codes "find", with_field (λ field. Some field) (λ text. Find text))
     ∷ (codes "trace", with_field count_in (λ k. Trace k))
+    ∷ (codes "tail", λ fields. option_map (λ k. TailSteps k) (stepped_in fields))
     ∷ (codes "list", with_counted_place symbols usual_links (λ place k. Listed place k))
     ∷ (codes "value", with_counted_place symbols 1 (λ place k. Values place k))
     ∷ (codes "chans", with_none Channels)

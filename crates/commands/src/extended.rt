@@ -1,13 +1,13 @@
 //! What a line of an extended session asks for.
 
 ghost use Rattle.std.specs.Prelude.{◌≡◌, ◌≤◌, ◌∷◌, List, ℕ, Some, codes, drop, length, option_and_then, All, IfSome};
-ghost use Rattle.std.specs.Option.{option_map};
+ghost use Rattle.std.specs.Option.{option_map, option_or};
 ghost use Rattle.agc_text.specs.Fields.{runs, texts, fields};
 ghost use Rattle.agc_text.specs.Tables.{value_in};
 ghost use Rattle.commands.specs.Lines.{kept_line};
 ghost use Rattle.commands.specs.Commands.{count_in};
 ghost use Rattle.commands.specs.declared.extended.ExtendedLine.TheVariants as asked;
-ghost use Rattle.commands.specs.Extended.{extended_forms, most_count, sole, with_none, with_word, with_field, with_field_or, help_in, few_in, index_in, counted_links, links_in, why_of, why_place, why_form, memory_of, channel_form, memory_form, count_after, counted_place, with_counted_place, usual_links, if_none, place_alone, last_form, broken_at, watches, bits_of, watches_bits, subject_alone, break_form, in_words, behind_blank, echoed, extended_in, extended_line, steps_in};
+ghost use Rattle.commands.specs.Extended.{extended_forms, most_count, sole, with_none, with_word, with_field, with_field_or, help_in, few_in, counted_links, links_in, why_of, why_place, why_form, memory_of, channel_form, memory_form, count_after, counted_place, with_counted_place, usual_links, if_none, place_alone, last_form, broken_at, watches, bits_of, watches_bits, subject_alone, break_form, in_words, behind_blank, echoed, extended_in, extended_line, steps_in, telling, places_in, lines_in, word_alone, stepped_in, word_then, links_then, since_in, index_told, since_of, why_since};
 
 use crate::command::{Breakpoint, Command, ParsedLine};
 use crate::fields::{channel_in, count_in, is_word};
@@ -34,6 +34,18 @@ pub const MOST_LINKS: u64 = 999;
 
 /// How many links `why` tells where none is named.
 const USUAL_LINKS: u64 = 16;
+
+/// How many outputs `tail` tells where no number is named.
+const USUAL_OUTPUTS: u64 = 32;
+
+/// What `why` tells besides the line of each step.
+#[derive(Clone, Copy, PartialEq, Eq, Debug)]
+pub struct LinkLines {
+    /// The INDEX that moved its operand.
+    pub index: IndexLines,
+    /// Whether its place is told.
+    pub places: bool,
+}
 
 /// Whether `why` tells the INDEX that moved an operand.
 #[derive(Clone, Copy, PartialEq, Eq, Debug)]
@@ -70,9 +82,11 @@ pub enum ExtendedLine {
     /// All registers, with what waits and what is asked for.
     AllRegisters,
     /// What the step did that led to the position.
-    WhyStep(IndexLines),
+    WhyStep(LinkLines),
     /// How the word of something came to be what it is, by at most so many steps.
-    Why(Subject, u64, IndexLines),
+    Why(Subject, u64, LinkLines),
+    /// The same, by steps from one on, which is the last number.
+    WhySince(Subject, u64, LinkLines, u64),
     /// The words from a place on, at most so many.
     Words(Linear, u64),
     /// The inputs that were added.
@@ -83,6 +97,8 @@ pub enum ExtendedLine {
     Find(Phrase),
     /// The last so many steps up to the position, a line each.
     Trace(u64),
+    /// The last so many outputs, each with the step that put it out.
+    TailSteps(u64),
     /// The rows of the places from one on, at most so many.
     Listed(Linear, u64),
     /// The words from a place on as numbers, at most so many.
@@ -208,6 +224,8 @@ fn row_command_in(symbols: &Symbols, name: &[u8], rest: &[u8]) -> Option<Extende
         find_form(rest)
     } else if is_word(name, "trace") {
         count_alone(rest).map(ExtendedLine::Trace)
+    } else if is_word(name, "tail") {
+        stepped_in(rest).map(ExtendedLine::TailSteps)
     } else if is_word(name, "list") {
         list_form(symbols, rest)
     } else if is_word(name, "value") {
@@ -217,11 +235,11 @@ fn row_command_in(symbols: &Symbols, name: &[u8], rest: &[u8]) -> Option<Extende
     }
 }
 
-// The same of the names after the first eighteen, which ask for words of whole states.
+// The same of the names after the first nineteen, which ask for words of whole states.
 #[tactic(auto, unfolding(crate::specs::Extended::extended_forms))]
 fn state_command_in(symbols: &Symbols, name: &[u8], rest: &[u8]) -> Option<ExtendedLine>
     requires { All (λ field. length field ≤ 80) (texts (runs rest.now)) }
-    ensures { result ≡ option_and_then (λ form. form (texts (runs rest.now))) (value_in (drop 18 (extended_forms symbols.now)) name.now) }
+    ensures { result ≡ option_and_then (λ form. form (texts (runs rest.now))) (value_in (drop 19 (extended_forms symbols.now)) name.now) }
 {
     if is_word(name, "chans") {
         with_none(ExtendedLine::Channels, rest)
@@ -300,6 +318,32 @@ fn registers_form(rest: &[u8]) -> Option<ExtendedLine>
     }
 }
 
+// What `tail` takes besides nothing: the word `steps`, and before it a number of outputs or none.
+fn stepped_in(rest: &[u8]) -> Option<u64>
+    requires { All (λ field. length field ≤ 80) (texts (runs rest.now)) }
+    ensures count { result ≡ stepped_in (texts (runs rest.now)) }
+{
+    let (field, more) = split_field(rest)?;
+    if is_sole(rest, "steps") {
+        return Some(USUAL_OUTPUTS);
+    }
+    if is_sole(more, "steps") {
+        return few_in(field);
+    }
+    None
+}
+
+// Whether a word stands alone.
+fn is_sole(rest: &[u8], word: &str) -> bool
+    requires { All (λ field. length field ≤ 80) (texts (runs rest.now)) }
+    ensures { result ≡ word_alone word.now (sole (texts (runs rest.now))) }
+{
+    match sole(rest) {
+        Some(field) => is_word(field, word),
+        None => false,
+    }
+}
+
 // What `find` takes.
 fn find_form(rest: &[u8]) -> Option<ExtendedLine>
     requires { All (λ field. length field ≤ 80) (texts (runs rest.now)) }
@@ -316,9 +360,102 @@ fn why_form(symbols: &Symbols, rest: &[u8]) -> Option<ExtendedLine>
     requires { All (λ field. length field ≤ 80) (texts (runs rest.now)) }
     ensures { result ≡ why_form symbols.now (texts (runs rest.now)) }
 {
-    match index_in(rest) {
+    match lines_in(rest) {
         Some(lines) => Some(ExtendedLine::WhyStep(lines)),
-        None => why_place(symbols, rest),
+        None => why_of_place(symbols, rest),
+    }
+}
+
+// `why` of an erasable place or a channel, by all steps or since one.
+fn why_of_place(symbols: &Symbols, rest: &[u8]) -> Option<ExtendedLine>
+    requires { All (λ field. length field ≤ 80) (texts (runs rest.now)) }
+    ensures { result ≡ option_or (why_place symbols.now (texts (runs rest.now))) (why_since symbols.now (texts (runs rest.now))) }
+{
+    match why_place(symbols, rest) {
+        Some(request) => Some(request),
+        None => why_since(symbols, rest),
+    }
+}
+
+// `why` of an erasable place or a channel since a step.
+fn why_since(symbols: &Symbols, rest: &[u8]) -> Option<ExtendedLine>
+    requires { All (λ field. length field ≤ 80) (texts (runs rest.now)) }
+    ensures { result ≡ why_since symbols.now (texts (runs rest.now)) }
+{
+    let (field, more) = split_field(rest)?;
+    match since_of(place_subject(symbols, rest), after_place(rest)) {
+        Some(request) => Some(request),
+        None => since_of(channel_subject(symbols, field), more),
+    }
+}
+
+// `why` of a subject, followed by a number of links or none, by what is told besides, and by since which step.
+fn since_of(subject: Option<Subject>, rest: &[u8]) -> Option<ExtendedLine>
+    requires { All (λ field. length field ≤ 80) (texts (runs rest.now)) }
+    ensures { result ≡ since_of subject (texts (runs rest.now)) }
+{
+    let subject = subject?;
+    let (links, rest) = links_then(rest);
+    let (index, rest) = word_then(rest, "index");
+    let (places, rest) = word_then(rest, "places");
+    let since = since_in(rest)?;
+    let lines = telling(index_told(index), places);
+    Some(ExtendedLine::WhySince(subject, links, lines, since))
+}
+
+// A number of links, where it stands first, and what follows it.
+fn links_then(rest: &[u8]) -> (u64, &[u8])
+    requires { All (λ field. length field ≤ 80) (texts (runs rest.now)) }
+    ensures links { result.0 ≡ (links_then (texts (runs rest.now))).0 }
+    ensures fields { texts (runs result.1.now) ≡ (links_then (texts (runs rest.now))).1 }
+    ensures short { All (λ field. length field ≤ 80) (texts (runs result.1.now)) }
+{
+    let Some((field, more)) = split_field(rest) else {
+        return (USUAL_LINKS, rest);
+    };
+    match few_in(field) {
+        Some(links) => (links, more),
+        None => (USUAL_LINKS, rest),
+    }
+}
+
+// A word, where it stands first, and what follows it.
+fn word_then<'a>(rest: &'a [u8], word: &str) -> (bool, &'a [u8])
+    requires { All (λ field. length field ≤ 80) (texts (runs rest.now)) }
+    ensures stands { result.0 ≡ (word_then word.now (texts (runs rest.now))).0 }
+    ensures fields { texts (runs result.1.now) ≡ (word_then word.now (texts (runs rest.now))).1 }
+    ensures short { All (λ field. length field ≤ 80) (texts (runs result.1.now)) }
+{
+    let Some((field, more)) = split_field(rest) else {
+        return (false, rest);
+    };
+    if is_word(field, word) {
+        (true, more)
+    } else {
+        (false, rest)
+    }
+}
+
+// The word `since`, and a step.
+fn since_in(rest: &[u8]) -> Option<u64>
+    requires { All (λ field. length field ≤ 80) (texts (runs rest.now)) }
+    ensures { result ≡ since_in (texts (runs rest.now)) }
+{
+    let (field, more) = split_field(rest)?;
+    if is_word(field, "since") {
+        return count_alone(more);
+    }
+    None
+}
+
+// Whether the lines of INDEX are told.
+fn index_told(told: bool) -> IndexLines
+    ensures { result ≡ index_told told }
+{
+    if told {
+        IndexLines::Told
+    } else {
+        IndexLines::Omitted
     }
 }
 
@@ -334,7 +471,7 @@ fn why_place(symbols: &Symbols, rest: &[u8]) -> Option<ExtendedLine>
     }
 }
 
-// `why` of a subject, followed by a number of links, by `index`, by both or by nothing.
+// `why` of a subject, followed by a number of links or none, and by what is told besides.
 fn why_of(subject: Option<Subject>, rest: &[u8]) -> Option<ExtendedLine>
     requires { All (λ field. length field ≤ 80) (texts (runs rest.now)) }
     ensures { result ≡ why_of subject (texts (runs rest.now)) }
@@ -344,41 +481,62 @@ fn why_of(subject: Option<Subject>, rest: &[u8]) -> Option<ExtendedLine>
     Some(ExtendedLine::Why(subject, links, lines))
 }
 
-// A number of links or none, and whether the lines of INDEX are told.
-fn links_in(rest: &[u8]) -> Option<(u64, IndexLines)>
+// A number of links or none, and what is told besides.
+fn links_in(rest: &[u8]) -> Option<(u64, LinkLines)>
     requires { All (λ field. length field ≤ 80) (texts (runs rest.now)) }
     ensures links { result ≡ links_in (texts (runs rest.now)) }
 {
-    match index_in(rest) {
+    match lines_in(rest) {
         Some(lines) => Some((USUAL_LINKS, lines)),
         None => counted_links(rest),
     }
 }
 
-// A number of links, and whether the lines of INDEX are told.
-fn counted_links(rest: &[u8]) -> Option<(u64, IndexLines)>
+// A number of links, and what is told besides.
+fn counted_links(rest: &[u8]) -> Option<(u64, LinkLines)>
     requires { All (λ field. length field ≤ 80) (texts (runs rest.now)) }
     ensures links { result ≡ counted_links (texts (runs rest.now)) }
 {
     let (field, more) = split_field(rest)?;
     let links = few_in(field)?;
-    let lines = index_in(more)?;
+    let lines = lines_in(more)?;
     Some((links, lines))
 }
 
-// Whether the lines of INDEX are told: the word `index`, or no field.
-fn index_in(rest: &[u8]) -> Option<IndexLines>
+// What is told besides: the words `index` and `places`, each or none.
+fn lines_in(rest: &[u8]) -> Option<LinkLines>
     requires { All (λ field. length field ≤ 80) (texts (runs rest.now)) }
-    ensures { result ≡ index_in (texts (runs rest.now)) }
+    ensures { result ≡ lines_in (texts (runs rest.now)) }
+{
+    if let Some((field, more)) = split_field(rest) {
+        if is_word(field, "index") {
+            let places = places_in(more)?;
+            return Some(telling(IndexLines::Told, places));
+        }
+    }
+    let places = places_in(rest)?;
+    Some(telling(IndexLines::Omitted, places))
+}
+
+// What is told besides.
+fn telling(index: IndexLines, places: bool) -> LinkLines
+    ensures { result ≡ telling index places }
+{
+    LinkLines { index, places }
+}
+
+// Whether places are told: the word `places`, or no field.
+fn places_in(rest: &[u8]) -> Option<bool>
+    requires { All (λ field. length field ≤ 80) (texts (runs rest.now)) }
+    ensures { result ≡ places_in (texts (runs rest.now)) }
 {
     if split_field(rest).is_none() {
-        return Some(IndexLines::Omitted);
+        return Some(false);
     }
-    match sole(rest) {
-        Some(field) if is_word(field, "index") => Some(IndexLines::Told),
-        Some(_) => None,
-        None => None,
+    if is_sole(rest, "places") {
+        return Some(true);
     }
+    None
 }
 
 // A number of links, or of words.

@@ -19,7 +19,7 @@ mod usage;
 
 pub use breakpoints::{Breakpoints, MOST_BREAKPOINTS};
 pub use command::{Breakpoint, Command, ParsedLine};
-pub use extended::{ExtendedLine, IndexLines, MOST_COUNT, MOST_LINKS, extended_line};
+pub use extended::{ExtendedLine, IndexLines, LinkLines, MOST_COUNT, MOST_LINKS, extended_line};
 pub use line::{COMMAND_LENGTH, CommandLine};
 pub use named_places::unnamed_place;
 pub use parsing::parsed_line;

@@ -80,7 +80,7 @@ const ROWS: [Row; 32] = [
     ),
     (
         "why",
-        "a place, a place and a count, or nothing [index]",
+        "[PLACE [k]] [index] [places], PLACE .. since T",
         "the steps that made the word there, last first",
     ),
     (
@@ -119,7 +119,11 @@ const ROWS: [Row; 32] = [
         "a step",
         "the words that differ from those at the step",
     ),
-    ("tail", "nothing", "the last channel lines"),
+    (
+        "tail",
+        "nothing, or [a count] steps",
+        "the last channel lines [with their steps]",
+    ),
     ("add", "a line of a feed", "one input more"),
     (
         "inputs",

@@ -15,7 +15,7 @@ use Rattle.feed.specs.declared.fault.LineFault.TheVariants as fault
 use Rattle.feed.specs.declared.input.Input.{Input}
 use Rattle.feed.proofs.Givens.{line_gives}
 use Rattle.commands.specs.Commands.{Form, alone, with_one, with_both, count_in, channel_in, place_in, erasable_in, erasable_number, breaking, forms, known, adding, rest_after, added_by, parsed_in}
-use Rattle.commands.specs.Extended.{ExtendedForm, sole, with_none, word_alone, with_field_or, steps_in, help_in, usual_links, index_in, links_in, why_of, why_place, why_form, memory_of, channel_form, memory_form, counted_place, place_alone, broken_at, watches, bits_of, watches_bits, subject_alone, break_form, extended_forms, in_words, or_plain, echoed, extended_in, extended_line}
+use Rattle.commands.specs.Extended.{ExtendedForm, sole, with_none, word_alone, with_field_or, steps_in, help_in, usual_links, stepped_in, lines_in, links_in, why_of, why_place, word_then, links_then, since_in, index_told, telling, since_after, since_of, why_since, why_form, memory_of, channel_form, memory_form, counted_place, place_alone, broken_at, watches, bits_of, watches_bits, subject_alone, break_form, extended_forms, in_words, or_plain, echoed, extended_in, extended_line}
 use Rattle.commands.specs.Lines.{command_length}
 use Rattle.commands.specs.NamedPlaces.{place_first, after_place}
 use Rattle.commands.specs.Subjects.{channel_named, erasable_first, place_subject, channel_subject}
@@ -26,9 +26,9 @@ use Rattle.commands.specs.declared.command.Command.TheVariants.{Step, Run, Back,
 use Rattle.commands.specs.declared.command.ParsedLine.{ParsedLine}
 use Rattle.commands.specs.declared.command.ParsedLine.TheVariants.{Nothing, TooLong, Unknown, WrongCounter, Known}
 use Rattle.commands.specs.declared.subject.Subject.{Subject}
-use Rattle.commands.specs.declared.extended.IndexLines.{IndexLines}
+use Rattle.commands.specs.declared.extended.LinkLines.{LinkLines}
 use Rattle.commands.specs.declared.extended.ExtendedLine.{ExtendedLine}
-use Rattle.commands.specs.declared.extended.ExtendedLine.TheVariants.{Plain, Common, Says, Help, Breaks, ClearOne, On, AllRegisters, Until, WhyStep, Why, Words, Where, Find, Trace, Inputs, Over, Out, Listed, Values, Channels, Differs}
+use Rattle.commands.specs.declared.extended.ExtendedLine.TheVariants.{Plain, Common, Says, Help, Breaks, ClearOne, On, AllRegisters, Until, WhyStep, Why, Words, Where, Find, Trace, Inputs, Over, Out, Listed, Values, Channels, Differs, WhySince, TailSteps}
 
 -- what is asked for adds nothing, or an input that a line can give
 abbrev pub AddsGivable : Command → Type 0
@@ -177,7 +177,7 @@ with_field_or_adds none read request h each (field ∷ more) = mapped AskedGivab
 
 why_of_adds : (subject : Option Subject) (fs : List (List ℕ)) → IfSome (why_of subject fs) AskedGivable
 why_of_adds subject fs =
-    followed AskedGivable (λ s. option_map (λ (r : ℕ × IndexLines). Why s r.0 r.1) (links_in fs)) (λ s. mapped AskedGivable (λ (r : ℕ × IndexLines). Why s r.0 r.1) (λ r. tt) (links_in fs)) subject
+    followed AskedGivable (λ s. option_map (λ (r : ℕ × LinkLines). Why s r.0 r.1) (links_in fs)) (λ s. mapped AskedGivable (λ (r : ℕ × LinkLines). Why s r.0 r.1) (λ r. tt) (links_in fs)) subject
 
 why_place_adds : (symbols : SymbolTable) (fs : List (List ℕ)) → IfSome (why_place symbols fs) AskedGivable
 why_place_adds symbols [] = tt
@@ -185,9 +185,21 @@ why_place_adds symbols (field ∷ more) =
     either AskedGivable (why_of (place_subject symbols (field ∷ more)) (after_place (field ∷ more))) (why_of (channel_subject symbols field) more)
     (why_of_adds (place_subject symbols (field ∷ more)) (after_place (field ∷ more))) (why_of_adds (channel_subject symbols field) more)
 
+since_of_adds : (subject : Option Subject) (fs : List (List ℕ)) → IfSome (since_of subject fs) AskedGivable
+since_of_adds subject fs =
+    followed AskedGivable (λ s. since_after s (links_then fs).0 (word_then (codes "index") (links_then fs).1))
+    (λ s. mapped AskedGivable (λ t. WhySince s (links_then fs).0 (telling (index_told (word_then (codes "index") (links_then fs).1).0) (word_then (codes "places") (word_then (codes "index") (links_then fs).1).1).0) t) (λ t. tt) (since_in (word_then (codes "places") (word_then (codes "index") (links_then fs).1).1).1)) subject
+
+why_since_adds : (symbols : SymbolTable) (fs : List (List ℕ)) → IfSome (why_since symbols fs) AskedGivable
+why_since_adds symbols [] = tt
+why_since_adds symbols (field ∷ more) =
+    either AskedGivable (since_of (place_subject symbols (field ∷ more)) (after_place (field ∷ more))) (since_of (channel_subject symbols field) more)
+    (since_of_adds (place_subject symbols (field ∷ more)) (after_place (field ∷ more))) (since_of_adds (channel_subject symbols field) more)
+
 why_adds : (symbols : SymbolTable) (fs : List (List ℕ)) → IfSome (why_form symbols fs) AskedGivable
 why_adds symbols fs =
-    either AskedGivable (option_map (λ lines. WhyStep lines) (index_in fs)) (why_place symbols fs) (mapped AskedGivable (λ lines. WhyStep lines) (λ lines. tt) (index_in fs)) (why_place_adds symbols fs)
+    either AskedGivable (option_map (λ lines. WhyStep lines) (lines_in fs)) (option_or (why_place symbols fs) (why_since symbols fs)) (mapped AskedGivable (λ lines. WhyStep lines) (λ lines. tt) (lines_in fs))
+    (either AskedGivable (why_place symbols fs) (why_since symbols fs) (why_place_adds symbols fs) (why_since_adds symbols fs))
 
 memory_of_adds : (fs : List (List ℕ)) (place : Linear) → IfSome (memory_of place fs) AskedGivable
 memory_of_adds [] place = tt
@@ -264,14 +276,17 @@ asked_adds symbols name = All-lookup AskedAdds (same_name name) (extended_forms 
                               (
                                 (λ fs. mapped AskedGivable (λ k. Trace k) (λ k. tt) (option_and_then count_in (sole fs))),
                                 (
-                                  (λ fs. mapped AskedGivable (λ (r : Linear × ℕ). Listed r.0 r.1) (λ r. tt) (counted_place symbols usual_links fs)),
+                                  (λ fs. mapped AskedGivable (λ k. TailSteps k) (λ k. tt) (stepped_in fs)),
                                   (
-                                    (λ fs. mapped AskedGivable (λ (r : Linear × ℕ). Values r.0 r.1) (λ r. tt) (counted_place symbols 1 fs)),
+                                    (λ fs. mapped AskedGivable (λ (r : Linear × ℕ). Listed r.0 r.1) (λ r. tt) (counted_place symbols usual_links fs)),
                                     (
-                                      with_none_adds Channels tt,
+                                      (λ fs. mapped AskedGivable (λ (r : Linear × ℕ). Values r.0 r.1) (λ r. tt) (counted_place symbols 1 fs)),
                                       (
-                                        (λ fs. mapped AskedGivable (λ t. Differs t) (λ t. tt) (option_and_then count_in (sole fs))),
-                                        tt,
+                                        with_none_adds Channels tt,
+                                        (
+                                          (λ fs. mapped AskedGivable (λ t. Differs t) (λ t. tt) (option_and_then count_in (sole fs))),
+                                          tt,
+                                        ),
                                       ),
                                     ),
                                   ),

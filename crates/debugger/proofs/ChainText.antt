@@ -15,7 +15,7 @@ use Rattle.cpu.specs.declared.spot.Spot.{Spot}
 use Rattle.cpu.specs.declared.spot.Spot.TheVariants.{Cell, InRope}
 use Rattle.cpu.proofs.Chaining.{own_source}
 use Rattle.replay.specs.Whys.{and_then, last_writer, why_steps}
-use Rattle.commands.specs.declared.extended.IndexLines.{IndexLines}
+use Rattle.commands.specs.declared.extended.LinkLines.{LinkLines}
 use Rattle.debugger.specs.Whys.{CellSet, those_in, left_in, has_spot, with_spots, reads, with_cells, cells_before, link_lines, chain_text, end_from, chained_text, why_text}
 
 -- whether a cell is among some spots
@@ -268,7 +268,7 @@ read_more k cs i c old new whole within is read so_far =
     ∙ so_far
 
 -- the text of a chain
-module _ (symbols : SymbolTable) (scenario : Scenario) (lines : IndexLines) (p : ℕ) (xs : List Spot) where
+module _ (symbols : SymbolTable) (scenario : Scenario) (lines : LinkLines) (p : ℕ) (xs : List Spot) where
   pub why_zero : why_text symbols scenario lines 0 p xs ≡ end_from symbols true xs
   unfolding why_text why_steps
   why_zero = refl

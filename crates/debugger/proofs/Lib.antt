@@ -4,6 +4,9 @@ pub mod MarkLemmas
 pub mod ChainText
 pub mod CellNumbers
 pub mod WhyLines
+pub mod SinceFound
+pub mod SinceLines
+pub mod SinceStart
 pub mod Indexing
 pub mod Moved
 pub mod PartByPart
@@ -24,9 +27,11 @@ mod FiveRows
 mod ClockRows
 mod ExtendedRows
 mod WhyRows
+mod TailRows
 pub mod RequestNumbers
 pub mod FirstHit
 mod Retraced
+pub mod SteppedOutputs
 pub mod Travelling
 pub mod Added
 pub mod InputsRead

@@ -21,7 +21,7 @@ use Rattle.replay.specs.LastHit.{IsLastHit}
 use Rattle.replay.specs.Whys.{last_writer, and_then, why_steps}
 use Rattle.replay.proofs.WhyLemmas.{is_last_hit}
 use Rattle.trace.specs.TraceLines.{cell_reading}
-use Rattle.commands.specs.declared.extended.IndexLines.{IndexLines}
+use Rattle.commands.specs.declared.extended.LinkLines.{LinkLines}
 use Rattle.debugger.specs.Replies.{line}
 use Rattle.debugger.specs.WhyEnds.{left_by, EndsAs, IsUnwritten, WhyEnds}
 use Rattle.debugger.specs.Whys.{cell_text, end_text, end_from, why_text}
@@ -158,7 +158,7 @@ ends symbols scenario k xs ts =
       more = λ some as_many. cut_by symbols (length ts == k) left some (all_told (length ts) k as_many);
     }
 
-pub why_ends : (symbols : SymbolTable) (scenario : Scenario) (lines : IndexLines) (k p : ℕ) (xs : List Spot) → WhyEnds symbols scenario lines k p xs
+pub why_ends : (symbols : SymbolTable) (scenario : Scenario) (lines : LinkLines) (k p : ℕ) (xs : List Spot) → WhyEnds symbols scenario lines k p xs
 unfolding why_text
 why_ends symbols scenario lines k p xs =
     let ts = why_steps scenario k p xs in

@@ -10,17 +10,18 @@ use Rattle.cpu.specs.declared.spot.Spot.{Spot}
 use Rattle.replay.specs.Whys.{last_writer}
 use Rattle.commands.specs.declared.extended.IndexLines.{IndexLines}
 use Rattle.commands.specs.declared.extended.IndexLines.TheVariants.{Omitted, Told}
-use Rattle.debugger.specs.Conversation.{link_effort}
+use Rattle.commands.specs.declared.extended.LinkLines.{LinkLines}
+use Rattle.debugger.specs.Conversation.{index_effort, link_effort}
 use Rattle.debugger.specs.Whys.{CellSet, why_text, last_text, target_spots, link_lines, end_from}
 use Rattle.debugger.specs.ToldLinks.{ToldLinks}
 use Rattle.debugger.proofs.ChainText.{why_zero, why_none, why_some}
 
 -- before the first line
-pub told_none : (symbols : SymbolTable) (scenario : Scenario) (lines : IndexLines) (k p : ℕ) (xs : List Spot) (cells : CellSet) (old : List ℕ) → cells ≡ cells_among xs
+pub told_none : (symbols : SymbolTable) (scenario : Scenario) (lines : LinkLines) (k p : ℕ) (xs : List Spot) (cells : CellSet) (old : List ℕ) → cells ≡ cells_among xs
     → ToldLinks symbols scenario lines (why_text symbols scenario lines k p xs) old old k p cells
 told_none symbols scenario lines k p xs cells old is = record { spots = xs; pending_is = is; text = []; goes_on = refl; written = sym (append-nil old) }
 
-module _ (symbols : SymbolTable) (scenario : Scenario) (lines : IndexLines) (whole old now : List ℕ) (left before : ℕ) (cells : CellSet) (t : ToldLinks symbols scenario lines whole old now left before cells) where
+module _ (symbols : SymbolTable) (scenario : Scenario) (lines : LinkLines) (whole old now : List ℕ) (left before : ℕ) (cells : CellSet) (t : ToldLinks symbols scenario lines whole old now left before cells) where
   -- the last line
   ends : (new rest : List ℕ) (result : Result (Unit {0}) WriteFailed) → why_text symbols scenario lines left before t.spots ≡ rest → Writes now new rest result → Writes old new whole result
   ends new rest (Ok x) is w = append-then old now new t.text rest t.written w ∙ ap (λ (y : List ℕ). old ++ y) (sym (t.goes_on ∙ ap (λ (y : List ℕ). t.text ++ y) is))
@@ -69,7 +70,7 @@ pub first_part : (old new text rest whole : List ℕ) → whole ≡ text ++ rest
 first_part old new text rest whole is first = rw is (beginning-longer old new text rest first)
 
 -- what the step did that led to p steps, which are one at least
-pub last_lines : (symbols : SymbolTable) (scenario : Scenario) (lines : IndexLines) (p : ℕ) → 0 < p
+pub last_lines : (symbols : SymbolTable) (scenario : Scenario) (lines : LinkLines) (p : ℕ) → 0 < p
     → last_text symbols scenario lines p ≡ link_lines symbols scenario lines (p - 1) (target_spots scenario (p - 1)) ++ end_from symbols true (before_step scenario (p - 1) (target_spots scenario (p - 1)))
 unfolding last_text
 last_lines symbols scenario lines zero h = absurd (omega (arith, h))
@@ -79,11 +80,15 @@ last_lines symbols scenario lines (suc t) h =
     rw e (ap (λ (y : List ℕ). y ++ end_from symbols true (before_step scenario t xs)) (append-nil (link_lines symbols scenario lines t xs)))
 
 -- what a link costs: a search, two looks, a search for what entered an interrupt, and for an INDEX a search and a look
-pub cost_more : (lines : IndexLines) (first at sought shown n m t left links : ℕ) → 0 < left → at + link_effort lines * left * n ≤ first + link_effort lines * links * n → sought + 2 * t < at + 2 * n
+cost_by : (index : IndexLines) (first at sought shown n m t left links : ℕ) → 0 < left → at + index_effort index * left * n ≤ first + index_effort index * links * n → sought + 2 * t < at + 2 * n
+    → shown ≤ sought + (2 * (m - t) + (index_effort index - 4) * m) → m ≡ n → t ≤ n → shown + index_effort index * (left - 1) * n ≤ first + index_effort index * links * n
+cost_by index first at sought shown n m t zero links some so_far search look same within = absurd (omega (arith, some))
+cost_by Omitted first at sought shown n m t (suc left) links some so_far search look same within = let e : suc left - 1 ≡ left = omega arith in rw e (omega arith)
+cost_by Told first at sought shown n m t (suc left) links some so_far search look same within = let e : suc left - 1 ≡ left = omega arith in rw e (omega arith)
+
+pub cost_more : (lines : LinkLines) (first at sought shown n m t left links : ℕ) → 0 < left → at + link_effort lines * left * n ≤ first + link_effort lines * links * n → sought + 2 * t < at + 2 * n
     → shown ≤ sought + (2 * (m - t) + (link_effort lines - 4) * m) → m ≡ n → t ≤ n → shown + link_effort lines * (left - 1) * n ≤ first + link_effort lines * links * n
-cost_more lines first at sought shown n m t zero links some so_far search look same within = absurd (omega (arith, some))
-cost_more Omitted first at sought shown n m t (suc left) links some so_far search look same within = let e : suc left - 1 ≡ left = omega arith in rw e (omega arith)
-cost_more Told first at sought shown n m t (suc left) links some so_far search look same within = let e : suc left - 1 ≡ left = omega arith in rw e (omega arith)
+cost_more lines = cost_by lines.index
 
 -- where no more is told
 pub cost_told : (e first shown n left links : ℕ) → shown + e * left * n ≤ first + e * links * n → shown ≤ first + (e * links + 1) * n

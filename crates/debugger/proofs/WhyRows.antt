@@ -22,7 +22,8 @@ use Rattle.rope.specs.Places.{Words, word_at}
 use Rattle.symbols.specs.declared.values.Value.TheVariants as value
 use Rattle.trace.specs.TraceLines.{symbol_at}
 use Rattle.yayul.specs.Listing.{place_text}
-use Rattle.debugger.specs.Whys.{entered_mark, mark_by, by_line, reads_part, added_by, operand_spots, index_by}
+use Rattle.debugger.specs.Whys.{entered_mark, mark_by, by_line, reads_part, added_by, operand_spots, index_by, placed_by, step_place}
+use Rattle.debugger.specs.WhysSince.{entered_since, end_since, since_step}
 
 -- the interrupts of a run: step 18 enters one, which RESUME leaves as step 21, and step 30 another, which is served still
 abbrev inside : ℕ → Bool
@@ -61,6 +62,16 @@ executes extra word added = next.Executes (record { place = linear.Fixed 2 0; wo
 added : added_by (executes false 0o64122 (Some 1)) ∷ added_by (executes false 0o64122 None) ∷ added_by (next.Takes (input.Interrupt 5)) ∷ added_by (next.Enters 3) ∷ [] ≡ Some 1 ∷ None ∷ None ∷ None ∷ []
 added = refl
 
+-- where steps stand: an instruction at its place, a word that waited in BRUPT, interrupt 3 where it is entered, an input nowhere; and no
+-- line where none is asked for
+abbrev waited : NextStep
+waited = next.Executes (record { place = linear.Fixed 2 0; word = 0o54101; extra = false; waited = true; added = None })
+
+placed : placed_by true 43 (step_place (executes false 0o54101 None)) ++ placed_by true 22 (step_place waited) ++ placed_by true 18 (step_place (next.Enters 3)) ++ placed_by true 9 (step_place (next.Takes (input.Interrupt 5))) ++ placed_by false 8 (step_place waited)
+    ≡ codes "WHERE 43 02,4000\nWHERE 22 BRUPT\nWHERE 18 02,4014\nWHERE 9 -\n"
+unfolding digits octal_text place_text window
+placed = refl
+
 -- what INDEX reads: of INDEX 100 the cell, of INDEX 4122 under extracode the place of fixed memory, of INDEX BB two cells, of INDEX 7
 -- none
 abbrev read : Bool → ℕ → List Spot
@@ -82,3 +93,17 @@ last p = last_hit (λ t. is_instruction (steps t)) p
 
 instructions : last 7 ∷ last 6 ∷ last 5 ∷ last 3 ∷ last 0 ∷ [] ≡ Some 6 ∷ Some 4 ∷ Some 4 ∷ Some 1 ∷ None ∷ []
 instructions = refl
+
+-- since a step by its number: step 19 follows the state after 18
+sought : since_step 19 (Some 18) ∷ since_step 20 (Some 18) ∷ since_step 0 (Some 0) ∷ since_step 1 (Some 0) ∷ since_step 2 (Some 0) ∷ since_step 5 None ∷ [] ≡ Some 18 ∷ None ∷ Some 0 ∷ Some 0 ∷ None ∷ None ∷ []
+sought = refl
+
+-- how it ends, where all was told, where more may be before the first step, and where there is no step before it
+since_ends : end_since [] 35 [] ++ end_since [] 35 (0 ∷ 0o101 ∷ []) ++ end_since [] 2 (0o101 ∷ []) ≡ codes "ALL\nMORE 2 BEFORE 35\nMORE 1 BEFORE 2\n"
+unfolding digits
+since_ends = refl
+
+-- the mark of a step in an interrupt: that the step which entered it comes before the first one, or this step
+since_marks : entered_since 19 None ++ entered_since 1 None ++ entered_since 0 None ++ entered_since 18 (Some 17) ≡ codes " IN STEP BEFORE 19 IN STEP 18"
+unfolding digits
+since_marks = refl

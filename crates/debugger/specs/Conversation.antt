@@ -9,8 +9,9 @@ use Rattle.commands.specs.Commands.{parsed_line}
 use Rattle.commands.specs.Extended.{extended_line}
 use Rattle.commands.specs.declared.extended.IndexLines.{IndexLines}
 use Rattle.commands.specs.declared.extended.IndexLines.TheVariants.{Omitted, Told}
+use Rattle.commands.specs.declared.extended.LinkLines.{LinkLines}
 use Rattle.commands.specs.declared.extended.ExtendedLine.{ExtendedLine}
-use Rattle.commands.specs.declared.extended.ExtendedLine.TheVariants.{Plain, Common, Says, Help, Breaks, ClearOne, On, AllRegisters, Until, WhyStep, Why, Words, Where, Find, Trace, Inputs, Over, Out, Listed, Values, Channels, Differs}
+use Rattle.commands.specs.declared.extended.ExtendedLine.TheVariants.{Plain, Common, Says, Help, Breaks, ClearOne, On, AllRegisters, Until, WhyStep, Why, Words, Where, Find, Trace, Inputs, Over, Out, Listed, Values, Channels, Differs, WhySince, TailSteps}
 use Rattle.commands.specs.declared.command.ParsedLine.TheVariants.{Known}
 use Rattle.debugger.specs.declared.manner.Manner.{Manner}
 use Rattle.debugger.specs.declared.manner.Manner.TheVariants as manner
@@ -58,10 +59,12 @@ is_end (Until cycles) = false
 is_end AllRegisters = false
 is_end (WhyStep lines) = false
 is_end (Why subject k lines) = false
+is_end (WhySince subject k lines since) = false
 is_end (Words place k) = false
 is_end Where = false
 is_end (Find text) = false
 is_end (Trace k) = false
+is_end (TailSteps k) = false
 is_end Inputs = false
 is_end (Over k) = false
 is_end (Out k) = false
@@ -99,14 +102,19 @@ lines_heard read [] = []
 lines_heard read (line ∷ more) = line ∷ (if is_end (read line) then [] else lines_heard read more)
 
 -- how many times the steps that were made a link of `why` executes, at most
-abbrev pub link_effort : IndexLines → ℕ
-link_effort Omitted = 6
-link_effort Told = 9
+abbrev pub index_effort : IndexLines → ℕ
+index_effort Omitted = 6
+index_effort Told = 9
 
--- how many times a request does, besides new ones: of `why` each link, and its last search once; of `where` and `out` four times
+abbrev pub link_effort : LinkLines → ℕ
+link_effort lines = index_effort lines.index
+
+-- how many times a request does, besides new ones: of `why` each link, and its last search once, or twice where it ends at a step; of the last outputs each, and all steps twice; of `where` and `out` four times
 abbrev pub effort : ExtendedLine → ℕ
 effort (WhyStep lines) = link_effort lines
 effort (Why subject k lines) = link_effort lines * k + 1
+effort (WhySince subject k lines since) = link_effort lines * k + 2
+effort (TailSteps k) = 2 * (k + 1)
 effort Where = 4
 effort (Out k) = 4
 effort request = 3

@@ -10,7 +10,7 @@ use Rattle.commands.specs.declared.command.Breakpoint.TheVariants.{Place, Word, 
 use Rattle.commands.specs.declared.subject.Subject.{Subject}
 use Rattle.commands.specs.declared.subject.Subject.TheVariants as subject
 use Rattle.commands.specs.declared.extended.ExtendedLine.{ExtendedLine}
-use Rattle.commands.specs.declared.extended.ExtendedLine.TheVariants.{Plain, Common, Says, Help, Breaks, ClearOne, On, AllRegisters, Until, WhyStep, Why, Words, Where, Find, Trace, Inputs, Over, Out, Listed, Values, Channels, Differs}
+use Rattle.commands.specs.declared.extended.ExtendedLine.TheVariants.{Plain, Common, Says, Help, Breaks, ClearOne, On, AllRegisters, Until, WhyStep, Why, Words, Where, Find, Trace, Inputs, Over, Out, Listed, Values, Channels, Differs, WhySince, TailSteps}
 use Rattle.cpu.specs.Run.{run}
 use Rattle.debugger.specs.History.{History, in_manner}
 use Rattle.debugger.specs.declared.manner.Manner.TheVariants as manner
@@ -18,9 +18,11 @@ use Rattle.debugger.specs.AllRegisters.{all_registers}
 use Rattle.debugger.specs.Channels.{channels_text}
 use Rattle.debugger.specs.Differs.{differs_text}
 use Rattle.debugger.specs.Whys.{subject_spots, why_text, last_text}
+use Rattle.debugger.specs.WhysSince.{since_text}
 use Rattle.debugger.specs.Standing.{where_text, found_text, words_text, rows_text}
 use Rattle.debugger.specs.declared.rows.RowKind.TheVariants.{Instruction, Number}
 use Rattle.debugger.specs.Retracing.{traced_text}
+use Rattle.debugger.specs.SteppedTail.{stepped_tail}
 use Rattle.debugger.specs.Terms.{Terms}
 use Rattle.debugger.specs.Inputs.{inputs_text}
 use Rattle.debugger.specs.Routines.{goes_over, goes_out}
@@ -110,10 +112,12 @@ extended_reply terms h d (Until cycles) = goes_until (further h) d cycles (first
 extended_reply terms h d AllRegisters = says (all_registers (run d.scenario d.position)) d
 extended_reply terms h d (WhyStep lines) = says (last_text terms.symbols d.scenario lines d.position) d
 extended_reply terms h d (Why subject k lines) = says (why_text terms.symbols d.scenario lines k d.position (subject_spots subject)) d
+extended_reply terms h d (WhySince subject k lines since) = says (since_text terms.symbols d.scenario lines since k d.position (subject_spots subject)) d
 extended_reply terms h d (Words place k) = says (words_text h (here h d) place k) d
 extended_reply terms h d Where = says (where_text terms.symbols terms.source d.scenario d.position) d
 extended_reply terms h d (Find text) = says (found_text terms.symbols text) d
 extended_reply terms h d (Trace k) = says (traced_text terms.symbols d.scenario d.position k) d
+extended_reply terms h d (TailSteps k) = says (stepped_tail d.scenario d.steps k) d
 extended_reply terms h d Inputs = says (inputs_text terms.first d.scenario) d
 extended_reply terms h d (Over k) = goes_over (further h) d k
 extended_reply terms h d (Out k) = goes_out (further h) d k

@@ -7,11 +7,14 @@ pub mod Replies
 pub mod Positions
 pub mod Waiting
 pub mod Whys
+pub mod WhysSince
 pub mod ToldLinks
+pub mod ToldSince
 pub mod Moved
 pub mod Rows
 pub mod Standing
 pub mod Retracing
+pub mod SteppedTail
 pub mod LeftToWrite
 pub mod Terms
 pub mod Inputs

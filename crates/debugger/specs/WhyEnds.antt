@@ -10,7 +10,7 @@ use Rattle.cpu.specs.Chains.{cells_among, writes_any, link_at, chain_end, chain_
 use Rattle.cpu.specs.declared.spot.Spot.{Spot}
 use Rattle.replay.specs.Whys.{why_steps}
 use Rattle.trace.specs.TraceLines.{cell_reading}
-use Rattle.commands.specs.declared.extended.IndexLines.{IndexLines}
+use Rattle.commands.specs.declared.extended.LinkLines.{LinkLines}
 use Rattle.debugger.specs.Replies.{line}
 use Rattle.debugger.specs.Whys.{cell_text, cells_of, chain_text, end_from, why_text}
 
@@ -32,7 +32,7 @@ pub record IsUnwritten (scenario : Scenario) (p : ℕ) (xs : List Spot) : Type 0
   pub reads : (c : ℕ) → set.contains (cells_among xs) c ≡ true → is_cell c ≡ true → cell_reading (run scenario p).cells c ≡ cell_reading start.cells c
 
 -- Of the text of at most k links: those of the chain, and a last line that is as it says. Where fewer are told, nothing that is left was written before the last.
-pub record WhyEnds (symbols : SymbolTable) (scenario : Scenario) (lines : IndexLines) (k p : ℕ) (xs : List Spot) : Type 0 where
+pub record WhyEnds (symbols : SymbolTable) (scenario : Scenario) (lines : LinkLines) (k p : ℕ) (xs : List Spot) : Type 0 where
   pub few : length (why_steps scenario k p xs) ≤ k
   pub text : why_text symbols scenario lines k p xs
       ≡ chain_text symbols scenario lines xs (why_steps scenario k p xs)

@@ -24,9 +24,10 @@ use Rattle.cpu.specs.declared.next_step.NextStep.{NextStep}
 use Rattle.cpu.specs.declared.next_step.NextStep.TheVariants.{Takes, Enters, Executes}
 use Rattle.replay.specs.LastHit.{last_hit}
 use Rattle.replay.specs.Whys.{why_steps}
-use Rattle.trace.specs.TraceLines.{added_text, cell_name, cell_reading, fetched_text, input_text, place_name}
+use Rattle.trace.specs.TraceLines.{added_text, cell_name, cell_reading, entry_place, fetched_text, input_text, place_name, word_place}
 use Rattle.commands.specs.declared.extended.IndexLines.{IndexLines}
 use Rattle.commands.specs.declared.extended.IndexLines.TheVariants.{Omitted, Told}
+use Rattle.commands.specs.declared.extended.LinkLines.{LinkLines}
 use Rattle.commands.specs.declared.subject.Subject.{Subject}
 use Rattle.commands.specs.declared.subject.Subject.TheVariants.{Place, Channel}
 use Rattle.debugger.specs.Replies.{line}
@@ -144,11 +145,15 @@ abbrev pub by_line : ℕ → List ℕ → List ℕ → List ℕ → List ℕ →
 by_line number kind cells read mark =
     line (codes "BY " ++ decimal number ++ codes " " ++ kind ++ codes " :" ++ cells ++ codes " FROM" ++ read ++ mark)
 
--- the line of the step after t steps, and of the cells that it writes
-unfoldable pub step_line : SymbolTable → Scenario → ℕ → List ℕ → List ℕ
-step_line symbols scenario t cs =
+-- the line of the step after t steps, of the cells that it writes, and with a mark
+abbrev pub marked_line : SymbolTable → Scenario → ℕ → List ℕ → List ℕ → List ℕ
+marked_line symbols scenario t cs mark =
     by_line (t + 1) (kind_part symbols scenario (run scenario t)) (cells_part symbols (run scenario (t + 1)) cs)
-    (reads_part symbols scenario.rope (run scenario t) (reads (link_at scenario t) cs)) (mark_part scenario t)
+    (reads_part symbols scenario.rope (run scenario t) (reads (link_at scenario t) cs)) mark
+
+-- the same with its mark
+unfoldable pub step_line : SymbolTable → Scenario → ℕ → List ℕ → List ℕ
+step_line symbols scenario t cs = marked_line symbols scenario t cs (mark_part scenario t)
 
 -- the same, of those among some spots
 abbrev pub link_line : SymbolTable → Scenario → ℕ → List Spot → List ℕ
@@ -200,12 +205,26 @@ abbrev pub index_part : SymbolTable → Scenario → IndexLines → ℕ → List
 index_part symbols scenario Omitted t = []
 index_part symbols scenario Told t = moved_line symbols scenario t (added_by (next_step scenario (run scenario t)))
 
+-- where a step stands: an instruction at its place, or in BRUPT where its word waited; an interrupt where it is entered; an input nowhere
+abbrev pub step_place : NextStep → List ℕ
+step_place (Takes input) = codes "-"
+step_place (Enters k) = place_text (entry_place k)
+step_place (Executes f) = word_place f
+
+-- the line of this place, by the number of the step, where it is to be told
+abbrev pub placed_by : Bool → ℕ → List ℕ → List ℕ
+placed_by false number place = []
+placed_by true number place = line (codes "WHERE " ++ decimal number ++ codes " " ++ place)
+
+abbrev pub place_part : Scenario → Bool → ℕ → List ℕ
+place_part scenario places t = placed_by places (t + 1) (step_place (next_step scenario (run scenario t)))
+
 -- the lines of a step
-abbrev pub link_lines : SymbolTable → Scenario → IndexLines → ℕ → List Spot → List ℕ
-link_lines symbols scenario lines t xs = link_line symbols scenario t xs ++ index_part symbols scenario lines t
+abbrev pub link_lines : SymbolTable → Scenario → LinkLines → ℕ → List Spot → List ℕ
+link_lines symbols scenario lines t xs = link_line symbols scenario t xs ++ place_part scenario lines.places t ++ index_part symbols scenario lines.index t
 
 -- those of a chain from some spots
-abbrev pub chain_text : SymbolTable → Scenario → IndexLines → List Spot → List ℕ → List ℕ
+abbrev pub chain_text : SymbolTable → Scenario → LinkLines → List Spot → List ℕ → List ℕ
 chain_text symbols scenario lines xs [] = []
 chain_text symbols scenario lines xs (t ∷ ts) = link_lines symbols scenario lines t xs ++ chain_text symbols scenario lines (before_step scenario t xs) ts
 
@@ -221,10 +240,10 @@ abbrev pub end_from : SymbolTable → Bool → List Spot → List ℕ
 end_from symbols cut xs = end_text symbols cut (cells_of (cells_among xs))
 
 -- how what stands at some spots after p steps came to be, by at most k steps, which are a chain (`why_is_chain`)
-abbrev pub chained_text : SymbolTable → Scenario → IndexLines → ℕ → List Spot → List ℕ → List ℕ
+abbrev pub chained_text : SymbolTable → Scenario → LinkLines → ℕ → List Spot → List ℕ → List ℕ
 chained_text symbols scenario lines k xs ts = chain_text symbols scenario lines xs ts ++ end_from symbols (length ts == k) (chain_origins scenario xs ts)
 
-unfoldable pub why_text : SymbolTable → Scenario → IndexLines → ℕ → ℕ → List Spot → List ℕ
+unfoldable pub why_text : SymbolTable → Scenario → LinkLines → ℕ → ℕ → List Spot → List ℕ
 why_text symbols scenario lines k p xs = chained_text symbols scenario lines k xs (why_steps scenario k p xs)
 
 -- the spots that a step writes
@@ -232,6 +251,6 @@ abbrev pub target_spots : Scenario → ℕ → List Spot
 target_spots scenario t = map (λ c. Cell c) (targets (link_at scenario t))
 
 -- what the step did that led to p steps
-unfoldable pub last_text : SymbolTable → Scenario → IndexLines → ℕ → List ℕ
+unfoldable pub last_text : SymbolTable → Scenario → LinkLines → ℕ → List ℕ
 last_text symbols scenario lines zero = line (codes "START")
 last_text symbols scenario lines (suc t) = chained_text symbols scenario lines 1 (target_spots scenario t) (t ∷ [])

@@ -25,6 +25,7 @@ use crate::inputs::tell_inputs;
 use crate::manner::Manner;
 use crate::rows::RowKind;
 use crate::standing::find;
+use crate::stepped_tail::tail_steps;
 use crate::stops::{Stops, led_to};
 use crate::texts::{Text, hit_and_at_line, number_line, text_line};
 use arrayvec::ArrayVec;
@@ -74,12 +75,16 @@ impl Desk {
             ExtendedLine::Why(subject, links, lines) => {
                 self.why(session, symbols, *subject, *links, *lines, out)
             }
+            ExtendedLine::WhySince(subject, links, lines, since) => {
+                self.why_since(session, symbols, *subject, *links, *lines, *since, out)
+            }
             ExtendedLine::Words(place, count) => {
                 write_all(out, self.words(session, place, *count).as_slice())
             }
             ExtendedLine::Where => self.tell_where(session, symbols, rows, out),
             ExtendedLine::Find(beginning) => find(symbols, beginning.as_slice(), out),
             ExtendedLine::Trace(steps) => self.trace(session, symbols, *steps, out),
+            ExtendedLine::TailSteps(count) => tail_steps(session, *count, out),
             ExtendedLine::Inputs => tell_inputs(session, first_added, out),
             ExtendedLine::Over(steps) => self.go_over(session, *steps, out),
             ExtendedLine::Out(steps) => self.go_out(session, *steps, out),

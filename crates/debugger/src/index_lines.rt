@@ -7,7 +7,7 @@ ghost use Rattle.cpu.specs.Run.{run};
 ghost use Rattle.cpu.specs.Links.{link, spots};
 ghost use Rattle.cpu.specs.Beside.{is_instruction};
 ghost use Rattle.cpu.specs.NextStep.{next_step};
-ghost use Rattle.debugger.specs.Conversation.{link_effort};
+ghost use Rattle.debugger.specs.Conversation.{index_effort};
 ghost use Rattle.debugger.specs.Executions.{HasLooked};
 ghost use Rattle.debugger.specs.Whys.{added_by, last_executed, operand_spots, operand_part, index_by, index_line, index_part};
 
@@ -54,7 +54,7 @@ pub(crate) fn index_part<K: Keeper>(
     requires within { step < session.old.n }
     requires known { added ≡ added_by (next_step session.old.scenario (run session.old.scenario step)) }
     ensures items { result.items ≡ index_part symbols.now session.old.scenario lines step }
-    ensures looked { HasLooked session.old session.new ((link_effort lines - 6) * session.old.n) }
+    ensures looked { HasLooked session.old session.new ((index_effort lines - 6) * session.old.n) }
 {
     if lines == IndexLines::Omitted {
         return ArrayVec::new();
@@ -84,7 +84,7 @@ fn moved_line<K: Keeper>(
 
 /// The line of the INDEX that is the step after so many.
 #[tactic(auto, using(crate::proofs::Looking::looked_near, crate::proofs::Looking::fits_at))]
-fn index_line<K: Keeper>(
+pub(crate) fn index_line<K: Keeper>(
     session: &mut Session<K>,
     symbols: &Symbols,
     step: u64,
@@ -180,7 +180,7 @@ fn is_instruction(processor: &Processor, machine: &Machine) -> bool
 
 /// Steps that execute an instruction.
 #[derive(Clone, Copy, Drop)]
-struct Instructions;
+pub(crate) struct Instructions;
 
 impl StepTest for Instructions {
     ghost use Rattle.cpu.specs.Links.{link};

@@ -1,20 +1,23 @@
 //! Laws of sessions. Each is the contract of a call that does nothing.
 
-ghost use Rattle.std.specs.Prelude.{ℕ, Bool, List, Option};
+ghost use Rattle.std.specs.Prelude.{◌≡◌, ◌≤◌, ℕ, Bool, List, Option};
 ghost use Rattle.cpu.specs.State.{Scenario};
 ghost use Rattle.symbols.specs.Values.{SymbolTable};
 ghost use Rattle.yayul.specs.Program.{Source};
 ghost use Rattle.cpu.specs.State.{State};
 ghost use Rattle.cpu.specs.declared.spot.Spot.{Spot};
-ghost use Rattle.commands.specs.declared.extended.IndexLines.{IndexLines};
+ghost use Rattle.commands.specs.declared.extended.LinkLines.{LinkLines};
 ghost use Rattle.debugger.specs.declared.manner.Manner.{Manner};
 ghost use Rattle.debugger.specs.Calling.{EntersByCalling, RoutinesAreInProgress};
 ghost use Rattle.debugger.specs.Moved.{IndexIsTold};
 ghost use Rattle.debugger.specs.OutputsOnce.{OutputsAreToldOnce};
 ghost use Rattle.debugger.specs.ReadBack.{NoneAtFirst, SessionReadsBack};
 ghost use Rattle.debugger.specs.Serving.{EntryIsTold};
+ghost use Rattle.debugger.specs.SteppedTail.{HaveTheirSteps};
 ghost use Rattle.debugger.specs.ValueTold.{ValueIsTold};
 ghost use Rattle.debugger.specs.WhyEnds.{WhyEnds};
+ghost use Rattle.debugger.specs.Whys.{why_text};
+ghost use Rattle.debugger.specs.WhysSince.{since_text};
 
 /// Whatever an extended session was asked before, what `inputs` replies is a feed: its lines give the inputs that were added, in order, and no others.
 pub fn inputs_read_back()
@@ -36,6 +39,11 @@ pub fn outputs_are_told_once()
         OutputsAreToldOnce manner symbols source scenario answers additions lines }
 {}
 
+/// What `tail` with steps tells of are the outputs of the steps that were made, in order, each with the step that put it out.
+pub fn outputs_have_their_steps()
+    ensures { (scenario : Scenario) (n : ℕ) → HaveTheirSteps scenario n }
+{}
+
 /// The step that a mark and `where` tell as the one that entered the interrupt has entered it, and it is served ever since.
 pub fn entry_is_told()
     ensures { (symbols : SymbolTable) (scenario : Scenario) (p : ℕ) → EntryIsTold symbols scenario p }
@@ -43,7 +51,13 @@ pub fn entry_is_told()
 
 /// How `why` ends says what is so: where fewer steps are told than were asked for, no step before them wrote what is left, which holds what it held at the start.
 pub fn why_ends()
-    ensures { (symbols : SymbolTable) (scenario : Scenario) (lines : IndexLines) (k p : ℕ) (xs : List Spot) → WhyEnds symbols scenario lines k p xs }
+    ensures { (symbols : SymbolTable) (scenario : Scenario) (lines : LinkLines) (k p : ℕ) (xs : List Spot) → WhyEnds symbols scenario lines k p xs }
+{}
+
+/// `why` since step 1, or since 0, is `why`: what it tells, and how it ends.
+pub fn since_start_is_why()
+    ensures { (symbols : SymbolTable) (scenario : Scenario) (lines : LinkLines) (since k p : ℕ) (xs : List Spot) → since ≤ 1 →
+        since_text symbols scenario lines since k p xs ≡ why_text symbols scenario lines k p xs }
 {}
 
 /// A step enters a routine exactly where it executes TC that stands in fixed memory and leads to another place there; the routine returns to the place after it.

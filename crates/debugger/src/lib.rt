@@ -29,6 +29,8 @@ mod rows;
 mod session;
 mod short;
 mod standing;
+mod step_places;
+mod stepped_tail;
 mod steps;
 mod stops;
 mod tail;
@@ -36,11 +38,13 @@ mod texts;
 mod travel;
 mod until;
 mod why;
+mod why_since;
 
 pub use ending::Ending;
 pub use fault::DebugFault;
 pub use laws::{
-    entry_is_told, index_is_told, inputs_read_back, outputs_are_told_once, routine_is_called,
-    routines_are_in_progress, value_is_told, why_ends,
+    entry_is_told, index_is_told, inputs_read_back, outputs_are_told_once,
+    outputs_have_their_steps, routine_is_called, routines_are_in_progress, since_start_is_why,
+    value_is_told, why_ends,
 };
 pub use session::{MOST_COMMAND_BYTES, debug_session, extended_session};

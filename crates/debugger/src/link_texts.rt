@@ -196,7 +196,7 @@ pub(crate) fn by_line(
     reads: &Part,
     mark: &Piece,
 ) -> LinkLine
-    requires { array_vec_len mark.now ≤ 29 }
+    requires { array_vec_len mark.now ≤ 40 }
     ensures items { result.items ≡ by_line number kind.now.items cells.now.items reads.now.items mark.now.items }
     ensures short { array_vec_len result ≤ 2048 }
 {

@@ -9,7 +9,7 @@ ghost use Rattle.cpu.specs.Chains.{cells_among, link_at, before_step};
 ghost use Rattle.std.specs.FinSet.{empty};
 ghost use Rattle.cpu.specs.Links.{targets, place_spots};
 ghost use Rattle.cpu.specs.declared.spot.Spot.{Spot};
-ghost use Rattle.debugger.specs.Whys.{why_text, last_text, link_lines, subject_spots, target_spots, kind_part, cells_part, reads_part, mark_part, reads, added_by, those_in, cells_before};
+ghost use Rattle.debugger.specs.Whys.{why_text, last_text, link_lines, subject_spots, target_spots, kind_part, cells_part, reads_part, mark_part, reads, added_by, step_place, those_in, cells_before};
 ghost use Rattle.debugger.specs.Conversation.{link_effort};
 ghost use Rattle.debugger.specs.Executions.{HasLooked};
 
@@ -19,8 +19,9 @@ use crate::link_texts::{
     LinkLine, Part, Piece, by_line, cells_part, end_text, entered_mark, kind_part, reads_part,
 };
 use crate::links::{Link, Targets, all_among, link_of};
+use crate::step_places::{PlaceLine, StepPlace, placed_by, step_place};
 use arrayvec::ArrayVec;
-use commands::{IndexLines, Subject};
+use commands::{LinkLines, Subject};
 use cpu::{Cell, CellSet};
 use replay::{Keeper, Session};
 use space::{Chan, Eras};
@@ -35,7 +36,7 @@ impl Desk {
         symbols: &Symbols,
         subject: Subject,
         links: u64,
-        lines: IndexLines,
+        lines: LinkLines,
         out: &mut W,
     ) -> Result<(), WriteFailed>
         requires { self.now.position ≤ session.old.n }
@@ -66,7 +67,7 @@ impl Desk {
         &self,
         session: &mut Session<K>,
         symbols: &Symbols,
-        lines: IndexLines,
+        lines: LinkLines,
         out: &mut W,
     ) -> Result<(), WriteFailed>
         requires { self.now.position ≤ session.old.n }
@@ -88,7 +89,7 @@ impl Desk {
 }
 
 /// The cells of what `why` is about: BB is FB and EB, and the place that reads as 0 has none.
-fn subject_cells(subject: Subject) -> CellSet
+pub(crate) fn subject_cells(subject: Subject) -> CellSet
     ensures { result ≡ cells_among (subject_spots subject) }
 {
     let mut cells = CellSet::new();
@@ -127,28 +128,29 @@ fn cells_written<K: Keeper>(session: &mut Session<K>, step: u64) -> CellSet
 
 /// What is told of a step before it is made.
 #[derive(Drop)]
-struct Begun {
-    kind: Piece,
-    cells: Targets,
-    reads: Part,
-    inside: bool,
-    added: Option<Wide>,
+pub(crate) struct Begun {
+    pub(crate) kind: Piece,
+    pub(crate) cells: Targets,
+    pub(crate) reads: Part,
+    pub(crate) inside: bool,
+    pub(crate) added: Option<Wide>,
+    pub(crate) place: StepPlace,
 }
 
 /// The most bytes of the lines of a step.
-const LINK_LINES: usize = 3_104;
+const LINK_LINES: usize = 3_144;
 
 /// The lines of a step.
-type LinkLines = ArrayVec<u8, LINK_LINES>;
+pub(crate) type LinkText = ArrayVec<u8, LINK_LINES>;
 
 /// The lines of the step after so many, of some cells that are followed. Those from which these come are followed on.
 fn link_lines<K: Keeper>(
     session: &mut Session<K>,
     symbols: &Symbols,
-    lines: IndexLines,
+    lines: LinkLines,
     step: u64,
     pending: &mut CellSet,
-) -> LinkLines
+) -> LinkText
     requires within { step < session.old.n }
     requires fits { step + 1 < 2 ^ 64 }
     ensures lines { (xs : List Spot) → pending.old ≡ cells_among xs → result.items ≡ link_lines symbols.now session.old.scenario lines step xs }
@@ -159,23 +161,25 @@ fn link_lines<K: Keeper>(
     let cells = cells_after(session, symbols, step + 1, &begun.cells);
     let mark = mark_part(session, step, begun.inside);
     let line = by_line(step + 1, &begun.kind, &cells, &begun.reads, &mark);
-    let index = index_part(session, symbols, lines, step, begun.added);
-    both(&line, &index)
+    let place = placed_by(lines.places, step + 1, &begun.place);
+    let index = index_part(session, symbols, lines.index, step, begun.added);
+    together(&line, &place, &index)
 }
 
-/// One line after another.
-fn both(line: &LinkLine, more: &IndexLine) -> LinkLines
-    ensures { result.items ≡ line.now.items ++ more.now.items }
+/// The lines of a step, one after another.
+pub(crate) fn together(line: &LinkLine, place: &PlaceLine, index: &IndexLine) -> LinkText
+    ensures { result.items ≡ line.now.items ++ place.now.items ++ index.now.items }
 {
     let mut text = ArrayVec::new();
     push_all(&mut text, line.as_slice());
-    push_all(&mut text, more.as_slice());
+    push_all(&mut text, place.as_slice());
+    push_all(&mut text, index.as_slice());
     text
 }
 
 /// What is told of the step after so many before it is made.
 #[tactic(auto, using(crate::proofs::Looking::looked_near, crate::proofs::Looking::fits_at))]
-fn begun_at<K: Keeper>(
+pub(crate) fn begun_at<K: Keeper>(
     session: &mut Session<K>,
     symbols: &Symbols,
     step: u64,
@@ -187,6 +191,7 @@ fn begun_at<K: Keeper>(
     ensures reads { result.reads.items ≡ reads_part symbols.now session.old.scenario.rope (run session.old.scenario step) (reads (link_at session.old.scenario step) result.cells.items) }
     ensures inside { result.inside ≡ (run session.old.scenario step).inside }
     ensures added { result.added ≡ added_by (next_step session.old.scenario (run session.old.scenario step)) }
+    ensures place { result.place.items ≡ step_place (next_step session.old.scenario (run session.old.scenario step)) }
     ensures pending { pending.new ≡ cells_before (link_at session.old.scenario step) pending.old }
     ensures looked { HasLooked session.old session.new (session.old.n - step) }
 {
@@ -199,6 +204,7 @@ fn begun_at<K: Keeper>(
                 cells,
                 inside: machine.inside(),
                 added: added_by(processor, machine),
+                place: step_place(processor, machine),
             }
         }
         Err(_) => unreachable!(),
@@ -224,7 +230,7 @@ fn mark_part<K: Keeper>(session: &mut Session<K>, step: u64, inside: bool) -> Pi
 
 /// Cells with what they hold after so many steps.
 #[tactic(auto, using(crate::proofs::Looking::looked_near, crate::proofs::Looking::fits_at))]
-fn cells_after<K: Keeper>(
+pub(crate) fn cells_after<K: Keeper>(
     session: &mut Session<K>,
     symbols: &Symbols,
     step: u64,

@@ -14,6 +14,7 @@ pub mod EntryLemmas
 pub mod WatchedLemmas
 pub mod WalkedLemmas
 pub mod FoundLemmas
+pub mod SinceLemmas
 pub mod SettlingLemmas
 pub mod AdvanceLemmas
 pub mod StridingLemmas

@@ -27,6 +27,7 @@ mod slot_keeper;
 mod stepping;
 mod stop;
 mod testing;
+mod testing_since;
 mod thinning;
 mod travelling;
 mod vec_keeper;

@@ -9,3 +9,6 @@ kind_part-requires g c = fits_at _ c.args.session.now.scenario c.args.step _ c.i
 
 pub added_by-requires : goal.added_by-requires
 added_by-requires g c = fits_at _ c.args.session.now.scenario c.args.step _ c.in-Ok.ensures.processor c.in-Ok.ensures.shown
+
+pub step_place-requires : goal.step_place-requires
+step_place-requires g c = fits_at _ c.args.session.now.scenario c.args.step _ c.in-Ok.ensures.processor c.in-Ok.ensures.shown

@@ -1,11 +1,11 @@
-use Rattle.std.proofs.Common.{ℕ, ◌∙◌, ap, refl}
+use Rattle.std.proofs.Common.{ℕ, ◌+◌, ◌*◌, ◌∙◌, ap, arith, refl}
 use Rattle.symbols.specs.Values.{SymbolTable}
 use Rattle.yayul.specs.Program.{Source}
 use Rattle.debugger.specs.Terms.{Terms}
 use Rattle.debugger.specs.Inputs.{inputs_text}
 use Rattle.debugger.specs.ExtendedReplies.{extended_reply}
-use Rattle.commands.specs.declared.extended.ExtendedLine.TheVariants.{Plain, Common, WhyStep, Why, Words, Where, Find, Trace, Inputs, Listed, Values, Channels, Differs}
-use Rattle.debugger.specs.Conversation.{to_asked}
+use Rattle.commands.specs.declared.extended.ExtendedLine.TheVariants.{Plain, Common, WhyStep, Why, Words, Where, Find, Trace, Inputs, Listed, Values, Channels, Differs, WhySince, TailSteps}
+use Rattle.debugger.specs.Conversation.{to_asked, link_effort}
 use Rattle.debugger.specs.History.{history}
 use Rattle.debugger.specs.Channels.{channels_text}
 use Rattle.debugger.specs.Differs.{differs_text}
@@ -13,11 +13,14 @@ use Rattle.cpu.specs.Run.{run}
 use Rattle.debugger.specs.Standing.{words_text, where_text, found_text, rows_text}
 use Rattle.debugger.specs.declared.rows.RowKind.TheVariants.{Instruction, Number}
 use Rattle.debugger.specs.Retracing.{traced_text}
+use Rattle.debugger.specs.SteppedTail.{stepped_tail}
 use Rattle.debugger.specs.Whys.{why_text, last_text, subject_spots}
+use Rattle.debugger.specs.WhysSince.{since_text}
 use Rattle.commands.specs.declared.command.ParsedLine.TheVariants.{Known}
 use Rattle.debugger.specs.declared.manner.Manner.TheVariants as manner
 use Rattle.debugger.specs.Executions.{to_request}
 use Rattle.debugger.specs.Replies.{answer}
+use Rattle.debugger.proofs.SinceLines.{cost_done}
 use Rattle.debugger.proofs.WholeReplies.{asked-text, replies-text, replies-same}
 use Rattle.debugger.proofs.desk.Desk.answer_asked.Goals as goal
 
@@ -75,6 +78,20 @@ returns-in-Why-clause-executes g c = λ told.
     let looked = c.why.ensures.looked in
     rw c.in-Why.is (replies-text g.K.Keeper.may_refuse (to_asked (terms c.args.symbols.now c.args.rows.now c.args.first_added) (Why c.in-Why.subject c.in-Why.links c.in-Why.lines)) _ _ _ _ (why_text c.args.symbols.now c.args.session.now.scenario c.in-Why.lines c.in-Why.links c.args.self.now.position (subject_spots c.in-Why.subject)) _ _ (λ answers additions. rw (looked.scenario, looked.steps) refl) refl (c.why.ensures.writes told))
 
+pub returns-in-WhySince-clause-executes : goal.returns-in-WhySince-clause-executes
+unfolding extended_reply
+returns-in-WhySince-clause-executes g c = λ told.
+    let looked = c.why_since.ensures.looked in
+    rw c.in-WhySince.is (replies-text g.K.Keeper.may_refuse (to_asked (terms c.args.symbols.now c.args.rows.now c.args.first_added) (WhySince c.in-WhySince.subject c.in-WhySince.links c.in-WhySince.lines c.in-WhySince.since)) _ _ _ _ (since_text c.args.symbols.now c.args.session.now.scenario c.in-WhySince.lines c.in-WhySince.since c.in-WhySince.links c.args.self.now.position (subject_spots c.in-WhySince.subject)) _ _ (λ answers additions. rw (looked.scenario, looked.steps) refl) refl (c.why_since.ensures.writes told))
+
+pub returns-in-WhySince-clause-session : goal.returns-in-WhySince-clause-session
+returns-in-WhySince-clause-session g c =
+    let looked = c.why_since.ensures.looked in
+    rw c.in-WhySince.is (record {
+      forward = omega (arith, looked.steps);
+      cost = cost_done (link_effort c.in-WhySince.lines * c.in-WhySince.links + 2) c.args.session.now.meter _ c.args.session.now.n _ c.in-WhySince.since looked.cost looked.steps;
+    })
+
 pub returns-in-Words-clause-executes : goal.returns-in-Words-clause-executes
 unfolding extended_reply
 returns-in-Words-clause-executes g c = λ told.
@@ -98,6 +115,12 @@ unfolding extended_reply
 returns-in-Trace-clause-executes g c = λ told.
     let looked = c.trace.ensures.looked in
     rw c.in-Trace.is (replies-text g.K.Keeper.may_refuse (to_asked (terms c.args.symbols.now c.args.rows.now c.args.first_added) (Trace c.in-Trace.steps)) _ _ _ _ (traced_text c.args.symbols.now c.args.session.now.scenario c.args.self.now.position c.in-Trace.steps) _ _ (λ answers additions. rw (looked.scenario, looked.steps) refl) refl (c.trace.ensures.writes told))
+
+pub returns-in-TailSteps-clause-executes : goal.returns-in-TailSteps-clause-executes
+unfolding extended_reply
+returns-in-TailSteps-clause-executes g c = λ told.
+    let looked = c.tail_steps.ensures.looked in
+    rw c.in-TailSteps.is (replies-text g.K.Keeper.may_refuse (to_asked (terms c.args.symbols.now c.args.rows.now c.args.first_added) (TailSteps c.in-TailSteps.count)) _ _ _ _ (stepped_tail c.args.session.now.scenario c.args.session.now.n c.in-TailSteps.count) _ _ (λ answers additions. rw (looked.scenario, looked.steps) refl) refl (c.tail_steps.ensures.writes told))
 
 pub returns-in-Inputs-clause-executes : goal.returns-in-Inputs-clause-executes
 unfolding extended_reply

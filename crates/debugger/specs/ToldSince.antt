@@ -1,0 +1,17 @@
+-- How far `why` since a step has come: a beginning of its text was written, and the rest follows from the cells that are pending.
+-- Only the proof of it stands on this.
+use Rattle.std.specs.Prelude.{◌≡◌, ℕ, List, ◌++◌}
+use Rattle.symbols.specs.Values.{SymbolTable}
+use Rattle.commands.specs.declared.extended.LinkLines.{LinkLines}
+use Rattle.cpu.specs.State.{Scenario}
+use Rattle.cpu.specs.Chains.{cells_among}
+use Rattle.cpu.specs.declared.spot.Spot.{Spot}
+use Rattle.debugger.specs.Whys.{CellSet}
+use Rattle.debugger.specs.WhysSince.{since_text}
+
+pub record ToldSince (symbols : SymbolTable) (scenario : Scenario) (lines : LinkLines) (since : ℕ) (whole old new : List ℕ) (left before : ℕ) (pending : CellSet) : Type 0 where
+  pub spots : List Spot
+  pub pending_is : pending ≡ cells_among spots
+  pub text : List ℕ
+  pub goes_on : whole ≡ text ++ since_text symbols scenario lines since left before spots
+  pub written : new ≡ old ++ text
