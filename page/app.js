@@ -17,7 +17,7 @@ import { download, linkOf, setting, Storage, taskOf } from './storage.js';
 import { handoutOf, svgOf } from './export.js';
 import { bindKeys, showSheet } from './keys.js';
 
-const TABS = ["steps", "dsky", "output", "memory", "tests", "compare", "console"], MOST_FILE = 32 << 20, KEY_CYCLES = 853, MOST_TIP = 420;
+const TABS = ["steps", "dsky", "output", "memory", "tests", "compare", "console"], MOST_FILE = 32 << 20, KEY_CYCLES = 853, MOST_TIP = 420, FIRST_STEPS = 200;
 const examples = JSON.parse($("examples")?.textContent || "[]");
 // What stands on the page: the program, the picture of the machine and the one before it.
 const S = { name: "", flight: false, isBuilt: false, builtFeed: "", names: new Names(), picture: null, old: null, tab: "steps", chosen: null, presses: [], results: [], isMoving: false, isPacing: false, testFeed: "" };
@@ -492,7 +492,10 @@ async function openTest(test, result) {
   else if (wrong && !wrong.step) {
     // (what never comes is often lost where the run has left the program)
     await loadNotes();
-    if (astray()) await toAstray();
+    if (astray()) { await toAstray(); return; }
+    // (or else where it goes past what puts it out)
+    const writer = [...S.names.rows.values()].find((it) => { const [code, operand = ""] = codeOf(editor.lines[editor.shownLine(it.line) - 1] || ""); return ["WRITE", "WOR", "WAND"].includes(code) && parseInt(operand, 8) === wrong.channel; });
+    if (writer) await whyNever(writer);
   }
 }
 
@@ -571,7 +574,7 @@ async function openPicked(files) {
   const saved = of(".json");
   if (saved) { let doc = null; try { doc = JSON.parse(saved.text); } catch { /* told below */ } if (typeof doc?.source === "string") await openDoc(doc); else say(T.noSession, true); return; }
   const inputs = of(".feed"), source = found.find((it) => !/\.(feed|tests|json)$/i.test(it.name)), stated = of(".tests");
-  if (source) { await openDoc({ name: source.name.replace(/\.lst$/i, ".agc"), source: sourceOf(source.text), feed: inputs?.text || "", tests: stated?.text || "" }); say(T.opened(source.name)); return; }
+  if (source) { await openDoc({ name: source.name.replace(/\.lst$/i, ".agc"), source: sourceOf(source.text), feed: inputs?.text || "", tests: stated?.text || "", steps: FIRST_STEPS }); say(T.opened(source.name, FIRST_STEPS)); return; }
   if (inputs) { feed.text = inputs.text; edited(); showFile("feed"); }
   if (stated) { tests.text = stated.text; readTests(); showFile("tests"); }
 }

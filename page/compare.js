@@ -5,7 +5,7 @@ import { Ended } from './session.js';
 import { T } from './texts.js';
 
 // The most steps that are read of two runs; how many stand before and after the one at which they part; the most words that are told.
-const MOST_READ = 500_000, BEFORE = 5, AFTER = 14, MOST_WORDS = 40;
+const MOST_READ = 500_000, BEFORE = 4, AFTER = 14, MOST_WORDS = 40;
 const bits15 = (word) => word.slice(-5);
 
 // Which places of one program are those of another: of lines that stand in both.
@@ -115,10 +115,9 @@ export class Compare {
     const keep = now ? small(old?.isKept ? T.keepInstead : T.keepRun, () => heard.keep()) : "";
     if (!old || !now) { root.replaceChildren(el("div", { class: "empty-tab" }, el("p", {}, T.noOther), keep || (heard.now() ? small(T.keepRun, () => heard.keep()) : ""))); return; }
     const head = el("div", { class: "tests-head" }, el("span", { class: "other" }, el("b", {}, old.isKept ? T.keptRun : old.label), ` ${old.name}, ${T.someSteps(old.n, group(old.n))}`), keep, small(T.openOther, () => heard.restore(old)), small(T.dropOther, () => { this.old = null; this.forget(); this.draw(now); }));
-    root.replaceChildren(head, el("div", { class: "tests" }, this.wordRow(told.word), ...(told.steps ? [this.stepRow(told)] : [el("p", { class: "quiet" }, T.reading)])));
-    if (!told.steps) return;
-    if (told.rows.length) root.append(this.pairs(told));
-    if (told.names.length) root.append(this.ends(told, now));
+    const facts = el("div", { class: "facts" }, el("div", { class: "tests" }, this.wordRow(told.word), ...(told.steps ? [this.stepRow(told)] : [el("p", { class: "quiet" }, T.reading)])));
+    root.replaceChildren(head, el("div", { class: "both" }, facts, told.rows?.length ? this.pairs(told) : ""));
+    if (told.names?.length) facts.append(this.ends(told, now));
   }
   row(isSame, head, text, work) {
     const inside = [el("b", { "aria-hidden": "true" }, isSame ? "=" : "\u2260"), el("span", {}, head), el("em", {}, text)];

@@ -12,7 +12,8 @@ export function foundIn(text, names, lines) {
   if (!wanted) return found;
   const all = [...names.kinds.values()], begins = all.filter((it) => it.name.startsWith(wanted)), within = all.filter((it) => !it.name.startsWith(wanted) && it.name.includes(wanted));
   for (const it of [...begins, ...within]) found.push({ kind: "symbol", name: it.name, symbol: it, line: definition(it.name, lines) });
-  for (let i = 0; i < lines.length && found.length < MOST; i += 1) if (lines[i].toUpperCase().includes(wanted)) found.push({ kind: "line", line: i + 1, text: lines[i].trim().replace(/\s+/g, " ").slice(0, MOST_LINE) });
+  const told = new Set(found.map((it) => it.line));
+  for (let i = 0; i < lines.length && found.length < MOST; i += 1) if (!told.has(i + 1) && lines[i].toUpperCase().includes(wanted)) found.push({ kind: "line", line: i + 1, text: lines[i].trim().replace(/\s+/g, " ").slice(0, MOST_LINE) });
   return found.slice(0, MOST);
 }
 const definition = (name, lines) => lines.findIndex((it) => it.startsWith(name) && /^\s|^$/.test(it.slice(name.length, name.length + 1))) + 1;

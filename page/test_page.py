@@ -38,17 +38,32 @@ STEPS = 100_000_000 if os.environ.get("AGCWS_LONG") else 5_000_000
 # The most seconds of what is waited for, on a machine however busy.
 MOST_SECONDS = 120
 WIDTHS = (360, 800, 1280, 2560)
-# The browser of these tests, and what a browser leaves out: what asks for more than its driver can, or for a session that waits for its next line, which no
-# session does in WebKit, where each line costs what all before it have cost.
+# The browser of these tests; and which of them a browser other than Chromium is tried by. (In WebKit no session waits for its next line, so each line costs what
+# all before it have cost.)
 IS_ONE = sys.argv[1:2] == ["--in"]
 BROWSER = driver.BROWSERS[sys.argv[2]] if IS_ONE else driver.Chromium
 if IS_ONE:
     del sys.argv[1:3]
-LEFT_OUT = {
-    "Chromium": [],
-    "Firefox": ["Long.test_the_page_is_alive_while_millions_of_steps_run", "Reach.test_motion_is_left_out_where_that_is_wished"],
-    "WebKit": ["Keys.test_key_echo_in_time_with_the_clock", "Long.test_the_page_is_alive_while_millions_of_steps_run", "Long.test_a_source_of_ten_million_bytes_leaves_the_page_alive", "Reach.test_motion_is_left_out_where_that_is_wished"],
+OF_SEARCH = ("the_lost_sum_is_found_by_three_clicks", "mended_it_is_as_stated_and_the_old_curve_stays_to_be_compared", "moves_by_keys_and_by_clicks_come_to_the_same_steps", "a_faulty_line_is_told_while_it_is_typed", "a_thousand_lines_are_checked")
+TRIED_BY = {
+    "Firefox": {
+        "Runs": ("it_is_ready_and_tells_what_it_is", "nothing_is_asked_of_any_server_and_no_rule_of_the_policy_is_broken", "a_server_may_have_it_too"),
+        "Search": OF_SEARCH,
+        "Kept": ("what_is_typed_is_there_after_a_reload_in_the_midst_of_a_run", "a_full_store_is_told_and_nothing_is_lost", "two_tabs_never_write_over_one_another", "a_link_holds_the_whole_task", "a_spoilt_link_is_told_and_the_page_goes_on"),
+    },
+    "WebKit": {
+        "Runs": ("it_is_ready_and_tells_what_it_is", "a_server_may_have_it_too"),
+        "Search": OF_SEARCH,
+        "Asked": ("a_name_a_place_and_a_text_are_found", "the_last_choice_is_told_with_its_way", "what_a_run_puts_out_is_stated_by_a_click", "what_the_program_takes_has_a_button"),
+        "Beside": ("a_comment_changes_nothing_and_code_that_has_moved_is_the_same", "a_run_that_is_kept_is_compared_with_another_program"),
+        "Kept": ("a_full_store_is_told_and_nothing_is_lost",),
+    },
 }
+
+
+def tried():
+    """The names of the tests of this browser, as a command line has them."""
+    return [f"{group}.test_{name}" for group, names in TRIED_BY.get(BROWSER.name, {}).items() for name in names]
 READY = "return document.body.dataset.ready"
 # A program that runs on and on, and changes a word all the time; and one that says nothing but counts in erasable memory.
 ENDLESS = "        SETLOC  100\nCOUNT   ERASE\n        SETLOC  4000\nLOOP    CA      COUNT\n        AD      ONE\n        TS      COUNT\n        TCF     LOOP\n        TCF     LOOP\nONE     OCT     1\n"
@@ -114,8 +129,6 @@ class Workbench(unittest.TestCase):
         cls.addClassCleanup(cls.browser.close)
 
     def setUp(self):
-        if self.id().split(".", 1)[1] in LEFT_OUT[BROWSER.name]:
-            self.skipTest(f"left out in {BROWSER.name}")
         if self.browser.has_ended:
             self.skipTest(f"{BROWSER.name} has ended before")
         self.open()
@@ -377,7 +390,7 @@ class Asked(Workbench):
 
     def test_a_word_has_a_menu(self):
         browser = self.browser
-        browser.pointer(self.place('#words [data-cell="SUM"]'), "down", "up", button=2)
+        self.menu_of('#words [data-cell="SUM"]')
         self.wait("return !document.getElementById('context').hidden")
         self.choose("Back to its last change")
         self.wait("return workbench.session.p === 43 && !workbench.S.isMoving")
@@ -411,7 +424,7 @@ class Asked(Workbench):
         self.js("workbench.editor.showLine(arguments[0])", line)
         seen = []
         for name in ("On to its next execution", "On to its next execution", "Back to the one before"):
-            browser.pointer(self.place(f'#editor [data-line="{line}"] .g'), "down", "up", button=2)
+            self.menu_of(f'#editor [data-line="{line}"] .g')
             self.choose(name)
             self.wait("return !workbench.S.isMoving")
             self.wait("return document.querySelector('#editor .is-now')?.textContent.includes('4104')")
@@ -420,6 +433,13 @@ class Asked(Workbench):
         self.assertEqual(seen[2], seen[0])
         self.assertLess(seen[0], seen[1])
 
+    def menu_of(self, selector):
+        # (a right click of WebKit's driver opens no menu of a page)
+        if BROWSER is driver.WebKit:
+            self.js("document.querySelector(arguments[0]).dispatchEvent(new MouseEvent('contextmenu', {bubbles: true, cancelable: true}))", selector)
+        else:
+            self.browser.pointer(self.place(selector), "down", "up", button=2)
+
     def choose(self, name):
         self.wait("return !document.getElementById('context').hidden")
         self.js("[...document.querySelectorAll('#context b')].find(it => it.textContent === arguments[0]).closest('button').click()", name)
@@ -427,7 +447,7 @@ class Asked(Workbench):
     def test_why_a_line_is_not_executed(self):
         source = "        SETLOC  4000\n        CAF     ONE\n        EXTEND\n        BZF     ON\n        TCF     DONE\nON      CA      ONE\nDONE    TCF     DONE\nONE     OCT     1\n"
         self.js("await workbench.openDoc({name: 'never.agc', source: arguments[0], steps: 20})", source)
-        self.browser.pointer(self.place('#editor [data-line="6"] .g'), "down", "up", button=2)
+        self.menu_of('#editor [data-line="6"] .g')
         self.choose("Why is it not executed?")
         self.wait("return document.getElementById('said').textContent.includes('TCF DONE, on line 5, is the last before line 6')")
         self.wait("return workbench.S.picture.where.line === 5")
@@ -786,6 +806,8 @@ class Runner(unittest.TextTestRunner):
 
 def run_here():
     """Runs the tests in one browser."""
+    if not [it for it in sys.argv[1:] if not it.startswith("-")]:
+        sys.argv += tried()
     ran = unittest.main(exit=False, testRunner=Runner).result
     sys.stderr.flush()
     for test, why in ran.skipped:

@@ -49,7 +49,7 @@ export function judge(test, told) {
     if (it.kind === "out") {
       const at = put.get(it.channel) || 0, words = told.outputs.filter((one) => one.channel === it.channel), found = words[at];
       put.set(it.channel, at + 1);
-      if (!found) return { said: T.notPut(octal(it.channel, 3), at + 1, say(it.word)), place: null };
+      if (!found) return { said: T.notPut(octal(it.channel, 3), at + 1, say(it.word)), place: null, channel: it.channel };
       if (found.word !== it.word) return { said: T.otherPut(octal(it.channel, 3), at + 1, say(found.word), group(found.cycles), say(it.word)), place: `CH${octal(it.channel, 3)}`, cycles: found.cycles };
     } else if (it.kind === "mem") {
       const found = told.cells.get(it.place);
