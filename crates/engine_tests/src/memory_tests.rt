@@ -10,7 +10,8 @@ use std::process::Abort;
 use std::test::Fail;
 use words::Buffer;
 use workshop::{
-    Version, asm_engine, debug_engine, follow_source, open_session, run_engine, upgrade_engine,
+    Origin, Unheard, Version, asm_engine, cover_program, debug_engine, follow_source, open_session,
+    run_engine, run_with_notes, trace_program, upgrade_engine,
 };
 use yayul::{Language, assemble};
 
@@ -97,6 +98,33 @@ fn always_out_of_memory(rt: HostRuntime) -> Result<(), Fail> {
     );
     let mut old = image.as_slice();
     assert!(rt; upgrade_engine(alloc, &mut old, &mut out).is_ok());
+    Ok(())
+}
+
+#[test]
+fn told_runs_always_out_of_memory(rt: HostRuntime) -> Result<(), Fail> {
+    let alloc = rt.alloc();
+    let mut out = Buffer::new(alloc);
+    let origin = || Origin::Source(Language::Standard);
+    let (mut source, mut feed) = (FIVE_PLUS_FIVE, b"".as_slice());
+    assert!(rt; trace_program(alloc, origin(), &mut source, &mut feed, 1, 4, &mut out).is_ok());
+    let (mut source, mut feed) = (FIVE_PLUS_FIVE, b"".as_slice());
+    assert!(rt; cover_program(alloc, origin(), &mut source, &mut feed, 4, &mut out).is_ok());
+    let (mut source, mut feed) = (FIVE_PLUS_FIVE, b"".as_slice());
+    let mut notes = Buffer::new(alloc);
+    assert!(rt;
+        run_with_notes(
+            alloc,
+            origin(),
+            &mut source,
+            &mut feed,
+            4,
+            &mut out,
+            &mut Unheard,
+            &mut notes
+        )
+        .is_ok()
+    );
     Ok(())
 }
 
