@@ -502,7 +502,7 @@ async function openTest(test, result) {
 // The tabs.
 
 function chooseTab(list, name, key) {
-  for (const it of list.querySelectorAll('[role="tab"]')) { const is = it.dataset[key] === name; it.setAttribute("aria-selected", String(is)); it.tabIndex = is ? 0 : -1; }
+  for (const it of list.querySelectorAll('[role="tab"]')) { const is = it.dataset[key] === name; it.setAttribute("aria-selected", String(is)); it.tabIndex = is ? 0 : -1; if (is) it.scrollIntoView({ inline: "nearest", block: "nearest" }); }
 }
 function showTab(name) {
   S.tab = name;
