@@ -46,6 +46,7 @@ from rows import check_rows
 from tally import end, is_built, told
 from terminal import CTRL_C, Terminal
 from checks import check_checks
+from claims import check_claims
 from slips import check_slips
 from traces import check_trace
 
@@ -687,7 +688,7 @@ def words_of_image(image):
 
 def check_form_sums(room):
     """The sums of images in both orders of the bits, of programs with check words and of random words."""
-    path, hardware = f"{room}/summed.rope", f"{room}/summed.hardware"
+    path, hardware, old = f"{room}/summed.rope", f"{room}/summed.hardware", f"{room}/summed.old"
     for name in ("bank_sum", "bank_call", 1, 2, 3):
         if isinstance(name, str):
             agcws("asm", "--sums", f"{EXAMPLES}/{name}.agc", path)
@@ -697,7 +698,8 @@ def check_form_sums(room):
             write(path, b"".join((2 * word + (bin(word).count("1") + 1) % 2).to_bytes(2, "big") for word in words))
         pairs, _ = words_of_image(read(path))
         write(hardware, b"".join((pair & 0x8000 | (pair & 1) << 14 | pair >> 1 & 0x3FFF).to_bytes(2, "big") for pair in pairs))
-        for file in (path, hardware):
+        write(old, b"".join((pair & 0xFFFE).to_bytes(2, "big") for pair in pairs))
+        for file, *options in ((path,), (hardware,), (old, "--rope", "1")):
             lines = []
             for bank, words in enumerate(words_of_image(read(file))[1]):
                 sums = [0, 0]
@@ -705,7 +707,7 @@ def check_form_sums(room):
                     sums = [ones_sum(sums[0], pair >> 1), ones_sum(sums[1], pair >> 15 << 14 | pair & 0x3FFF)]
                 held = [form for form, total in zip(("written", "hardware"), sums) if total in (bank, 32767 - bank)]
                 lines.append(f"{bank:02o} {sums[0]:05o} {sums[1]:05o} {' '.join(held) or '-'}\n")
-            compare(f"both sums of {name} in {os.path.basename(file)}", agcws("sums", "--forms", file), 0, "".join(lines).encode())
+            compare(f"both sums of {name} in {os.path.basename(file)}", agcws("sums", "--forms", *options, file), 0, "".join(lines).encode())
 
 
 def named(table, bank, address):
@@ -1148,6 +1150,7 @@ def main():
         check_covers(room)
         check_checks(PROGRAM, room, told, text_of("docs/MANUAL.md"))
         check_slips(PROGRAM, room, told, EXAMPLES)
+        check_claims(PROGRAM, told, room)
         check_operators()
         check_links()
         check_documents(room)

@@ -52,6 +52,7 @@ SAID = [
         (1, 1, "E13: SETLOC takes no label", "put SUM on the next line"), (3, 5, "E25: TS writes to erasable memory, and SUM, of line 2, is not there", "reserve the word there: SETLOC and a place below 4000, and ERASE")]),
     (" SETLOC X|X SETLOC 4000", [(1, 9, "E18: SETLOC needs the value of X here, and no earlier line defines it", ""), (2, 1, "E13: SETLOC takes no label", "put X on the next line")]),
     (" TS 4000|4000 OCT 1", [(1, 5, "E25: TS writes to erasable memory, and 4000 is not there", "reserve the word there: SETLOC and a place below 4000, and ERASE"), (2, 1, "E13: 4000 is a number, and no label", "")]),
+    (" SETLOC 100| BANK", [(2, 2, "E16: BANK needs an operand", "with --flight this is taken")]),
     (" CA 12E|12D OCT 5", [(1, 5, "E17: no line defines 12E", ""), (2, 1, "E13: 12D is a number, and no label", "")]),
     (" TC START|START: OCT 1", [(1, 5, "E17: no line defines START", "did you mean START:?")]),
     (" OCT 0x1F", [(1, 6, "E16: OCT takes octal digits, 0 to 7, and 0x1F is no such number", "DEC takes decimal digits")]),
