@@ -698,6 +698,8 @@ function bind() {
   $("picker").addEventListener("change", () => { openPicked($("picker").files); $("picker").value = ""; });
   $("count").addEventListener("keydown", (event) => { if (event.key === "Enter") run(); });
   $("position").addEventListener("focus", () => { $("position").value = session.p; $("position").select(); });
+  // (in WebKit the end of a click would take the selection away)
+  $("position").addEventListener("mousedown", (event) => { if (document.activeElement === $("position")) return; event.preventDefault(); $("position").focus(); });
   $("position").addEventListener("keydown", (event) => { if (event.key !== "Enter") return; const { value } = $("position"), step = stepsOf(value), cycles = cyclesOf(value); $("position").blur(); if (cycles !== null) move("until", cycles); else if (step !== null) seek(step); else say(T.whereTo, true); });
   $("position").addEventListener("blur", () => S.picture && setPosition(S.picture.p, S.picture.n, S.picture.cycles));
   $("cell").addEventListener("change", () => { loadSurvey(); keepSoon(); });
