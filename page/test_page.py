@@ -147,6 +147,18 @@ class Workbench(unittest.TestCase):
     def wait(self, text):
         return self.browser.wait(text, MOST_SECONDS)
 
+    def settled(self, text):
+        """What is answered twice, a while apart: where something stands, once it moves no more."""
+        last = None
+        while (found := self.js(text)) != last:
+            last = found
+            time.sleep(0.5)
+        return found
+
+    def rest(self, text):
+        """Waits until something is so, and nothing moves: while something does, the button that stops it moves others."""
+        return self.wait(f"return ({text}) && !workbench.S.isMoving && document.getElementById('stop').hidden")
+
     def take(self, source, steps):
         """Puts a source in the place of the one that stands there, builds it and runs it."""
         self.js("workbench.editor.area.focus(); workbench.editor.area.select(); document.execCommand('insertText', false, arguments[0])", source)
@@ -234,30 +246,30 @@ class Search(Workbench):
     def test_moves_by_keys_and_by_clicks_come_to_the_same_steps(self):
         browser = self.browser
         browser.keys("Home")
-        self.wait("return workbench.session.p === 0")
+        self.rest("workbench.session.p === 0")
         for _ in range(3):
             browser.keys("Right")
-        self.wait("return workbench.session.p === 3")
+        self.rest("workbench.session.p === 3")
         browser.click('[data-go="back"]')
-        self.wait("return workbench.session.p === 2")
+        self.rest("workbench.session.p === 2")
         browser.click("#position")
         browser.keys(*"cycle 42", "Enter")
-        self.wait("return workbench.session.cycles >= 42 && workbench.session.cycles < 48")
+        self.rest("workbench.session.cycles >= 42 && workbench.session.cycles < 48")
         browser.click("#position")
         browser.keys(*"22", "Enter")
-        self.wait("return workbench.session.p === 22")
+        self.rest("workbench.session.p === 22")
         self.wait("return document.querySelector('#editor .is-now')?.textContent.includes('CCS')")
         self.js("document.activeElement.blur(); workbench.editor.showLine(29)")
-        x, y = self.js("const box = document.querySelector('#editor [data-line=\"29\"] .g').getBoundingClientRect(); return [box.left + 8, box.top + 8]")
+        x, y = self.settled("const box = document.querySelector('#editor [data-line=\"29\"] .g').getBoundingClientRect(); return [box.left + 8, box.top + 8]")
         browser.pointer((int(x), int(y)), "down", "up")
-        self.wait("return workbench.S.picture.breaks.length === 1")
+        self.rest("workbench.S.picture.breaks.length === 1")
         browser.keys("Home")
-        self.wait("return workbench.session.p === 0")
+        self.rest("workbench.session.p === 0")
         browser.keys("n")
-        self.wait("return workbench.session.p === 9")
+        self.rest("workbench.session.p === 9")
         box = self.js("const it = document.getElementById('axis').getBoundingClientRect(); return [it.left, it.top, it.width, it.height]")
         browser.pointer((int(box[0] + box[2] * 0.3), int(box[1] + 60)), "down", (int(box[0] + box[2] * 0.6), int(box[1] + 60)), "up")
-        self.wait("return workbench.session.p > 30 && !workbench.S.isMoving")
+        self.rest("workbench.session.p > 30")
 
     def test_a_faulty_line_is_told_while_it_is_typed(self):
         browser = self.browser
