@@ -57,7 +57,7 @@ class Orders(unittest.TestCase):
                 running.add(crate.name)
                 most[0] = max(most[0], len(running))
                 events.append(("begins", crate.name, jobs, nice))
-            time.sleep(0.05)
+            time.sleep(0.3)
             with changing:
                 running.remove(crate.name)
                 events.append(("ends", crate.name))
