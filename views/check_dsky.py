@@ -11,7 +11,7 @@ from tally import told
 
 
 # Words by hand, from the rows of relays and the digits that examples/relay_word.agc and decimal_digits.agc tell: PROG 06 (1011 0 10101 11100), VERB 37 and
-# NOUN 42, R1 +07093, R2 -12345 (0101 0 00011 11001, 0100 1 11011 01111, and 5 with the 6 of R3), R3 +67890, the lamps PROG (bit 9) and GIMBAL LOCK (bit 6)
+# NOUN 42, REG1 +07093, REG2 -12345 (0101 0 00011 11001, 0100 1 11011 01111, and 5 with the 6 of REG3), REG3 +67890, the lamps PROG (bit 9) and GIMBAL LOCK (bit 6)
 # of row 12, and COMP ACTY, KEY REL and FLASH (bits 2, 5 and 6) of channel 011.
 RELAYS = "55274 51563 44771 40025 37165 31773 24171 23557 15734 13175 05765 60440"
 PICTURE = """+--------------------------+-------------------+
@@ -32,7 +32,7 @@ def check_dsky(_):
     same("the last picture", call("dsky", "--last", given="\n".join(lines)), (0, last, ""))
     status, out, _ = call("dsky", given="\n".join([*lines, *lines[:2], "85400 CH 012 77777", "AT 8 13 4003"]))
     told("a picture for each change", status == 0 and out.count("CYCLE") == 13 and out.endswith(last), out)
-    # R2 loses its minus, R3 has plus beside minus, PROG loses a digit (1011 0 00000 10101), NOUN has relays of no digit (11010), and other lamps come
+    # REG2 loses its minus, REG3 has plus beside minus, PROG loses a digit (1011 0 00000 10101), NOUN has relays of no digit (11010), and other lamps come
     more = ["1 CH 010 21557", "2 CH 010 07765", "3 CH 010 54025", "4 CH 010 44772", "5 CH 010 60001", "6 CH 011 00001"]
     _, out, _ = call("dsky", "--last", given="\n".join([*lines, *more]))
     same("signs, digits and lamps that change", out.splitlines()[2:-1], [
@@ -54,25 +54,25 @@ def check_dsky(_):
         ran.stdin.close()
 
 
-# By hand: R1 is the rows 8 (1000 0 00000 00011), 7 (0111 1 11001 11011) and 6 (0110 0 01111 11110); 37471 is 0111 1 11001 11001, which has a second 2;
-# row 3 is 0011 0 11110 00000 with the 5 of R2 alone; GIMBAL LOCK is bit 6 of row 12, COMP ACTY bit 2 of channel 011.
+# By hand: REG1 is the rows 8 (1000 0 00000 00011), 7 (0111 1 11001 11011) and 6 (0110 0 01111 11110); 37471 is 0111 1 11001 11001, which has a second 2;
+# row 3 is 0011 0 11110 00000 with the 5 of REG2 alone; GIMBAL LOCK is bit 6 of row 12, COMP ACTY bit 2 of channel 011.
 MADE = """\
-CH 010 40003  1000 0 00000 00011  row 8: R1:1 is 1
-CH 010 37473  0111 1 11001 11011  row 7: R1+ is on, R1:2 is 2, R1:3 is 3
-CH 010 30776  0110 0 01111 11110  row 6: R1- is off, R1:4 is 4, R1:5 is 5
-CH 010 37471  0111 1 11001 11001  row 7: R1+ is on, R1:2 is 2, R1:3 is 2
+CH 010 40003  1000 0 00000 00011  row 8: REG1:1 is 1
+CH 010 37473  0111 1 11001 11011  row 7: REG1+ is on, REG1:2 is 2, REG1:3 is 3
+CH 010 30776  0110 0 01111 11110  row 6: REG1- is off, REG1:4 is 4, REG1:5 is 5
+CH 010 37471  0111 1 11001 11001  row 7: REG1+ is on, REG1:2 is 2, REG1:3 is 2
 """
 
 
 def check_words(_):
     """Words that are made, and taken apart."""
-    same("words by hand", call("dsky", "--word", "R1", "+12345", "--explain", "37471"), (0, MADE, ""))
-    _, out, _ = call("dsky", *"--word PROG 06 --word verb 37 --word NOUN 42 --word R1 +07093 --word R2 -12345 --word R3 +67890".split(), "--word", "LAMPS", "prog, gimbal lock, comp acty, key rel, flash")
+    same("words by hand", call("dsky", "--word", "REG1", "+12345", "--explain", "37471"), (0, MADE, ""))
+    _, out, _ = call("dsky", *"--word PROG 06 --word verb 37 --word NOUN 42 --word REG1 +07093 --word REG2 -12345 --word REG3 +67890".split(), "--word", "LAMPS", "prog, gimbal lock, comp acty, key rel, flash")
     same("the words of a picture", [it.split()[2] for it in out.splitlines()], [*RELAYS.split(), "00062"])
     for words, wanted in [
-        (["--word", "R2", "-12345"], ["24171", "23557", "15700"]),
-        (["--word", "R1", "_____"], ["40000", "34000", "30000"]),
-        (["--word", "R1", "12___"], ["40003", "35440", "30000"]),
+        (["--word", "REG2", "-12345"], ["24171", "23557", "15700"]),
+        (["--word", "REG1", "_____"], ["40000", "34000", "30000"]),
+        (["--word", "REG1", "12___"], ["40003", "35440", "30000"]),
         (["--word", "VERB", "_7"], ["50023"]),
         (["--word", "LAMPS", "GIMBAL  LOCK"], ["60040"]),
         (["--word", "LAMPS", "COMP ACTY"], ["00002"]),
@@ -80,7 +80,7 @@ def check_words(_):
     ]:
         same(f"the words of {words[1:]}", [it.split()[2] for it in call("dsky", *words)[1].splitlines()], wanted)
     for words, wanted in [
-        ("37472", "row 7: R1+ is on, R1:2 is 2, R1:3 is no digit (32)"),
+        ("37472", "row 7: REG1+ is on, REG1:2 is 2, REG1:3 is no digit (32)"),
         ("60440", "row 12, lit: GIMBAL LOCK, PROG"),
         ("60000", "row 12, lit: none"),
         ("64000", "row 13: nothing that is shown"),
@@ -89,13 +89,13 @@ def check_words(_):
     ]:
         same(f"what {words} sets", call("dsky", "--explain", *words.split())[1].strip().split("  ")[-1], wanted)
     for words, wanted in [
-        (["R1", "+1234"], "R1 has a sign or none and five digits, _ where one is dark, and not +1234"),
+        (["REG1", "+1234"], "REG1 has a sign or none and five digits, _ where one is dark, and not +1234"),
         (["VERB", "+7"], "VERB has two digits, _ where one is dark, and not +7"),
-        (["R4", "12345"], "no field R4: one of PROG, VERB, NOUN, R1, R2, R3, LAMPS"),
+        (["REG4", "12345"], "no field REG4: one of PROG, VERB, NOUN, REG1, REG2, REG3, LAMPS"),
         (["LAMPS", "STBY"], "no lamp STBY: one of PRIO DISP, NO DAP, VEL, NO ATT, ALT, GIMBAL LOCK, TRACKER, PROG, ISS, COMP ACTY, UPLINK ACTY, TEMP, KEY REL, FLASH, OPR ERR"),
     ]:
         same(f"the word {words} is refused", call("dsky", "--word", *words), (2, "", f"dsky: {wanted}\n"))
-    for words in (["--explain", "8"], ["--explain", "100000"], ["--explain", "7", "--channel", "12"], ["--word", "R1"]):
+    for words in (["--explain", "8"], ["--explain", "100000"], ["--explain", "7", "--channel", "12"], ["--word", "REG1"]):
         same(f"{words} are wrong", call("dsky", *words)[:2], (2, ""))
 
 
@@ -124,7 +124,7 @@ def check_round_trip(_):
 def fields_told(text):
     """Fields as --word takes them, of what is told of a word of a row of relays."""
     parts = dict(it.split(" is ") for it in text.split(": ", 1)[1].split(", "))
-    signs = {name[:2]: name[2] for name, value in parts.items() if value in ("on", "off") and value == "on"}
+    signs = {name[:-1]: name[-1] for name, value in parts.items() if value in ("on", "off") and value == "on"}
     fields = {}
     for name, value in parts.items():
         if value not in ("on", "off"):

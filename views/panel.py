@@ -11,14 +11,14 @@ ROWS = {
     11: (None, "PROG1", "PROG2"),
     10: (None, "VERB1", "VERB2"),
     9: (None, "NOUN1", "NOUN2"),
-    8: (None, None, "R1:1"),
-    7: ("R1+", "R1:2", "R1:3"),
-    6: ("R1-", "R1:4", "R1:5"),
-    5: ("R2+", "R2:1", "R2:2"),
-    4: ("R2-", "R2:3", "R2:4"),
-    3: (None, "R2:5", "R3:1"),
-    2: ("R3+", "R3:2", "R3:3"),
-    1: ("R3-", "R3:4", "R3:5"),
+    8: (None, None, "REG1:1"),
+    7: ("REG1+", "REG1:2", "REG1:3"),
+    6: ("REG1-", "REG1:4", "REG1:5"),
+    5: ("REG2+", "REG2:1", "REG2:2"),
+    4: ("REG2-", "REG2:3", "REG2:4"),
+    3: (None, "REG2:5", "REG3:1"),
+    2: ("REG3+", "REG3:2", "REG3:3"),
+    1: ("REG3-", "REG3:4", "REG3:5"),
 }
 # The lamps by the bit that lights them, the lowest bit is 1: those of row 12 of channel 010, and those of channel 011.
 RELAY_LAMPS = {1: "PRIO DISP", 2: "NO DAP", 3: "VEL", 4: "NO ATT", 5: "ALT", 6: "GIMBAL LOCK", 8: "TRACKER", 9: "PROG"}
@@ -40,7 +40,7 @@ SHORT = {"V": "VERB", "N": "NOUN", "C": "CLR", "P": "PRO", "K": "KEY REL", "E": 
 SPELLINGS = {**{it: it for it in [*KEYS, "PRO"]}, **SHORT, "KEYREL": "KEY REL", "ENTER": "ENTR"}
 PRO_CHANNEL, PRO_BIT = 0o32, 0o20000
 # The fields of the display, each with the names of its digits.
-FIELDS = {**{it: [f"{it}1", f"{it}2"] for it in ("PROG", "VERB", "NOUN")}, **{it: [f"{it}:{i}" for i in range(1, 6)] for it in ("R1", "R2", "R3")}}
+FIELDS = {**{it: [f"{it}1", f"{it}2"] for it in ("PROG", "VERB", "NOUN")}, **{it: [f"{it}:{i}" for i in range(1, 6)] for it in ("REG1", "REG2", "REG3")}}
 CODES = {digit: code for code, digit in DIGITS.items()}
 
 
@@ -180,7 +180,7 @@ class Display:
             ("", self.field("PROG")),
             ("VERB" + (" FLASH" if "FLASH" in shown else ""), "NOUN"),
             (self.field("VERB"), self.field("NOUN")),
-            *(("", self.register(it)) for it in ("R1", "R2", "R3")),
+            *(("", self.register(it)) for it in ("REG1", "REG2", "REG3")),
         ]
         bar = f"+{'-' * 26}+{'-' * 19}+"
         yield bar
