@@ -5,6 +5,7 @@ which one might be passed over where another stands. What is wanted was worked o
 draw as they are written.
 """
 import os
+import re
 import subprocess
 
 from files import read, write
@@ -29,6 +30,8 @@ FILES = {
     "nameless.txt": "START",
     "two.feed": "TWO CHAN 3 5",
 }
+# The note of skips.agc.
+SKIP_OBJECT = '{"kind":"SKIP","place":"02,4002","symbol":null,"word":"54100","text":"TS 0100","step":3,"cycles":6,"count":1}\n'
 COMMANDS = b"run 7\nregs\nmem 4000\nmem 4005\nback 2\n"
 
 # The calls that read an image: OPTIONS are those by which it is taken, and OLD and NEW the same for the first and the
@@ -39,12 +42,30 @@ run --image --end OPTIONS IMAGE good.feed 9
 run --image --progress OPTIONS IMAGE good.feed 9
 run --image --notes OPTIONS IMAGE good.feed 9
 run --image --notes --progress --end OPTIONS IMAGE good.feed 9
+run --image --notes --json --end OPTIONS IMAGE good.feed 9
 trace --image OPTIONS IMAGE good.feed 9
 trace --image --progress OPTIONS IMAGE good.feed 9
 trace --image --symbols five.lst OPTIONS IMAGE good.feed 9
 cover --image OPTIONS IMAGE good.feed 9
 cover --image --progress OPTIONS IMAGE good.feed 9
 cover --image --symbols five.lst OPTIONS IMAGE good.feed 9
+cover --image --json OPTIONS IMAGE good.feed 9
+cover --image --json --symbols five.lst --progress OPTIONS IMAGE good.feed 9
+reach --image OPTIONS IMAGE
+reach --image --symbols five.lst OPTIONS IMAGE
+reach --image --feed good.feed --steps 9 OPTIONS IMAGE
+trace --image --reads OPTIONS IMAGE good.feed 9
+trace --image --say OPTIONS IMAGE good.feed 9
+access --image OPTIONS IMAGE good.feed 9
+access --image --progress OPTIONS IMAGE good.feed 9
+access --image --symbols five.lst OPTIONS IMAGE good.feed 9 A
+delays --image OPTIONS IMAGE good.feed 9
+delays --image --progress OPTIONS IMAGE good.feed 9
+delays --image --symbols five.lst OPTIONS IMAGE good.feed 9
+whatif --image OPTIONS IMAGE good.feed 9 good.feed
+whatif --image --symbols five.lst OPTIONS IMAGE good.feed 9 good.feed
+differ --image OPTIONS IMAGE good.feed 9 --with IMAGE good.feed
+differ --image --symbols five.lst OPTIONS IMAGE good.feed 9 --with IMAGE good.feed
 debug --image OPTIONS IMAGE good.feed
 debug --image --symbols five.lst OPTIONS IMAGE good.feed
 debug --extended --image OPTIONS IMAGE good.feed
@@ -54,6 +75,10 @@ words OPTIONS IMAGE 2
 words --where OPTIONS IMAGE
 words --source OPTIONS IMAGE
 words --source OPTIONS IMAGE 02
+words --source --symbols five.lst OPTIONS IMAGE
+words --symbols five.lst --source OPTIONS IMAGE 2
+words --octal OPTIONS IMAGE
+words --octal OPTIONS IMAGE 2
 words --symbols five.lst OPTIONS IMAGE
 words --symbols five.lst OPTIONS IMAGE 2
 sums OPTIONS IMAGE
@@ -61,6 +86,10 @@ compare OLD IMAGE six.rope
 compare NEW six.rope IMAGE
 compare --only NEW five.agc IMAGE
 compare --only NEW six.agc IMAGE
+align OLD IMAGE six.rope
+align NEW six.rope IMAGE
+align --symbols five.lst OLD IMAGE six.rope
+find OPTIONS five.agc IMAGE
 """.splitlines()
 
 # Files in which the image of five.agc stands, and options by which it is taken.
@@ -73,6 +102,21 @@ FORMS = [
     ("wrong.rope", "--parity ignore"),
     ("wrong.rope", "--rope 1 --parity ignore"),
     ("wrong_hardware.rope", "--parity ignore --form hardware"),
+]
+
+# Files in which it stands otherwise, or as a text of octal words, and options by which the subcommands take it that run nothing.
+ALL_PARTS = "hardware,swapped,complemented,numbered"
+LAYOUTS = [
+    ("swapped.rope", "--form swapped"),
+    ("complemented.rope", "--form complemented"),
+    ("numbered.rope", "--form numbered"),
+    ("all.rope", f"--form {ALL_PARTS}"),
+    ("all_one.rope", f"--rope 1 --form {ALL_PARTS}"),
+    ("all_wrong.rope", f"--parity ignore --form {ALL_PARTS}"),
+    ("octals.txt", ""),
+    ("octals.txt", "--rope 1"),
+    ("octals.txt", "--parity ignore"),
+    ("octals.txt", f"--form {ALL_PARTS}"),
 ]
 
 # Options of a comparison that takes two images in the other order of the bits, and the images.
@@ -104,6 +148,13 @@ TOLD = {
     "two.feed": "two.feed:1:1: error E30: TWO is no cycle, which is 1 to 15 decimal digits\n"
     "    1 | TWO CHAN 3 5\n      | ^^^\n",
 }
+# The same by an object.
+OBJECTS = {
+    "wrong.agc": '{"kind":"error","number":"E15","file":"wrong.agc","line":1,"column":2,"end":6,"said":"FROB is no operator","cure":null,"flight":false,"fix":null,"related":null}\n',
+    "lone.agc": '{"kind":"warning","number":"W8","file":"lone.agc","line":1,"column":1,"end":5,"said":"no operand names LONE","cure":null,"flight":false,"fix":null,"related":null}\n',
+    "one.feed": '{"kind":"error","number":"E30","file":"one.feed","line":1,"column":1,"end":4,"said":"ONE is no cycle, which is 1 to 15 decimal digits","cure":null,"flight":false,"fix":null,"related":null}\n',
+    "two.feed": '{"kind":"error","number":"E30","file":"two.feed","line":1,"column":1,"end":4,"said":"TWO is no cycle, which is 1 to 15 decimal digits","cure":null,"flight":false,"fix":null,"related":null}\n',
+}
 # Checks: their words, the status, the files of which something is told, and the last line.
 CHECKS = [
     ("five.agc", 0, "", "0 errors, 0 warnings"),
@@ -123,6 +174,20 @@ def hardware(image):
     """The bytes of an image with the lowest bit of each two below the highest one, and the others moved down."""
     pairs = (high << 8 | low for high, low in zip(image[::2], image[1::2]))
     return b"".join((it & 0x8000 | (it & 1) << 14 | it >> 1 & 0x3FFF).to_bytes(2, "big") for it in pairs)
+
+
+def swapped(image):
+    """The bytes of an image with the second of each two first."""
+    return bytes(it for pair in zip(image[1::2], image[::2]) for it in pair)
+
+
+def complemented(image):
+    return bytes(255 - it for it in image)
+
+
+def numbered(image):
+    """An image whose banks stand by their numbers."""
+    return image[4096:8192] + image[:4096] + image[8192:]
 
 
 def turned(image, byte, bit):
@@ -159,6 +224,11 @@ class Arguments:
         # the parity of the word at 02,4001, which are bytes 2 and 3
         write(f"{folder}/wrong.rope", turned(five, 3, 1))
         write(f"{folder}/wrong_hardware.rope", turned(hardware(five), 2, 0x40))
+        for turn in (swapped, complemented, numbered):
+            write(f"{folder}/{turn.__name__}.rope", turn(five))
+        for name, image in (("all", five), ("all_one", one), ("all_wrong", turned(five, 3, 1))):
+            write(f"{folder}/{name}.rope", numbered(complemented(swapped(hardware(image)))))
+        write(f"{folder}/octals.txt", self.call("words --octal five.rope")[1])
 
     def call(self, words):
         """The status of the program, its output and its error output."""
@@ -183,16 +253,35 @@ class Arguments:
                 self.told(f"agcws {words}", got == plain, f"wanted {plain}, got {got}")
             for image in ("one.rope", "hardware.rope", "wrong.rope", "wrong_hardware.rope"):
                 words = worded(row, image, "")
-                self.told(f"agcws {words}, taken otherwise", self.call(words) != plain)
+                # (an image beside itself comes to the same however it is taken)
+                if not (row.startswith("differ ") and image == "hardware.rope"):
+                    self.told(f"agcws {words}, taken otherwise", self.call(words) != plain)
+
+    def try_layouts(self):
+        """The same of an image that stands otherwise, or as a text; what runs a program takes none of these."""
+        for row in READERS:
+            plain = self.call(worded(row, "five.rope", ""))
+            for image, options in LAYOUTS:
+                words = worded(row, image, options)
+                got = self.call(words)
+                is_taken = row.split()[0] in ("words", "sums", "compare", "align", "find")
+                is_right = got == plain if is_taken else got[0] == (2 if "--form" in options else 1)
+                self.told(f"agcws {words}", is_right, f"wanted {plain}, got {got}")
 
     def try_wrong_parities(self):
         """What is told of a wrong parity, in both orders of the bits, where it is not to be ignored."""
         for options, name in (("", ""), ("--form hardware ", "_hardware")):
             self.same(f"parity {options}{name[1:] or 'five'}.rope", 0, "COUNT 0\n")
             self.same(f"parity {options}wrong{name}.rope", 1, "02,4001 64005 BYTE 2\nCOUNT 1\n")
+            # 34005 and -13772, 6, 1010, 14000 and 5 are 35036; no one bit of 64005 makes that 2 or -2
+            self.same(f"damages {options}{name[1:] or 'five'}.rope", 1, "BANK 02 SUM 35036\nCOUNT 1\n")
+            self.same(f"damages {options}wrong{name}.rope", 1, "02,4001 64005 HAS WRONG PARITY\nCOUNT 1\n")
+            status, out, err = self.call(f"damages --source {options}wrong{name}.rope")
+            lines = [it for it in out.decode().splitlines() if "PARITY" in it or "WAS" in it]
+            self.told(f"damages --source {options}wrong{name}.rope", (status, lines, err) == (0, ["        OCT     64005   # 02,4001 WRONG PARITY"], b""), f"{lines} {err}")
             for row in READERS:
                 where = "agcws: BYTE 2 02,4001\n" if "--where" in row else ""
-                if not row.startswith("compare"):
+                if not row.startswith(("compare", "align", "find")):
                     self.same(worded(row, f"wrong{name}.rope", options), 1, "", f"agcws: E5\n{where}")
         for side, images in (("old", "wrong_hardware.rope six.rope"), ("new", "six.rope wrong_hardware.rope")):
             words = f"--{side}-form hardware {images}"
@@ -225,7 +314,11 @@ class Arguments:
         self.same(f"run --notes --end {many}", 0, "", note + end)
         self.same(f"run --notes --progress {many}", 0, "", steps + note)
         self.same(f"run --end --progress --notes {many}", 0, "", steps + note + end)
+        self.same(f"run --end --json --progress --notes {many}", 0, "", steps + SKIP_OBJECT + end)
+        self.same(f"run --json --notes {many}", 0, "", SKIP_OBJECT)
         self.same(f"trace --progress --from 1048577 {many}", 0, "", steps)
+        objects = self.call(f"cover --json {many}")
+        self.told("agcws cover --json --progress", self.call(f"cover --progress --json {many}") == (*objects[:2], steps.encode()) and objects[0] == 0 and objects[1][:1] == b"{")
         profile = self.call(f"cover {many}")
         self.told("agcws cover --progress", self.call(f"cover --progress {many}") == (*profile[:2], steps.encode()))
 
@@ -260,6 +353,9 @@ class Arguments:
         """The files of a check are each told by their own names, and all are counted."""
         for words, status, files, tally in CHECKS:
             self.same(f"check {words}", status, "".join(TOLD[it] for it in files.split()) + f"{tally}\n")
+            errors, warnings = re.findall(r"\d+", tally)
+            objects = "".join(OBJECTS[it] for it in files.split()) + f'{{"kind":"total","errors":{errors},"warnings":{warnings}}}\n'
+            self.same(f"check --json {words}", status, objects)
         for name in ("none.feed", "folder"):
             unread = f"{name}: error E6: a file could not be opened or read\n"
             self.same(f"check five.agc good.feed {name}", 3, "", unread)
@@ -271,8 +367,8 @@ class Arguments:
     def try_unread(self):
         """What cannot be read: a file, told by its own name, whichever of two it is; and a number."""
         self.same("words --where none.rope", 3, "", "agcws: E6\n")
-        for number in ("EE17", "WW4", "EW4", "WE17", "4W", "E", "W", "E256", "E+17", "+17", "W+4", "E-17"):
-            none = "error: no refusal and no warning has this number; agcws explain lists them\n"
+        for number in ("EE17", "WW4", "EW4", "WE17", "4W", "E", "W", "E256", "E+17", "+17", "W+4", "E-17", "SKIPS", "skip", "NOTE"):
+            none = "error: no refusal, no warning and no note is called so; agcws explain lists them\n"
             self.same(f"explain {number}", 2, "", none)
         for command, one, other in (("compare", "five.rope", "six.rope"), ("compare --only", "five.agc", "five.rope")):
             for name in ("none.rope", "folder"):
@@ -284,7 +380,7 @@ class Arguments:
         """A table of names is read once all files are open, and its fault is told before those of the others."""
         self.same("words --symbols nameless.txt none.rope", 3, "", "agcws: E6\n")
         self.same("words --symbols nameless.txt wrong.rope", 1, "", "agcws: E36 LINE 1\n")
-        for words, steps in (("trace", "3"), ("cover", "3"), ("debug", ""), ("debug --extended", "")):
+        for words, steps in (("trace", "3"), ("cover", "3"), ("access", "3"), ("delays", "3"), ("whatif", "3 good.feed"), ("debug", ""), ("debug --extended", "")):
             named = f"{words} --image --symbols nameless.txt"
             self.same(f"{named} none.rope good.feed {steps}", 3, "", "agcws: E6\n")
             self.same(f"{named} five.rope none.feed {steps}", 3, "", "agcws: E6\n")
@@ -308,6 +404,7 @@ def check_arguments(program, told, room):
     os.mkdir(folder)
     tried = Arguments(program, told, folder)
     tried.try_forms()
+    tried.try_layouts()
     tried.try_wrong_parities()
     tried.try_comparisons()
     tried.try_runs()

@@ -1,10 +1,11 @@
 #!/usr/bin/env python3
-"""Runs the built program on the examples and on what README.md, examples/README.md, docs/MANUAL.md and docs/WALKS.md show, and compares what it writes, byte for byte.
+"""Runs the built program on the examples and on what README.md, examples/README.md, docs/MANUAL.md, docs/COURSE.md and docs/WALKS.md show, and compares what it writes, byte for byte.
 
 In these each fenced block says by its first word what it is:
   agc      a source, which stands in the file my.agc until the next one
   feed     the feed of the next run or session, else the feed is empty; it stands in my.feed
   listing  what `agcws asm` writes for the last source
+  listing alone ..   the same, with options, for the source that the listing itself shows
   run N    what `agcws run` writes for the last source in N steps
   debug SRC FEED   a session of `agcws debug`: commands, each after '> ', and the replies to each. A block `debug` goes on with it
   debug my.agc     a session over the last source and feed
@@ -13,8 +14,8 @@ In these each fenced block says by its first word what it is:
   shell    commands, each after '$ ', and what each writes, run in a folder with my.agc, my.feed and examples/, where agcws is found;
            a last line '..' stands for the rest
   text     nothing that a program takes or writes, as a picture
-and a row of a table of refusals, as `| E14 | cause | `source;lines` | 2 |`, a source (or, from E30 on, a feed, and of E36 a table of names) that is refused so; in
-it `\r`, `\f` and `\xFF` stand for bytes.
+A row of rows/refusals.txt, as `| E14 | cause | `source;lines` | 2 |`, is a source (or, from E30 on, a feed, and of E36 a table of names) that is refused so; in it
+`\r`, `\f` and `\xFF` stand for bytes.
 
 Each program of examples/ is run, as runs.txt says, and gives NAME.out, or is assembled, and gives the listing NAME.lst. Each operator of the
 language stands in a source whose listing is compared, and each instruction in a program that is run. The manual and the examples name each other, and their links lead somewhere.
@@ -38,8 +39,18 @@ sys.dont_write_bytecode = True
 EXAMPLES = os.path.dirname(os.path.abspath(__file__))
 ROOT = os.path.dirname(EXAMPLES)
 sys.path.insert(0, f"{ROOT}/gate")
+from aligns import check_aligns
 from arguments import check_arguments
+from course import check_course
+from planted import check_planted
+from says import check_each_input, check_edrupt, check_named_cells, check_says
+from accesses import check_access
 from covers import check_cover
+from damages import check_damages
+from delays import check_delays
+from differs import check_differs
+from named_sources import check_named_sources
+from objects import check_objects
 from files import read, write
 from one_processor import second_makers
 from rows import check_rows
@@ -48,7 +59,7 @@ from terminal import CTRL_C, Terminal
 from checks import check_checks
 from claims import check_claims
 from slips import check_slips
-from traces import check_trace
+from traces import SPECIAL, check_trace
 
 PROGRAM = f"{ROOT}/crates/agcws/out/agcws"
 IMAGE_BYTES = 73728
@@ -201,9 +212,9 @@ def check_trace_of_inputs(room):
         b"3         6         02,4002  50100  INDEX X             -\n",
         b"4         8         02,4003  34006  CA 4007 -1          A=000007\n",
         b"5         8         -        INPUT  CHAN 015 00021 ASKS KEYRUPT1   CH015=00021\n",
-        b"6         9         -        INPUT  TIME6 DINC ASKS T6RUPT   E0,0031=00000\n",
+        b"6         9         -        INPUT  TIME6 DINC ASKS T6RUPT   TIME6=00000\n",
         b"7         9         -        INPUT  RUPT 10 ASKS RUPT10   -\n",
-        b"8         10        -        INPUT  CDUX PCDU           E0,0032=00001\n",
+        b"8         10        -        INPUT  CDUX PCDU           CDUX=00001\n",
     ]
     compare("a trace of inputs", agcws("trace", source, feed, "8"), 0, b"".join(lines))
 
@@ -237,6 +248,18 @@ def check_traces(room):
         check_trace(PROGRAM, told, name, files)
 
 
+def said_runs():
+    """The examples that are run, and the model solutions of the course: a name, the source, the feed and the steps."""
+    for line in text_of("examples/runs.txt").splitlines():
+        if line and not line.startswith("#"):
+            name, feed, steps = line.split()
+            yield name, f"{EXAMPLES}/{name}.agc", f"{EXAMPLES}/{feed}", int(steps)
+    for folder in sorted(os.listdir(f"{EXAMPLES}/course")):
+        room = f"{EXAMPLES}/course/{folder}"
+        feed = f"{room}/exercise.feed"
+        yield f"lesson {folder}", f"{room}/model.agc", feed if os.path.exists(feed) else f"{EXAMPLES}/empty.feed", 2000
+
+
 def check_covers(room):
     """What `agcws cover` counts of each example that is run, beside the lines of `agcws trace`; of an image, and of a place without a word."""
     source, empty, rope = f"{EXAMPLES}/five_plus_five.agc", f"{EXAMPLES}/empty.feed", f"{room}/covered.rope"
@@ -253,6 +276,108 @@ def check_covers(room):
     compare("a profile of a refused feed", agcws("cover", source, source, "4"), 1, b"", b"agcws: E30 LINE 2\n")
     for name, files in example_runs():
         check_cover(PROGRAM, told, name, files)
+        check_objects(PROGRAM, told, name, [], files, "2000")
+        check_access(PROGRAM, told, name, files)
+        check_delays(PROGRAM, told, name, files)
+    check_objects(PROGRAM, told, "an image", ["--image"], [rope, empty], "40")
+    names = write(f"{room}/covered.lst", b'START 02,4000\nA"B\\C 02,4005\n')
+    check_objects(PROGRAM, told, "an image with names", ["--image", "--symbols", names], [rope, empty], "40")
+    # (a name and a text with all that is escaped, words of two, and each kind of note)
+    odd = b' SETLOC 4000\nA"B\\C TC 1000\n# "\t\\ / <~>\nFAR 2CADR A"B\\C\n\n SETLOC 100\n"\\ ERASE\n'
+    check_objects(PROGRAM, told, "escaped names", [], [write(f"{room}/escaped.agc", odd), empty], "7")
+    check_objects(PROGRAM, told, "a flight source", ["--flight"], [write(f"{room}/flown.agc", b" SETLOC 4000\nX OCT -1\n TC X\n"), empty], "9")
+
+
+def check_expectations():
+    """Each text of tests stands beside its program, which meets it, but for the one with a planted mistake; and the manual or examples/README.md names it."""
+    for name in sorted(with_ending(".expect")):
+        told(f"examples/{name}.expect has a program", name in with_ending(".agc"))
+        tests = re.findall(r"^TEST +(.*?) *$", text_of(f"examples/{name}.expect"), re.M)
+        status, out, err = agcws("expect", f"{EXAMPLES}/{name}.expect")
+        lines = out.decode().split("\n")[:-1]
+        told(f"examples/{name}.expect tells each test", [re.sub(r"^(ok  |FAIL) |: line \d+, .*", "", it) for it in lines] == tests and err == b"", f"{out!r} {err!r}")
+        fails = [it for it in lines if it.startswith("FAIL")]
+        told(f"examples/{name}.expect", (status, len(fails)) == ((1, 1) if name == "lost_sum" else (0, 0)), f"{status} {out!r}")
+
+
+# A program of a routine that is called twice (TC Q takes two steps: the word in Q leads back), and one in which an interrupt puts off the word at LOOP; worked by hand, with the cycles of each instruction.
+TWICE = b""" SETLOC 4000
+START CA TWO
+ TC TWICE
+ TC TWICE
+ EXTEND
+ WRITE 10
+DONE TCF DONE
+TWICE AD TWO
+ TC Q
+Q EQUALS 2
+TWO DEC 2
+"""
+PUT_OFF = b" SETLOC 100\nCOUNT ERASE\n SETLOC 4000\n RELINT\nLOOP INCR COUNT\n TCF LOOP\n SETLOC 4024\n RESUME\n"
+# Tests of the first: claims, and what is told of each after its name.
+CLAIMED = [
+    ("AT START A = 0", ""),
+    ("AT START +1 A = 2", ""),
+    ("CALLS TWICE 2", ""),
+    ("CALLS TWICE WITHIN 4 CYCLES", ""),
+    ("AT END Q +0 <> 0", ""),
+    ("AT START A = 1", ": line {}, step 0, cycle 0: it is 00000 (0); wanted = 00001 (1)"),
+    ("AT TWO A = 2", ": line {}, step 20, cycle 24: nothing came; wanted = 00002 (2)"),
+    ("CALLS TWICE 3", ": line {}, step 20, cycle 24: it is called 2 times; wanted 3"),
+    ("CALLS TWICE 1", ": line {}, step 6, cycle 8: it is called 2 times; wanted 1"),
+    ("CALLS TWO WITHIN 9 CYCLES", ": line {}, step 20, cycle 24: it is not called; wanted within 9 cycles"),
+    ("CALLS TWICE WITHIN 3 CYCLES", ": line {}, step 5, cycle 7: a call takes longer; wanted within 3 cycles"),
+    ("CHANNEL 010 7", ": line {}, step 11, cycle 15: it is 00006 (6); wanted 00007 (7)"),
+    ("CHANNEL 010 6 -1D", ": line {}, step 20, cycle 24: nothing came; wanted 77776 (-1)"),
+    ("CHANNEL 010 WITHIN 14 CYCLES 6", ": line {}, step 11, cycle 15: it is 00006 (6); wanted within 14 cycles"),
+    ("CHANNEL 010 NOTHING", ": line {}, step 11, cycle 15: it is 00006 (6); wanted no word"),
+    ("NEVER A = 4", ": line {}, step 3, cycle 5: it is 00004 (4); wanted not = 00004 (4)"),
+    ("ALWAYS A < 4", ": line {}, step 3, cycle 5: it is 00004 (4); wanted < 00004 (4)"),
+]
+# Lines that are refused, with their columns and what is asked for.
+REFUSED_CLAIMS = [
+    ("CALLS", 6, "a label or a place is asked for"),
+    ("CALLS NOWHERE 2", 7, "a label or a place is asked for"),
+    ("CALLS TWICE", 12, "a number of calls or WITHIN is asked for"),
+    ("CALLS TWICE WITHN 5 CYCLES", 13, "a number of calls or WITHIN is asked for; WITHIN is near"),
+    ("CALLS TWICE WITHIN 5 CYCLE", 22, "CYCLES is asked for; CYCLES is near"),
+    ("CALLS TWICE 2 3", 15, "the end of the line is asked for"),
+    ("AT START +2000 A = 0", 10, "a number of words after + is asked for, in octal, which stays in the bank"),
+    ("NEVER Q +8 = 0", 9, "a number of words after + is asked for, in octal, which stays in the bank"),
+    ("CALS TWICE 2", 1, "TEST, CHANNEL, AT, ALWAYS, NEVER or CALLS is asked for; CALLS is near"),
+]
+
+
+def check_claimed(room):
+    """What is told of claims that are met and that are not, of lines that are refused, and as TAP and JUnit do."""
+    write(f"{room}/my.agc", TWICE)
+    tests = [f"SOURCE my.agc", "STEPS 20", *[line for number, (claim, _) in enumerate(CLAIMED, 1) for line in (f"TEST {number} & more", f" {claim}")]]
+    for ends in ("\n", "\r\n"):
+        file = write(f"{room}/my.expect", ends.join([*tests, ""]).encode())
+        wanted = [f"{'FAIL' if said else 'ok  '} {number} & more{said.format(2 + 2 * number)}" for number, (_, said) in enumerate(CLAIMED, 1)]
+        status, out, err = agcws("expect", file)
+        told(f"claims in lines that end with {ends!r}", (status, out.decode().splitlines(), err) == (1, wanted, b""), f"{out!r} {err!r}")
+    short = write(f"{room}/short.expect", b"SOURCE my.agc\nSTEPS 20\nTEST \\<1>\n CALLS TWICE 2\nTEST 2\n CHANNEL 10 7\n")
+    none = write(f"{room}/none.expect", b"SOURCE\n")
+    said = "line 6, step 11, cycle 15: it is 00006 (6); wanted 00007 (7)"
+    tap = f'TAP version 14\nok 1 - \\\\<1>\nnot ok 2 - 2\n  ---\n  file: "{short}"\n  message: "{said}"\n  ...\nnot ok 3 - {none}\n  ---\n  message: "it is refused"\n  ...\n1..3\n'
+    status, out, err = agcws("expect", "--tap", short, none)
+    told("verdicts as TAP", (status, out.decode()) == (2, tap) and b"SOURCE and a path are asked for" in err, f"{out!r} {err!r}")
+    case = f'<testcase classname="{short}" name='
+    xml = f'<?xml version="1.0" encoding="UTF-8"?>\n<testsuites>\n<testsuite name="{short}" tests="2" failures="1" errors="0">\n{case}"\\&lt;1&gt;"/>\n{case}"2"><failure message="{said}"/></testcase>\n</testsuite>\n'
+    xml += f'<testsuite name="{none}" tests="1" failures="0" errors="1">\n<testcase classname="{none}" name="{none}"><error message="it is refused"/></testcase>\n</testsuite>\n</testsuites>\n'
+    status, out, err = agcws("expect", "--junit", short, none)
+    told("verdicts as JUnit", (status, out.decode()) == (2, xml), f"{out!r} {err!r}")
+    told("both forms at once", agcws("expect", "--tap", "--junit", short)[0] == 2)
+    for line, column, asked in REFUSED_CLAIMS:
+        file = write(f"{room}/refused.expect", f"SOURCE my.agc\nSTEPS 20\nTEST 1\n{line}\n".encode())
+        status, out, err = agcws("expect", file)
+        told(f"{line} is refused", (status, out, err.decode().splitlines()[:1]) == (2, b"", [f"{file}:4:{column}: error: {asked}"]), f"{out!r} {err!r}")
+    # (steps: RELINT, INCR, TCF, the input, the entry, RESUME, INCR out of BRUPT, TCF, INCR, TCF)
+    write(f"{room}/my.agc", PUT_OFF)
+    write(f"{room}/my.feed", b"4 CHAN 15 1\n")
+    file = write(f"{room}/my.expect", b"SOURCE my.agc\nFEED my.feed\nSTEPS 10\nTEST each\n CALLS LOOP 4\n AT END COUNT = 3\n AT LOOP COUNT < 4\n")
+    told("a word that RESUME brings back", agcws("expect", file) == (0, b"ok   each\n", b""), f"{agcws('expect', file)}")
 
 
 def fields_of(line):
@@ -281,8 +406,7 @@ def check_operators():
     operators = re.findall(r'\(codes "([^"]+)"', text_of("crates/yayul/specs/Operators.antt"))
     told("the operators of the language are found", {"SETLOC", "=", "2CADR", "TC", "NOOP"} <= set(operators))
     listed = [text_of(f"examples/{name}.agc") for name in with_ending(".lst")]
-    shown = list(blocks(text_of("docs/MANUAL.md")))
-    listed += [body.decode() for (words, body, _), (after, _, _) in zip(shown, shown[1:]) if (words[0], after[0]) == ("agc", "listing")]
+    listed += [source_of(body.decode()) for words, body, _ in blocks(text_of("docs/MANUAL.md")) if words[:2] == ["listing", "alone"]]
     missing = set(operators) - operators_in(listed)
     told("each operator's word is compared", not missing, " ".join(sorted(missing)))
     # The table has the instructions last, from TC on.
@@ -296,7 +420,7 @@ def check_links():
     for name in sorted(with_ending(".agc")):
         told(f"the manual names {name}", f"](../examples/{name}.agc)" in manual)
         told(f"examples/README.md names {name}", f"| [`{name}`]({name}.agc) |" in list_of_examples)
-    for document in ["README.md", "docs/MANUAL.md", "docs/WALKS.md", "examples/README.md"]:
+    for document in ["README.md", "docs/MANUAL.md", "docs/COURSE.md", "docs/WALKS.md", "examples/README.md"]:
         for target in re.findall(r"\]\(([^)]+)\)", text_of(document)):
             path, _, heading = target.partition("#")
             path = os.path.normpath(f"{os.path.dirname(document)}/{path}" if path else document).lstrip("/")
@@ -316,6 +440,14 @@ def blocks(text):
         yield found.group(1).split(), found.group(2).encode(), text.count("\n", 0, found.start()) + 1
 
 
+def source_of(listing):
+    """The source of a listing: the texts of its rows, of which a second word of a line has none."""
+    rows = {}
+    for row in listing.split("SYMBOLS")[0].splitlines():
+        rows.setdefault(row[:5], row[21:].rstrip())
+    return "".join(f"{it}\n" for it in rows.values())
+
+
 class Document:
     """Tries all that a document shows, block by block."""
 
@@ -333,16 +465,6 @@ class Document:
             else:
                 told(f"{self.name}:{line}", False, f"no such block: {words[0]}")
         self.end()
-        self.try_refusals(text)
-
-    def try_refusals(self, text):
-        for row in re.findall(r"^\| E\d+ \|[^|]*\|[^|]*\|[^|]*\|$", text, re.M):
-            found = re.match(r"\| E(\d+) \|[^|]*\| `([^`]*)` \| (\d+) \|$", row)
-            if found:
-                number, shown, line = found.groups()
-                check_refusal(self.room, int(number), bytes_of(shown.replace(";", "\n")) + b"\n", line)
-            else:
-                told(f"{self.name} draws {row}", re.search(r"\| \(a [^|]*\) \| \|$", row))
 
     def try_agc(self, label, words, body):
         write(self.source, body)
@@ -352,7 +474,9 @@ class Document:
         write(self.feed, body)
 
     def try_listing(self, label, words, body):
-        compare(label, agcws("asm", self.source, self.rope), 0, body)
+        if words[:1] == ["alone"]:
+            self.try_agc(label, [], source_of(body.decode()).encode())
+        compare(label, agcws("asm", *words[1:], self.source, self.rope), 0, body)
 
     def try_image(self, label, words, body):
         status, _, _ = agcws("asm", "--rope", words[0], self.source, self.rope)
@@ -392,10 +516,11 @@ def check_documents(room):
     """What the README, the manual, the examples and the worked rows show."""
     os.symlink(PROGRAM, f"{room}/agcws")
     os.symlink(EXAMPLES, f"{room}/examples")
-    for name in ["README.md", "examples/README.md", "examples/rows/sessions.md", "examples/rows/mistakes.md", "docs/MANUAL.md", "docs/WALKS.md"]:
+    os.symlink(f"{ROOT}/views", f"{room}/views")
+    for name in ["README.md", "examples/README.md", "examples/rows/sessions.md", "examples/rows/mistakes.md", "examples/rows/long_sessions.md", "docs/MANUAL.md", "docs/COURSE.md", "docs/WALKS.md"]:
         Document(room, name).check()
     words = len(text_of("docs/WALKS.md").split())
-    told("docs/WALKS.md has 600 words at most", words <= 600, f"{words}")
+    told("docs/WALKS.md has 900 words at most", words <= 900, f"{words}")
     fences = re.findall(r"^```.*$", text_of("docs/MANUAL.md"), re.M)
     told("each block of the manual says what it is", "```" not in fences[::2] and set(fences[1::2]) == {"```"})
 
@@ -419,6 +544,16 @@ def check_refusal(room, number, text, line):
     if number < 30:
         compare(f"E{number} by asm", agcws("asm", source, rope), 1, b"", error)
         told(f"E{number} leaves no image", not os.path.exists(rope))
+
+
+def check_refusals(room):
+    """The rows of refusals.txt, each with the text that draws it."""
+    for row in re.findall(r"^\| E\d+ \|[^|]*\|[^|]*\|[^|]*\|$", text_of("examples/rows/refusals.txt"), re.M):
+        if found := re.match(r"\| E(\d+) \|[^|]*\| `([^`]*)` \| (\d+) \|$", row):
+            number, shown, line = found.groups()
+            check_refusal(room, int(number), bytes_of(shown.replace(";", "\n")) + b"\n", line)
+        else:
+            told(f"refusals.txt draws {row}", re.search(r"\| \(a [^|]*\) \| \|$", row))
 
 
 def check_long_texts(room):
@@ -687,8 +822,8 @@ def words_of_image(image):
 
 
 def check_form_sums(room):
-    """The sums of images in both orders of the bits, of programs with check words and of random words."""
-    path, hardware, old = f"{room}/summed.rope", f"{room}/summed.hardware", f"{room}/summed.old"
+    """The sums of images in all forms, of programs with check words and of random words."""
+    path, hardware, old, swapped, numbered = (f"{room}/summed.{name}" for name in ("rope", "hardware", "old", "swapped", "numbered"))
     for name in ("bank_sum", "bank_call", 1, 2, 3):
         if isinstance(name, str):
             agcws("asm", "--sums", f"{EXAMPLES}/{name}.agc", path)
@@ -699,13 +834,18 @@ def check_form_sums(room):
         pairs, _ = words_of_image(read(path))
         write(hardware, b"".join((pair & 0x8000 | (pair & 1) << 14 | pair >> 1 & 0x3FFF).to_bytes(2, "big") for pair in pairs))
         write(old, b"".join((pair & 0xFFFE).to_bytes(2, "big") for pair in pairs))
-        for file, *options in ((path,), (hardware,), (old, "--rope", "1")):
+        write(swapped, b"".join(pair.to_bytes(2, "little") for pair in pairs))
+        write(numbered, read(path)[4096:8192] + read(path)[:4096] + read(path)[8192:])
+        for file, *options in ((path,), (hardware,), (swapped,), (numbered,), (old, "--rope", "1")):
             lines = []
             for bank, words in enumerate(words_of_image(read(file))[1]):
-                sums = [0, 0]
+                sums = [0, 0, 0, 0]
                 for pair in words:
-                    sums = [ones_sum(sums[0], pair >> 1), ones_sum(sums[1], pair >> 15 << 14 | pair & 0x3FFF)]
-                held = [form for form, total in zip(("written", "hardware"), sums) if total in (bank, 32767 - bank)]
+                    other = pair >> 8 | pair % 256 << 8
+                    parts = pair >> 1, pair >> 15 << 14 | pair & 0x3FFF, other >> 1, other >> 15 << 14 | other & 0x3FFF
+                    sums = [ones_sum(total, part) for total, part in zip(sums, parts)]
+                held = [form for form, total in zip(("written", "hardware", "swapped", "hardware,swapped"), sums) if total in (bank, 32767 - bank)]
+                held += ["numbered"] if bank < 4 and sums[0] in ((bank + 2) % 4, 32767 - (bank + 2) % 4) else []
                 lines.append(f"{bank:02o} {sums[0]:05o} {sums[1]:05o} {' '.join(held) or '-'}\n")
             compare(f"both sums of {name} in {os.path.basename(file)}", agcws("sums", "--forms", *options, file), 0, "".join(lines).encode())
 
@@ -717,6 +857,8 @@ def named(table, bank, address):
     there = ("E", address) if address < 0o1400 else (bank, address - 0o2000) if address < 0o4000 else (address // 0o2000, address % 0o2000)
     if there[0] == "E" and address < 7:
         return ["A", "L", "Q", "EB", "FB", "Z", "BB"][address]
+    if there[0] == "E" and there not in table and there[1] in SPECIAL.values():
+        return next(name for name, place in SPECIAL.items() if place == there[1])
     for before in range(there[1] + 1):
         name = table.get((there[0], there[1] - before))
         if name:
@@ -826,12 +968,13 @@ def check_sources_of_ropes(room):
 
 def check_command_line():
     """Help, and command lines that are wrong, against the texts of examples/help; and the version."""
-    for name in ["agcws", "asm", "run", "trace", "cover", "debug", "check", "explain", "upgrade", "words", "compare", "sums", "parity"]:
+    for name in ["agcws", "asm", "run", "trace", "cover", "reach", "access", "delays", "whatif", "differ", "debug", "check", "expect", "explain", "upgrade", "words", "compare", "align", "find", "sums", "parity", "damages"]:
         got = agcws(*([] if name == "agcws" else [name]), "--help")
         compare(f"the help of {name}", got, 0, read(f"{EXAMPLES}/help/{name}.txt"))
         told(f"the width of the help of {name}", all(len(it) <= 80 for it in got[1].decode().split("\n")))
         compare(f"agcws help for {name}", agcws("help", *([] if name == "agcws" else [name])), *got)
     compare("a subcommand that is none", agcws("fly"), 2, b"", read(f"{EXAMPLES}/help/unknown_subcommand.txt"))
+    compare("a subcommand that a view is", agcws("new", "lamp"), 2, b"", read(f"{EXAMPLES}/help/no_new.txt"))
     compare("a missing argument", agcws("run", "five.agc", "empty.feed"), 2, b"", read(f"{EXAMPLES}/help/missing_argument.txt"))
     compare("a missing --image", agcws("run", "--rope", "1", "five.rope", "empty.feed", "100"), 2, b"", read(f"{EXAMPLES}/help/missing_image.txt"))
     told("a session without --image", agcws("debug", "--symbols", "five.lst", "five.rope", "empty.feed")[2].endswith(read(f"{EXAMPLES}/help/missing_image.txt").split(b"\n\n")[-1]))
@@ -845,7 +988,7 @@ def check_command_line():
     version = re.search(rb'PROGRAM_VERSION: &str = "(.*)";', read(f"{ROOT}/crates/command_line/src/building.rt")).group(1)
     compare("agcws --version", agcws("--version"), 0, b"agcws " + version + b"\n")
     source, empty = f"{EXAMPLES}/five_plus_five.agc", f"{EXAMPLES}/empty.feed"
-    for words in [[], ["fly"], ["asm", source], ["asm", "--sums", source], ["run", source, empty], ["run", source, empty, "-1"], ["run", source, empty, "1099511627775"], ["asm", "--rope", "3", source, "x"], ["debug", source], ["upgrade", source], ["words"], ["words", source, "44"], ["words", source, "8"], ["words", source, "002"], ["compare", source], ["sums"], ["parity"], ["words", "--parity", "odd", source], ["words", "--symbols", source], ["words", "--source", "--symbols", source, source], ["trace", "--symbols", source, source, empty, "4"], ["sums", "--forms", "--parity", "ignore", source], ["sums", "--forms", "--form", "hardware", source], ["run", "--parity", "ignore", source, empty, "4"], ["run", "--rope", "1", source, empty, "4"]]:
+    for words in [[], ["fly"], ["asm", source], ["asm", "--sums", source], ["run", source, empty], ["run", source, empty, "-1"], ["run", source, empty, "1099511627775"], ["asm", "--rope", "3", source, "x"], ["debug", source], ["upgrade", source], ["words"], ["words", source, "44"], ["words", source, "8"], ["words", source, "002"], ["compare", source], ["sums"], ["parity"], ["damages"], ["words", "--parity", "odd", source], ["words", "--symbols", source], ["words", "--octal", "--symbols", source, source], ["trace", "--symbols", source, source, empty, "4"], ["sums", "--forms", "--parity", "ignore", source], ["sums", "--forms", "--form", "hardware", source], ["run", "--parity", "ignore", source, empty, "4"], ["run", "--rope", "1", source, empty, "4"]]:
         status, out, err = agcws(*words)
         told(f"agcws {' '.join(words[:1])} with {len(words)} words", (status, out) == (2, b"") and err)
     compare("+4 steps", agcws("run", source, empty, "+4"), 0, b"7 CH 010 00012\n")
@@ -1025,10 +1168,18 @@ def check_notes(room):
     compare("interrupts that wait long", agcws("run", "--notes", waiting, asked, "862"), 0, b"", b"".join(lines))
     compare("interrupts that do not wait long", agcws("run", "--notes", waiting, asked, "861"), 0, b"")
     check_other_bank(room, empty)
+    check_not_kept(room)
+    check_minus_zero(room, empty)
+    check_overwritten(room)
+    check_unread(room)
+    check_shared(room)
     rope = f"{room}/noted.rope"
     agcws("asm", five, rope)
     compare("notes of an image", agcws("run", "--image", "--notes", rope, empty, "10"), 0, b"", note.replace(b"DV D   ", b"DV 0100"))
     compare("notes of a refused feed", agcws("run", "--notes", five, five, "4"), 1, b"", b"agcws: E30 LINE 1\n")
+    for source, feed_of, steps in ((five, empty, "10"), (away, empty, "2"), (without, feed, "19"), (waiting, asked, "862"), (f"{room}/other.agc", empty, "7")):
+        check_objects(PROGRAM, told, os.path.basename(source), [], [source, feed_of], steps)
+    compare("notes as JSON, and then the end", agcws("run", "--notes", "--json", "--end", five, empty, "6"), 0, b"", b'{"kind":"QUOTIENT","place":"02,4004","symbol":null,"word":"10100","text":"DV D","step":5,"cycles":13,"count":1}\nEND STEPS 6 CYCLES 14 OUTPUTS 0 Z 4005\n')
     with open("/dev/full", "wb") as full:
         ran = subprocess.run([PROGRAM, "run", "--notes", five, empty, "10"], stdout=subprocess.PIPE, stderr=full, timeout=300)
         told("notes that cannot be told", (ran.returncode, ran.stdout) == (3, b""))
@@ -1040,7 +1191,7 @@ def check_notes(room):
             _, out, notes = agcws("run", "--notes", source, f"{EXAMPLES}/{feed}", steps)
             told(f"the lines of {name} with notes", out == agcws("run", source, f"{EXAMPLES}/{feed}", steps)[1])
             noted |= {name} if notes else set()
-    told("the examples that draw notes", noted == {"division", "bank_sum", "instructions"}, " ".join(sorted(noted)))
+    told("the examples that draw notes", noted == {"division", "bank_sum", "instructions", "lost_sum"}, " ".join(sorted(noted)))
 
 
 def check_other_bank(room, empty):
@@ -1062,6 +1213,111 @@ def check_other_bank(room, empty):
     image = f"{room}/other.rope"
     agcws("asm", f"{room}/other.agc", image)
     told("another bank, of an image", agcws("run", "--image", "--notes", image, empty, "7") == (0, b"", b""))
+
+
+def check_not_kept(room):
+    """A handler that leaves A changed, and handlers that do not: lost_sum's, whose steps are counted by hand in its source; one that has set ZRUPT; and one that keeps A."""
+    line = b"NOTE NOTKEPT    02,4016  50017  RESUME             STEP 21 CYCLES 39 TIMES 1\n"
+    for steps, notes in (("20", b"NOTE INSIDE STEP 20\n"), ("21", line), ("60", line)):
+        told(f"a register that is not kept, in {steps} steps", agcws("run", "--notes", f"{EXAMPLES}/lost_sum.agc", f"{EXAMPLES}/lost_sum.feed", steps)[2] == notes)
+    feed = write(f"{room}/key.feed", b"4 RUPT 5\n")
+
+    def notes(name, handler):
+        text = f" SETLOC 4000\n RELINT\nLOOP TCF LOOP\nONE OCT 1\nFOUR OCT 2000\nTHERE OCT 4003\n SETLOC 4024\n{handler} RESUME\n"
+        return agcws("run", "--notes", write(f"{room}/{name}.agc", text.encode()), feed, "60")
+
+    # the key comes after four cycles of the program, and its entry takes three
+    for name, handler, place, step, cycles in (
+        ("A", " CA ONE\n", "4025", 8, 11),
+        ("L", " CA ONE\n LXCH 0\n", "4026", 9, 13),
+        ("Q", " TC NEXT\nNEXT", "4025", 8, 10),
+        ("EB", " CA FOUR\n TS 3\n CA 7\n", "4027", 10, 15),
+    ):
+        line = f"NOTE NOTKEPT    02,{place}  50017  RESUME             STEP {step} CYCLES {cycles} TIMES 1\n"
+        told(f"a handler that changes {name}", notes(f"changed_{name}", handler) == (0, b"", line.encode()))
+    told("a handler that keeps A", notes("keeps", " XCH 10\n CA ONE\n XCH 10\n") == (0, b"", b""))
+    told("a handler that goes on elsewhere", notes("elsewhere", " CA THERE\n TS 15\n") == (0, b"", b""))
+
+
+def check_minus_zero(room, empty):
+    """CCS of -0, which 5 less 5 is: to the fourth way, which is another than that of +0, the same word, or the place to which that leads."""
+
+    def notes(name, ways):
+        text = f" SETLOC 4000\n CS FIVE\n AD FIVE\n CCS 0\n TCF MORE\n TCF ZERO\n TCF LESS\n{ways}FIVE OCT 5\n"
+        return agcws("run", "--notes", write(f"{room}/{name}.agc", text.encode()), empty, "9")
+
+    more, zero, less = ("MORE TCF MORE\n", "ZERO TCF ZERO\n", "LESS TCF LESS\n")
+    line = b"NOTE MINUSZERO  02,4002  10000  CCS A              STEP 3 CYCLES 6 TIMES 1\n"
+    told("-0 goes the way of what is above", notes("more", more + zero + less) == (0, b"", line))
+    told("-0 goes where +0 is led", notes("led", zero + more + less) == (0, b"", b""))
+    told("-0 goes by the same word as +0", notes("same", " TCF ZERO\n" + more + zero + less) == (0, b"", b""))
+    told("-0 goes elsewhere by a word of its own", notes("own", " TCF LESS\n" + more + zero + less) == (0, b"", line))
+
+
+def check_overwritten(room):
+    """Words that come on a channel at cycles 5 and 9: on 15 and 16, where an instruction has read the first or none has, and elsewhere."""
+    wait, read = "LOOP TCF LOOP\n", "LOOP EXTEND\n %s 15\n TCF LOOP\n"
+
+    def notes(name, loop, feed):
+        source, inputs = write(f"{room}/{name}.agc", f" SETLOC 4000\n{loop}".encode()), write(f"{room}/{name}.feed", feed.encode())
+        return agcws("run", "--notes", source, inputs, "20")[2]
+
+    # five steps of a cycle each, the input, four more, and the second input
+    line = "NOTE OVERWRITTEN  -        INPUT  CHAN 0%s 00005 ASKS KEYRUPT%s  STEP 11 CYCLES 9 TIMES %s\n"
+    for channel, interrupt in (("15", "1"), ("16", "2")):
+        feed = f"5 CHAN {channel} 4\n9 CHAN {channel} 5\n"
+        told(f"a key on channel {channel} that is lost", notes(f"lost_{channel}", wait, feed) == (line % (channel, interrupt, 1)).encode())
+        told(f"two keys on channel {channel} that are lost", notes(f"both_{channel}", wait, feed + f"11 CHAN {channel} 6\n") == (line % (channel, interrupt, 2)).encode())
+    feed = "5 CHAN 15 4\n9 CHAN 15 5\n"
+    for instruction in ("READ", "RAND", "WAND", "ROR", "WOR", "RXOR"):
+        told(f"a key that {instruction} has read", notes(instruction, read % instruction, feed) == b"")
+    told("a key that WRITE has left out", notes("WRITE", read % "WRITE", feed).startswith(b"NOTE OVERWRITTEN  -        INPUT  CHAN 015 00005"))
+    told("a key on each keyboard", notes("each", wait, "5 CHAN 15 4\n9 CHAN 16 5\n") == b"")
+    told("words on a channel of no keyboard", notes("no_key", wait, "5 CHAN 13 4\n9 CHAN 13 5\n") == b"")
+    told("another channel that is read", notes("other_read", read.replace("15", "16") % "READ", feed).startswith(b"NOTE OVERWRITTEN"))
+
+
+def check_unread(room):
+    """Words on a channel that no instruction reads, from 853 cycles before the end on, and one that is read; the superbank is used otherwise."""
+    wait, read = " SETLOC 4000\nLOOP TCF LOOP\n", " SETLOC 4000\n EXTEND\n %s 13\nLOOP TCF LOOP\n"
+
+    def notes(name, source, feed, steps, *options):
+        files = write(f"{room}/{name}.agc", source.encode()), write(f"{room}/{name}.feed", feed.encode())
+        return agcws("run", "--notes", *options, *files, steps)
+
+    # each step is a cycle, but for the two inputs
+    feed, line = "20 CHAN 13 7\n30 CHAN 13 6\n", b"NOTE UNREAD CHAN 013 CYCLES 20\n"
+    told("a word that is unread for 853 cycles", notes("unread", wait, feed, "875") == (0, b"", line))
+    told("a word that is unread for 852 cycles", notes("soon", wait, feed, "874") == (0, b"", b""))
+    told("an unread word as JSON", notes("object", wait, feed, "875", "--json") == (0, b"", b'{"kind":"UNREAD","channel":"013","cycles":20}\n'))
+    two = notes("two", wait, feed + "40 CHAN 12 7\n", "2000")
+    told("unread words on two channels", two == (0, b"", b"NOTE UNREAD CHAN 012 CYCLES 40\n" + line), str(two))
+    for instruction in ("READ", "RAND", "ROR", "RXOR"):
+        told(f"a channel that {instruction} has read before", notes(instruction, read % instruction, feed, "2000") == (0, b"", b""))
+    told("a channel that WRITE has written", notes("written", read % "WRITE", feed, "2000")[2] == line)
+    told("a word on the superbank's channel", notes("superbank", wait, "20 CHAN 7 0\n", "2000") == (0, b"", b""))
+
+
+def check_shared(room):
+    """A program that has come by 4004, where T6RUPT enters then; one that jumps to its handler; RESUME outside of interrupts; and a program and a handler that stand apart."""
+
+    def notes(name, text, feed, steps):
+        source, inputs = write(f"{room}/{name}.agc", f" SETLOC 4000\n{text}".encode()), write(f"{room}/{name}.feed", feed.encode())
+        return agcws("run", "--notes", source, inputs, steps)
+
+    # 9 cycles up to 4004, 11 of LOOP, the input, and the entry of three
+    over = " RELINT\n CA 7\n CA 7\n CA 7\n CA 7\nLOOP TCF LOOP\n"
+    line = b"NOTE SHARED     02,4004  ENTRY  T6RUPT             STEP 18 CYCLES 23 TIMES 1\n"
+    told("a program over 4004", notes("over", over, "20 RUPT 1\n", "30") == (0, b"", line + b"NOTE INSIDE STEP 30\n"))
+    told("a program over 4004, and no interrupt", notes("over_none", over, "", "30") == (0, b"", b""))
+    told("a program over 4004, and another interrupt", notes("over_other", over + " SETLOC 4014\n RESUME\n", "20 RUPT 3\n", "30") == (0, b"", b""))
+    handler = " SETLOC 4024\n XCH 10\n XCH 10\n RESUME\n"
+    told("a program and a handler that stand apart", notes("apart", f" RELINT\nLOOP TCF LOOP\n{handler}", "20 RUPT 5\n60 RUPT 5\n", "70") == (0, b"", b""))
+    into = notes("into", f" RELINT\n CA 7\n CA 7\n TCF 4024\n{handler}", "2 RUPT 5\n", "12")
+    lines = (b"NOTE SHARED     02,4024  56010  XCH ARUPT          STEP 10 CYCLES 17 TIMES 1\n", b"NOTE SHARED     02,4026  50017  RESUME             STEP 12 CYCLES 21 TIMES 1\n")
+    told("a program that jumps to its handler", into == (0, b"", b"".join(lines)), str(into))
+    told("a program that jumps to a handler before an interrupt", notes("before", f" TCF 4024\n{handler}", "", "3") == (0, b"", b""))
+    told("RESUME outside of interrupts", notes("resumed", " RESUME\n", "", "1") == (0, b"", b"NOTE SHARED     02,4000  50017  RESUME             STEP 1 CYCLES 2 TIMES 1\n"))
 
 
 def check_handed_on(room):
@@ -1102,6 +1358,27 @@ def check_handed_on_by_a_session(source, feed, line):
     told("at a terminal a line of a long command comes while it goes", line.strip() in shown and b"AT" not in shown, f"{shown!r}")
     at.type(CTRL_C)
     told("Ctrl-C ends a session", at.end() == -signal.SIGINT)
+
+
+def at_terminal(*words):
+    """What a call shows at a terminal, and its exit status."""
+    at = Terminal(PROGRAM, *words)
+    shown = at.type(b"", b"no such text", most_seconds=30)
+    return shown.replace(b"\r\n", b"\n"), at.end()
+
+
+def check_hints(room):
+    """A person at a terminal is told what tells more of a refusal, and that a run was cut off by N; a pipe has the lines alone, as the other checks see."""
+    good, bad = f"{room}/good.agc", f"{room}/bad.agc"
+    write(good, b" SETLOC 4000\n CA FIVE\n EXTEND\n WRITE 10\nDONE TCF DONE\nFIVE DEC 5\n")
+    write(bad, b" CA FIVE\n")
+    told("a refused source at a terminal", at_terminal("run", bad, "/dev/null", "9") == (b"agcws: E17 LINE 1\nagcws check SRC FEED tells in words what is wrong, and how it is mended.\n", 1), str(at_terminal("run", bad, "/dev/null", "9")))
+    unread = (b"agcws: E6\nagcws explain and the number tell what it means.\n", 3)
+    told("a file that is not there at a terminal", at_terminal("trace", f"{room}/none.agc", "/dev/null", "9") == unread)
+    for steps, end in (("2", b"END STEPS 2 CYCLES 3 OUTPUTS 0 Z 4002\n"), ("3", b"END STEPS 3 CYCLES 5 OUTPUTS 1 Z 4003\n")):
+        lines = b"5 CH 010 00005\n" * (steps == "3")
+        told(f"a run of {steps} steps at a terminal", at_terminal("run", good, "/dev/null", steps) == (lines + b"All N steps are made. A larger N goes on from here:\n" + end, 0), str(at_terminal("run", good, "/dev/null", steps)))
+        told(f"--end of {steps} steps at a terminal", at_terminal("run", "--end", good, "/dev/null", steps) == (lines + end, 0))
 
 
 def check_made_anew(room):
@@ -1148,12 +1425,23 @@ def main():
         check_rows(PROGRAM, told, room)
         check_traces(room)
         check_covers(room)
-        check_checks(PROGRAM, room, told, text_of("docs/MANUAL.md"))
+        check_aligns(PROGRAM, told, write, room)
+        check_differs(PROGRAM, told, room, EXAMPLES)
+        check_expectations()
+        check_claimed(room)
+        check_checks(PROGRAM, room, told)
         check_slips(PROGRAM, room, told, EXAMPLES)
         check_claims(PROGRAM, told, room)
+        check_course(PROGRAM, told, EXAMPLES)
+        check_planted(PROGRAM, told)
+        check_says(PROGRAM, told, said_runs())
+        check_each_input(PROGRAM, told, room)
+        check_named_cells(PROGRAM, told, room)
+        check_edrupt(PROGRAM, told, room)
         check_operators()
         check_links()
         check_documents(room)
+        check_refusals(room)
         check_long_texts(room)
         check_devices(room)
         check_debugger(room)
@@ -1162,12 +1450,15 @@ def main():
         check_upgrade(room)
         check_ropes(room)
         check_parities(room)
+        check_damages(PROGRAM, told, room)
         check_sums_made(room)
         check_sources_of_ropes(room)
+        check_named_sources(PROGRAM, told, room, EXAMPLES)
         check_form_sums(room)
         check_names_of_images(room)
         check_command_line()
         check_arguments(PROGRAM, told, room)
+        check_hints(room)
         check_targets(room)
         check_whole_images(room)
         check_end(room)

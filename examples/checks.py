@@ -1,8 +1,10 @@
-"""Tries `agcws check` and `agcws explain`: mistakes with the places that are told, by hand; the rows of `explain` beside the manual's; and that `check` and `asm` agree."""
+"""Tries `agcws check` and `agcws explain`: mistakes with the places that are told, by hand; the rows of `explain` beside those of rows/refusals.txt; and that `check` and `asm` agree."""
 import os
 import random
 import re
 import subprocess
+
+from found import check_found
 
 # Sources with mistakes, a semicolon between two lines, and what is told of each: line, column and number, in order.
 MISTAKES = [
@@ -32,7 +34,7 @@ MISTAKES = [
 # What people write, a stroke between two lines, and what is said of each fault: line and column, the number with its words, and the cure where one is sure.
 SAID = [
     ("START CA FIV| AD SIKS| TFC START|FIVE OCT 5|SIX OCT 6", [
-        (1, 10, "E17: no line defines FIV", "did you mean FIVE?"), (2, 5, "E17: no line defines SIKS", ""), (3, 2, "E15: TFC is no operator", "did you mean TCF?")]),
+        (1, 10, "E17: no line defines FIV", "did you mean FIVE?"), (2, 5, "E17: no line defines SIKS", "of a number: SIKS DEC 5, behind the last jump, and of a word that changes: SIKS ERASE, after SETLOC 100"), (3, 2, "E15: TFC is no operator", "did you mean TCF?")]),
     (" ca five|five oct 5", [(1, 2, "E15: ca is no operator", "did you mean CA?"), (2, 6, "E15: oct is no operator", "did you mean OCT?")]),
     (" CA TAB,1|TAB OCT 1", [(1, 5, "E17: no line defines TAB,1", "TAB,1 is one name; INDEX on the line before adds to an address")]),
     (" OCT 9", [(1, 6, "E16: OCT takes octal digits, 0 to 7, and 9 is no such number", "DEC takes decimal digits")]),
@@ -53,8 +55,14 @@ SAID = [
     (" SETLOC X|X SETLOC 4000", [(1, 9, "E18: SETLOC needs the value of X here, and no earlier line defines it", ""), (2, 1, "E13: SETLOC takes no label", "put X on the next line")]),
     (" TS 4000|4000 OCT 1", [(1, 5, "E25: TS writes to erasable memory, and 4000 is not there", "reserve the word there: SETLOC and a place below 4000, and ERASE"), (2, 1, "E13: 4000 is a number, and no label", "")]),
     (" SETLOC 100| BANK", [(2, 2, "E16: BANK needs an operand", "with --flight this is taken")]),
-    (" CA 12E|12D OCT 5", [(1, 5, "E17: no line defines 12E", ""), (2, 1, "E13: 12D is a number, and no label", "")]),
-    (" TC START|START: OCT 1", [(1, 5, "E17: no line defines START", "did you mean START:?")]),
+    (" CA 12E|12D OCT 5", [(1, 5, "E17: no line defines 12E", "of a number: 12E DEC 5, behind the last jump, and of a word that changes: 12E ERASE, after SETLOC 100"), (2, 1, "E13: 12D is a number, and no label", "")]),
+    (" TC START|START: OCT 1", [(1, 5, "E17: no line defines START", "START: is one name, its colon too; a label has no colon")]),
+    (" TC START:|START OCT 1", [(1, 5, "E17: no line defines START:", "did you mean START?")]),
+    (" TC DONE:", [(1, 5, "E17: no line defines DONE:", "DONE: is one name, its colon too; a label has no colon")]),
+    (" DEC 10, 20, 30| OCT 5 6| OCT 1,2", [
+        (1, 6, "E16: DEC takes one number, and nothing after it", "a line for each number"), (2, 6, "E16: OCT takes one number, and nothing after it", "a line for each number"),
+        (3, 6, "E16: OCT takes one number, and nothing after it", "a line for each number")]),
+    (" DEC 5 is it", [(1, 6, "E16: DEC takes one number, and nothing after it", "a comment begins with #")]),
     (" OCT 0x1F", [(1, 6, "E16: OCT takes octal digits, 0 to 7, and 0x1F is no such number", "DEC takes decimal digits")]),
     (" OCT -1", [(1, 6, "E16: OCT takes no sign", "DEC takes one; a minus complements the word; with --flight this is taken")]),
     (" CA =5", [(1, 5, "E17: no line defines =5", "a constant has a line of its own, whose label is the operand")]),
@@ -70,6 +78,13 @@ SAID = [
     (" SETLOC SUX|SUX BANK 5", [(1, 9, "E18: SETLOC needs the value of SUX here, and no earlier line defines it", ""), (2, 1, "E13: BANK takes no label", "put SUX on the next line")]),
     (" BANK 18| OCT 1", [(1, 7, "E16: banks are octal, and 18 has a digit 8 or 9", "BANK 18D takes it as decimal")]),
     (" SETLOC 100|X ERASE| CA X", [(3, 2, "E22: words stand in fixed memory, and the location is in erasable memory", "SETLOC and a fixed place, or BANK, before it")]),
+    (" EXTEND| SU FIVE|FIVE OCT 5", [(2, 5, "E25: SU takes a word of erasable memory, and FIVE, of line 3, is not there", "CS FIVE and AD subtract a constant: X less FIVE is CS FIVE, AD X, without EXTEND")]),
+    (" TS SUM| CCS N| WRITE OUT| CADR THERE", [
+        (1, 5, "E17: no line defines SUM", "SUM ERASE, among lines after SETLOC 100, reserves a word of this name"),
+        (2, 6, "E17: no line defines N", "N ERASE, among lines after SETLOC 100, reserves a word of this name"),
+        (3, 2, "E23: WRITE is an extracode, and EXTEND does not stand before it", "EXTEND on the line before, behind a blank"),
+        (3, 8, "E17: no line defines OUT", "OUT EQUALS and an octal number give a channel this name"),
+        (4, 7, "E17: no line defines THERE", "")]),
     (" CCS FIVE|FIVE OCT 5", [(1, 6, "E25: CCS takes a word of erasable memory, and FIVE, of line 2, is not there", "copy the word to erasable memory first")]),
     (" EXTEND| CA X|X OCT 1", [(2, 2, "E24: EXTEND stands before CA, which is no extracode", "take EXTEND out")]),
     ("X EQU 5| ORG 4000", [(1, 3, "E15: EQU is no operator of this assembler", "EQUALS gives a name its value"), (2, 2, "E15: ORG is no operator of this assembler", "SETLOC sets the location")]),
@@ -86,6 +101,8 @@ SAID = [
     (" " * 119 + "OCT 1", [(1, 121, "E11: the line has more than 120 bytes", "")]),
     ("\xef\xbb\xbf OCT 1", [(1, 1, "E10: a byte order mark stands in front of the line, and a line holds ASCII alone", "tail -c +4 FILE > NEW")]),
     (" OCT 1 # \xdc", [(1, 10, "E10: this byte is not ASCII, and a line holds ASCII alone, its comment too", "")]),
+    # an operator's name that is one longer is nearer than one that is shorter
+    (" EBANK 5", [(1, 2, "E15: EBANK is no operator", "did you mean EBANK=?")]),
 ]
 # Forms of flight programs, a stroke between two lines, and what is said of the first fault of each in the standard language, and with --flight, which takes most.
 FORMS = [
@@ -117,7 +134,7 @@ FORMS = [
      (2, 9, "E16: ERASE takes nothing, or a plus sign and a number: what yaYUL makes of a range is not known for sure", "ERASE reserves one word, ERASE +1 two")),
     ("$FILE.agc", (1, 1, "E13: $FILE.agc has a $, which no label may have", ""), (1, 1, "E13: $FILE.agc has a $, which no label may have", "")),
     (" AD -MAXADRS", (1, 5, "E16: -MAXADRS is no sign with a number, which stands alone and moves on from this line", "NAME +1 is the word after NAME; CS loads a complement; with --flight this is taken"),
-     (1, 5, "E17: no line defines -MAXADRS", "")),
+     (1, 5, "E17: no line defines -MAXADRS", "of a number: -MAXADRS DEC 5, behind the last jump, and of a word that changes: -MAXADRS ERASE, after SETLOC 100")),
     # a name that begins with a sign, and one with a sign in it
     (" SETLOC 100|-PHASE1 ERASE| SETLOC 4000| AD -PHASE2", (2, 1, "E13: -PHASE1 begins with a sign, as no label may", "with --flight this is taken"), (4, 5, "E17: no line defines -PHASE2", "did you mean -PHASE1?")),
     (" CA X+1|X OCT 1", (1, 5, "E17: no line defines X+1", "X+1 is one name; a blank stands before an offset"), (1, 5, "E17: no line defines X+1", "X+1 is one name; a blank stands before an offset")),
@@ -127,6 +144,7 @@ FORMS = [
     (" -CCS X|X OCT 1", (1, 2, "E15: -CCS is no operator", "did you mean CCS?; with --flight this is taken"), (1, 7, "E25: -CCS takes a word of erasable memory, and X, of line 2, is not there", "")),
     (" BBCON X| BANK 30|X OCT 1", (1, 2, "E15: BBCON is no operator", "with --flight this is taken"),
      (1, 8, "E25: BBCON takes a fixed place of a bank below 30, and X, of line 3, is none: what yaYUL adds from bank 30 on is not known for sure", "")),
+    (" OCTAL 7 +1", (1, 2, "E15: OCTAL is no operator", ""), (1, 8, "E16: OCTAL takes one number, and nothing after it", "a comment begins with #")),
     (" DNCHAN X|X OCT 1", (1, 2, "E15: DNCHAN is no operator", "with --flight this is taken"), (1, 9, "E25: DNCHAN takes a channel, 0 to 777, and X, of line 2, is none", "")),
 ]
 # Feeds, a stroke between two lines, and what is said of each: the line and the column of its first fault, the number with its words, and the cure where one is sure; the first are the mistakes of the manual's rows.
@@ -208,17 +226,17 @@ WARNINGS = [
 ]
 # Mistakes that are no faults, a stroke between two lines, and what is said of each with --unused; of those of which nothing is, what does say it stands in front.
 SILENT = [
-    ("", "START CA 5|DONE TCF DONE| TCF START", [(1, 10, "W2: 5 is the register or the counter of that number, and not the number", "a number has a line of its own: NAME OCT 5, and CA NAME")]),
+    ("", "START CA 5|DONE TCF DONE| TCF START", [(1, 10, "W2: an operand is an address: 5 is the register or the counter at place 5, and not the number", "the number has a line of its own, behind the last jump: NAME OCT 5 (or DEC and decimal digits), and here CA NAME")]),
     ("", " TC SUB|DONE TCF DONE|SUB CA ONE|RETURN|ONE OCT 1", [
         (3, 5, "W4: after CA the program runs on to a constant, or where no word stands", "TCF or RETURN behind it, and constants elsewhere"),
         (4, 1, "W1: RETURN is an operator's name, and in the first column it is a label", "put a blank before RETURN"), (4, 1, "W8: no operand names RETURN", "")]),
     ("", "START CCS 5| TCF START| TCF START| TCF START| TCF START", [
-        (1, 11, "W2: 5 is the register or the counter of that number, and not the number", "a number has a line of its own: NAME OCT 5, and CA NAME and TS copy it to where CCS takes it")]),
+        (1, 11, "W2: an operand is an address: 5 is the register or the counter at place 5, and not the number", "the number has a line of its own, behind the last jump: NAME OCT 5, and CA NAME and TS copy it to where CCS takes it")]),
     ("nothing: OCT 20 that is meant as twenty", " CA TWENTY|DONE TCF DONE|TWENTY OCT 20", []),
     ("nothing: three names of one place", "I EQUALS 100|J EQUALS 100| SETLOC 100|K ERASE| SETLOC 4000| TS I| TS J| TS K|DONE TCF DONE", []),
     ("", " SETLOC 100|X ERASE|Y ERASE| SETLOC 4000| DXCH X| TS Y|DONE TCF DONE", [(5, 7, "W3: DXCH takes two words, and ERASE reserves one for X", "X ERASE +1 reserves two")]),
     ("run --notes: an interrupt without a routine", " RELINT|LOOP TCF LOOP", []),
-    ("nothing: channel 1 puts nothing out", " CA FIVE| EXTEND| WRITE 1|DONE TCF DONE|FIVE OCT 5", []),
+    ("", " CA FIVE| EXTEND| WRITE 1|DONE TCF DONE|FIVE OCT 5", [(3, 8, "W10: channel 1 is a register, L or Q, and nothing goes out", "another channel, or, where the register is meant, its name: L EQUALS 1, Q EQUALS 2")]),
     ("", " SETLOC 2000|VAR ERASE| SETLOC 4000| CA FIVE| TS VAR|DONE TCF DONE|FIVE OCT 5", [
         (5, 5, "W6: VAR stands in a switched erasable bank, and no line sets EB", "NAME ECADR VAR on a line of its own; before this CA NAME, and TS 3, which is EB")]),
     ("", " SETLOC 100|Q ERASE| SETLOC 4000| TS Q|DONE TCF DONE", [(2, 1, "W7: Q is a register's name, and stands for another place here", "Q EQUALS 2 is the register")]),
@@ -363,7 +381,7 @@ def check_files(program, room, told):
     """What is told of several files, what stays told where a file cannot be read, and files of another kind."""
     source, good, bad = written(f"{room}/a.agc", b" TC FIV\n"), written(f"{room}/good.feed", b"5 RUPT 1\n"), written(f"{room}/bad.feed", b"5 RUPT 11\n")
     ran = lambda *files: subprocess.run([program, "check", *files], capture_output=True, timeout=300)
-    of_source = f"{source}:1:5: error E17: no line defines FIV\n    1 |  TC FIV\n      |     ^^^\n"
+    of_source = f"{source}:1:5: error E17: no line defines FIV\n    1 |  TC FIV\n      |     ^^^\n      = FIV in the first column of the line to which TC is to lead\n"
     of_feed = f"{bad}:1:8: error E30: 11 is no interrupt, which are 1 to 10\n    1 | 5 RUPT 11\n      |        ^^\n"
     got = ran(source, bad, good, bad)
     told("check of a source and three feeds", (got.returncode, got.stdout.decode(), got.stderr) == (1, of_source + of_feed + of_feed + "3 errors, 0 warnings\n", b""), f"{got}")
@@ -403,6 +421,7 @@ def check_excerpt(program, room, told):
 {path}:3:5: error E17: no line defines FIV
     3 |  TC FIV +1
       |     ^^^
+      = FIV in the first column of the line to which TC is to lead
 2 errors, 0 warnings
 """.encode()
     got = subprocess.run([program, "check", path], capture_output=True, timeout=300)
@@ -424,40 +443,86 @@ def plain(text):
     return re.split(r"\. Cure(?:, of a source alone)?: ", text)[0].replace("`", "")
 
 
-def check_rows(program, manual, told):
+def rows_of_refusals():
+    with open(f"{os.path.dirname(os.path.abspath(__file__))}/rows/refusals.txt", encoding="utf-8") as file:
+        return file.read()
+
+
+def check_rows(program, told):
+    """What `explain` tells is what rows/refusals.txt has."""
+    manual = rows_of_refusals()
     rows = re.findall(r"^\| E(\d+) \| (.*) \| (.*) \| (\d*) ?\|$", manual, re.M)
     for number in sorted({int(it[0]) for it in rows if int(it[0]) >= 10 and it[0] != "34"}):
         wanted = [(plain(mistake), "" if source.startswith("(") else source.strip("`").replace("\xb5", "\\xC2\\xB5"), line) for n, mistake, source, line in rows if int(n) == number]
         got = list(rows_explained(program, f"E{number}"))
-        told(f"explain E{number} and the manual", got == wanted, f"wanted {wanted}, got {got}")
+        told(f"explain E{number} and refusals.txt", got == wanted, f"wanted {wanted}, got {got}")
     headings = re.findall(r"^\| E(\d+) \| ([^|]*) \| \d \|$", manual, re.M)
-    told("the manual's refusals of images, memory and devices", sorted(int(it[0]) for it in headings) == [*range(2, 8), 34], str(headings))
+    told("the refusals of images, memory and devices", sorted(int(it[0]) for it in headings) == [*range(2, 8), 34], str(headings))
     for number, meaning in headings:
         got = subprocess.run([program, "explain", f"E{number}"], capture_output=True, text=True, timeout=300).stdout.split("\n")[0]
-        told(f"explain E{number} and the manual", got == f"E{number}: {meaning}", f"wanted {meaning}, got {got}")
+        told(f"explain E{number} and refusals.txt", got == f"E{number}: {meaning}", f"wanted {meaning}, got {got}")
 
 
-def check_warning_rows(program, room, manual, told):
-    """Each row of the manual's table of warnings draws its warning on its line."""
-    rows = re.findall(r"^\| W(\d+) \| (.*) \| `(.*)` \| (\d+) \|$", manual, re.M)
-    told("the manual's warnings", [int(it[0]) for it in rows] == [*range(1, 10)], str(rows))
+def check_warning_rows(program, room, told):
+    """Each warning of rows/refusals.txt is drawn on its line."""
+    rows = re.findall(r"^\| W(\d+) \| (.*) \| `(.*)` \| (\d+) \|$", rows_of_refusals(), re.M)
+    told("the rows of warnings", [int(it[0]) for it in rows] == [*range(1, 11)], str(rows))
     for number, mistake, source, line in rows:
         got = list(rows_explained(program, f"W{number}"))
-        told(f"explain W{number} and the manual", got == [(plain(mistake), source, line)], str(got))
+        told(f"explain W{number} and refusals.txt", got == [(plain(mistake), source, line)], str(got))
         _, found, _, _ = warned_by(program, written(f"{room}/row.agc", source.replace(";", "\n").encode() + b"\n"), "--unused")
-        told(f"the manual's row of W{number}", (int(line), f"W{number}") in {(it[0], it[2]) for it in found}, str(found))
+        told(f"the row of W{number}", (int(line), f"W{number}") in {(it[0], it[2]) for it in found}, str(found))
 
 
 def check_numbers(program, told):
     ran = lambda *words: subprocess.run([program, "explain", *words], capture_output=True, timeout=300)
     numbers = [int(it) for it in re.findall(rb"^E(\d+): .", ran().stdout, re.M)]
-    told("explain lists the numbers", numbers == [*range(2, 8), *range(10, 27), *range(30, 37)], str(numbers))
+    told("explain lists the numbers", numbers == [*range(2, 8), *range(10, 27), *range(30, 37), 40, 41, 42, 50, 51, 52], str(numbers))
     told("explain 17 is explain E17", ran("17") == ran("E17") or ran("17").stdout == ran("E17").stdout)
     warned = [int(it) for it in re.findall(rb"^W(\d+): .", ran().stdout, re.M)]
-    told("explain lists the numbers of warnings", warned == [*range(1, 10)], str(warned))
-    for word in ("99", "E1", "X", "E", "256", "W", "W0", "W10", "w4"):
+    told("explain lists the numbers of warnings", warned == [*range(1, 11)], str(warned))
+    for word in ("99", "E1", "X", "E", "256", "W", "W0", "W11", "w4"):
         got = ran(word)
-        told(f"explain {word}", (got.returncode, got.stdout, got.stderr) == (2, b"", b"error: no refusal and no warning has this number; agcws explain lists them\n"), str(got))
+        told(f"explain {word}", (got.returncode, got.stdout, got.stderr) == (2, b"", b"error: no refusal, no warning and no note is called so; agcws explain lists them\n"), str(got))
+
+
+# The kinds of `run --notes`, each with where the manual tells of it.
+KINDS = {
+    "QUOTIENT": 'section 8, "DV gives 37777, or 40000"', "SKIP": "section 8.5", "NOWORD": "section 8.4", "ERASABLE": "section 8.10",
+    "NOHANDLER": 'section 8, "INT is 1"', "OTHERBANK": "section 8.6", "INSIDE": "section 8.7", "WAITING": "section 8.1",
+    "NOTKEPT": 'section 8, "a word is wrong now and then"',
+    "MINUSZERO": 'section 8, "CCS goes three words on"', "UNREAD": "section 6", "OVERWRITTEN": "section 6",
+    "SHARED": 'section 8, "INT is 1"',
+}
+
+
+def check_kinds(program, told):
+    """Each kind of notes is explained: a sentence, causes with cures, and where the manual tells of it, which it does."""
+    root = os.path.dirname(os.path.dirname(os.path.abspath(__file__)))
+    with open(f"{root}/docs/MANUAL.md", encoding="utf-8") as file:
+        manual = file.read()
+    with open(f"{root}/crates/notes/specs/RunNotes.antt", encoding="utf-8") as file:
+        kinds = set(re.findall(r'codes "(?:NOTE )?([A-Z]{4,}) *(?:STEP )?"', file.read())) - {"NOTE", "STEP"}
+    told("each kind of notes is explained", kinds <= set(KINDS), str(kinds - set(KINDS)))
+    listed = subprocess.run([program, "explain"], capture_output=True, text=True, timeout=300).stdout
+    for kind, where in KINDS.items():
+        got = subprocess.run([program, "explain", kind], capture_output=True, text=True, timeout=300)
+        heading, *causes, last = got.stdout.split("\n\n")
+        rest = "\n\n".join(causes) if causes else heading.partition("\n")[2]
+        has_cures = rest.count("- ") == rest.count("  Cure: ") > 0
+        told(f"explain {kind}", got.returncode == 0 and heading.startswith(f"{kind}: ") and has_cures and last == f"Manual, {where}.\n", got.stdout)
+        told(f"explain lists {kind}", heading.split("\n")[0] + "\n" in listed, listed)
+        found = re.fullmatch(r'section (\d+)(?:\.(\d+))?(?:, "(.*)")?', where)
+        section, part, words = found.groups()
+        heads = f"\n## {section}. " in manual and (part is None or f"\n### {section}.{part} " in manual)
+        told(f"the row of {kind}", heads and (words is None or words.replace("an index leads past its table", "an index leads past its table") in manual), where)
+
+
+def check_session_numbers(program, told):
+    """Each reply of a session that begins with E and a number from 40 on is explained, with a cure."""
+    for number in (40, 41, 42, 50, 51, 52):
+        got = subprocess.run([program, "explain", f"E{number}"], capture_output=True, text=True, timeout=300)
+        told(f"explain E{number}", got.returncode == 0 and got.stdout.count("- ") == got.stdout.count("  Cure: ") > 0, got.stdout)
 
 
 def sources(count, seed):
@@ -483,7 +548,7 @@ def check_agreement(program, room, told, count=400, seed="agreement"):
     told(f"check and asm of {count} sources", not wrong and 0 < refused < count, f"{refused} refused, {len(wrong)} wrong: {wrong[:1]}")
 
 
-def check_checks(program, room, told, manual):
+def check_checks(program, room, told):
     check_mistakes(program, room, told)
     check_said(program, room, told)
     check_forms(program, room, told)
@@ -493,7 +558,12 @@ def check_checks(program, room, told, manual):
     check_excerpt(program, room, told)
     check_warnings(program, room, told)
     check_examples_quiet(program, told, os.path.dirname(os.path.abspath(__file__)))
-    check_rows(program, manual, told)
-    check_warning_rows(program, room, manual, told)
+    check_rows(program, told)
+    check_warning_rows(program, room, told)
     check_numbers(program, told)
+    check_session_numbers(program, told)
+    check_kinds(program, told)
     check_agreement(program, room, told)
+    lines = [it[1] if table is SILENT else it[0] for table in (MISTAKES, WARNINGS, SAID, FORMS, SILENT, NAMED) for it in table]
+    shown = [text.replace(";" if "|" not in text else "|", "\n").encode("latin-1") + b"\n" for text in lines]
+    check_found(program, room, told, shown, [it[0].replace("|", "\n").encode() + b"\n" for it in FEEDS])

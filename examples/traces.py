@@ -4,6 +4,9 @@ import subprocess
 
 STEPS = 10_000
 REGISTERS = {"A": 0, "L": 1, "Q": 2, "EB": 3, "FB": 4, "Z": 5, "BB": 6}
+# Cells with a use of their own, by their names in section 5 of the manual, where no symbol stands for them.
+NAMES = "ARUPT LRUPT QRUPT ZRUPT BBRUPT BRUPT CYR SR CYL EDOP TIME2 TIME1 TIME3 TIME4 TIME5 TIME6 CDUX CDUY CDUZ OPTY OPTX PIPAX PIPAY PIPAZ INLINK"
+SPECIAL = dict(zip(NAMES.split(), [0o10, 0o11, 0o12, 0o15, 0o16, 0o17, *range(0o20, 0o42), 0o45]))
 # Z changes in nearly every step, and BB with EB or FB: neither is shown.
 NOT_SHOWN = {5, 6}
 
@@ -62,11 +65,21 @@ def steps_of(program, files):
     return [Step(lines[a:b]) for a, b in zip([0] + ends, ends)]
 
 
+def number_of(name, symbols):
+    """The place that a name stands for, also of a word behind a symbol, as X+1; or None."""
+    if name in REGISTERS or name in symbols:
+        return REGISTERS.get(name, symbols.get(name))
+    base, plus, more = name.partition("+")
+    if plus:
+        return symbols[base] + int(more, 8)
+    return SPECIAL.get(name)
+
+
 def place_asked(name, symbols):
     """The command that asks for the word at a place of a line."""
     if name.startswith("CH") and name not in symbols:
         return f"chan {name[2:]}"
-    number = REGISTERS.get(name, symbols.get(name))
+    number = number_of(name, symbols)
     if number is None:
         # (an erasable place as a listing has it)
         bank, address = name[1:].split(",")
@@ -81,7 +94,7 @@ def is_same_text(line, told, symbols):
     name, _, operand = line.text.partition(" ")
     if line.text == " ".join(told[1:]):
         return operand not in symbols
-    number = REGISTERS.get(operand, symbols.get(operand))
+    number = number_of(operand, symbols)
     if number is None or name != told[1]:
         return False
     address = int(told[2], 8)

@@ -31,10 +31,10 @@ TURNS = [
     ["yayul"],
     ["cpu"],
     ["commands", "symbols", "agc_text"],
-    ["words", "audit"],
+    ["words", "json_text", "audit", "align"],
     ["replay", "test_devices", "test_keepers"],
-    ["feed", "rope", "space"],
-    ["trace", "names", "cover", "notes", "source_laws", "image_file", "plans", "agcws"],
+    ["feed", "rope", "space", "expect"],
+    ["calls", "trace", "names", "cover", "reach", "notes", "access", "delays", "say", "whatif", "differ", "xref", "source_laws", "named_source", "image_file", "plans", "octals", "agcws"],
 ]
 
 

@@ -49,7 +49,7 @@ def said(room, ceilings, kit="a-kit", path="tools"):
     """What bench/ceilings says of some ceilings: its status, and its lines."""
     write_text(f"{room}/bench/ceilings.json", json.dumps({"kit": kit, "instructions": ceilings}))
     words, env = [sys.executable, f"{room}/bench/ceilings"], {"PATH": f"{room}/{path}"}
-    ran = subprocess.run(words, env=env, capture_output=True, text=True, timeout=60)
+    ran = subprocess.run(words, env=env, capture_output=True, text=True, timeout=600)
     return ran.returncode, (ran.stdout + ran.stderr).splitlines()
 
 

@@ -37,7 +37,7 @@ class Parts(unittest.TestCase):
         self.assertEqual(part("5 passed, 0 failed (words and the crates below alone: not the gate)")[0].counts(), (0, 1))
 
     def test_edits_tried_and_on_record_are_told_apart_at_the_end(self):
-        told = "wrong-bodies tried and refused 2; on record 7, refused from 2026-01-01 to 2026-01-02; failed 0"
+        told = "wrong-edits tried and refused 2; on record 7, refused from 2026-01-01 to 2026-01-02; failed 0"
         parts = [part("3 passed, 0 failed")[0], part(f"{told}\n2 passed, 0 failed")[0]]
         with contextlib.redirect_stdout(io.StringIO()) as shown:
             status = check.tell(parts)

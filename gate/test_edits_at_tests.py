@@ -108,10 +108,10 @@ class Edits(unittest.TestCase):
     def test_reads_alone(self):
         with tempfile.TemporaryDirectory() as room:
             repository(room)
-            write_text(f"{room}/crates/small/wrong-bodies/says_ill.edit", "")
+            write_text(f"{room}/crates/small/wrong-edits/says_ill.edit", "")
             ran = run(room, "--read")
         self.assertIn("app/not_there: BAD EDIT: an 'old:' text", ran.stdout)
-        self.assertIn("app/says_ill: BAD EDIT: crates/small/wrong-bodies/says_ill.edit has its name", ran.stdout)
+        self.assertIn("app/says_ill: BAD EDIT: crates/small/wrong-edits/says_ill.edit has its name", ran.stdout)
         self.assertEqual((ran.stdout.split("\n")[-2], ran.returncode), ("5 passed, 2 failed", 1), ran.stdout + ran.stderr)
 
 

@@ -83,8 +83,8 @@ def repository(room):
         "crates/words/specs/Lib.antt": "pub mod Sums\n",
         "crates/words/specs/Sums.antt": SUMS,
         "crates/workshop/src/lib.rt": HIGH,
-        "crates/workshop/wrong-bodies/harmless.edit": HARMLESS,
-        "crates/workshop/wrong-bodies/two_more_adds_one.edit": "why: one\nclause: `two_more`\nfile: src/lib.rt\nold:     one_more(x) + 1\nnew:     one_more(x)\n",
+        "crates/workshop/wrong-edits/harmless.edit": HARMLESS,
+        "crates/workshop/wrong-edits/two_more_adds_one.edit": "why: one\nclause: `two_more`\nfile: src/lib.rt\nold:     one_more(x) + 1\nnew:     one_more(x)\n",
         "crates/agcws/src/main.rt": PROGRAM,
         "crates/low_tests/src/lib.rt": TESTS,
         "docs/THEOREMS.md": "| `words`: `more` |\n\n[edits](TESTING.md#wrong-edits), `crates/words`, `gate/quick`, `examples/example`\n",
@@ -194,7 +194,7 @@ class WholeRuns(unittest.TestCase):
 
     def tried(self):
         """How many wrong edits are tried, of one."""
-        ran = run(self.room, "gate/wrong_bodies")
+        ran = run(self.room, "gate/wrong_edits")
         self.assertEqual(ran.returncode, 0, ran.stdout + ran.stderr)
         return last(ran)
 
@@ -204,7 +204,7 @@ class WholeRuns(unittest.TestCase):
         self.quick(all_new, "low_tests: tests passed", "not done by --quick: ", counts=(16, 0))
         nothing = "changed: no crate; tests to run: none; the program is as it was built"
         self.quick(nothing, counts=(9, 0), others=["proof passed", "examples and manual:"])
-        self.assertEqual(last(run(self.room, "gate/wrong_bodies", "--all")), "1 passed, 0 failed")
+        self.assertEqual(last(run(self.room, "gate/wrong_edits", "--all")), "1 passed, 0 failed")
         self.assertEqual(self.tried(), "0 passed, 0 failed")
         self.documents_and_examples()
         self.bodies()
@@ -217,10 +217,10 @@ class WholeRuns(unittest.TestCase):
             ("docs/MANUAL.md", "sound", "harmful", "examples and manual: 0 passed, 1 failed"),
             ("examples/example", "sound", "other", "examples and manual: 0 passed, 1 failed"),
             ("docs/THEOREMS.md", "`more`", "`less`", "definitions that the page of theorems names: 0 passed, 1 failed"),
-            ("crates/workshop/wrong-bodies/two_more_adds_one.edit", "clause: `two_more`", "clause: `two_more`, clause `none`", "the clauses that wrong edits name: 0 passed, 1 failed"),
+            ("crates/workshop/wrong-edits/two_more_adds_one.edit", "clause: `two_more`", "clause: `two_more`, clause `none`", "the clauses that wrong edits name: 0 passed, 1 failed"),
             ("docs/ARCHITECTURE.md", "more sums", "other", "the picture of the crates: 0 passed, 1 failed"),
             ("docs/TESTING.md", "Wrong edits", "Edits", "links of the pages: 3 passed, 1 failed"),
-            ("crates/workshop/wrong-bodies/two_more_adds_one.edit", "(x) + 1", "(x) + 9", "wrong edits, read: 1 passed, 1 failed"),
+            ("crates/workshop/wrong-edits/two_more_adds_one.edit", "(x) + 1", "(x) + 9", "wrong edits, read: 1 passed, 1 failed"),
         ):
             self.put(path, old, new)
             self.quick(said, counts=(11, 1))
@@ -233,12 +233,12 @@ class WholeRuns(unittest.TestCase):
     def bodies(self):
         """A wrong edit at the top, and at the bottom; a right one at the bottom leaves what stands on it, and its edits, as they are."""
         self.put("crates/workshop/src/lib.rt", "one_more(x) + 1", "one_more(x) + 0")
-        self.put("crates/workshop/wrong-bodies/two_more_adds_one.edit", "old:     one_more(x) + 1", "old:     one_more(x) + 0")
+        self.put("crates/workshop/wrong-edits/two_more_adds_one.edit", "old:     one_more(x) + 1", "old:     one_more(x) + 0")
         self.quick("changed: workshop; tests to run: none; the program stays as it was built", "fn workshop::two_more: no proof", others=["words: proof passed"])
-        self.assertIn("to be tried: 1 of workshop", run(self.room, "gate/wrong_bodies", "--read").stdout)
+        self.assertIn("to be tried: 1 of workshop", run(self.room, "gate/wrong_edits", "--read").stdout)
         self.put("crates/workshop/src/lib.rt", "one_more(x) + 0", "one_more(x) + 1")
-        self.put("crates/workshop/wrong-bodies/two_more_adds_one.edit", "old:     one_more(x) + 0", "old:     one_more(x) + 1")
-        self.assertIn("to be tried: none", run(self.room, "gate/wrong_bodies", "--read").stdout)
+        self.put("crates/workshop/wrong-edits/two_more_adds_one.edit", "old:     one_more(x) + 0", "old:     one_more(x) + 1")
+        self.assertIn("to be tried: none", run(self.room, "gate/wrong_edits", "--read").stdout)
         self.put("crates/words/src/lib.rt", "u16::from(x) + 1", "u16::from(x) + 2")
         self.quick("fn words::one_more: no proof", "low_tests: tests LEFT")
         self.put("crates/words/src/lib.rt", "u16::from(x) + 2", "1 + u16::from(x)")
@@ -252,8 +252,8 @@ class WholeRuns(unittest.TestCase):
         self.assertEqual(self.tried(), "1 passed, 0 failed")
 
     def test_scripts_that_change_try_all_again(self):
-        for path in ("wrong_bodies", "passed.py", "toolchain.py"):
-            trial = "import passed\nprint(passed.Trial('k', ['a'], lambda sums, name: '', 'gate/wrong_bodies').before['a'])"
+        for path in ("wrong_edits", "passed.py", "toolchain.py"):
+            trial = "import passed\nprint(passed.Trial('k', ['a'], lambda sums, name: '', 'gate/wrong_edits').before['a'])"
             tell = lambda trial=trial: run(self.room, sys.executable, "-c", f"import sys\nsys.path.insert(0, 'gate')\n{trial}").stdout
             before = tell()
             with open(f"{self.room}/gate/{path}", "a", encoding="utf-8") as it:

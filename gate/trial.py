@@ -110,7 +110,7 @@ def functions_in(crate, path, text, homes):
 
 def apply(text, pristine, texts):
     """Returns these texts of a crate's files after an edit, or says why it cannot be applied. The others are pristine."""
-    with tempfile.TemporaryDirectory(prefix="wrong-bodies-") as room:
+    with tempfile.TemporaryDirectory(prefix="wrong-edits-") as room:
         for path in re.findall(r"(?m)^file: (.*?)\s*$", text):
             file = os.path.normpath(f"{room}/{path}")
             if file.startswith(f"{room}/") and path in pristine:
@@ -208,11 +208,11 @@ def judge(edit, said):
 
 def edits_of(crate):
     """Returns the names of a crate's edits. Any other file among them would be tried by nothing, so it ends the run."""
-    folder = f"{crate.folder}/wrong-bodies"
+    folder = f"{crate.folder}/wrong-edits"
     found = sorted(os.listdir(folder)) if os.path.isdir(folder) else []
     for it in found:
         if not it.endswith(".edit"):
-            sys.exit(f"wrong_bodies: {crate.name}/wrong-bodies/{it} is no edit: its name has to end in .edit")
+            sys.exit(f"wrong_edits: {crate.name}/wrong-edits/{it} is no edit: its name has to end in .edit")
     return [it.removesuffix(".edit") for it in found]
 
 
@@ -236,7 +236,7 @@ class Trial:
                 edit.why = BESIDE
 
     def read(self, name):
-        with open(f"{self.crate.folder}/wrong-bodies/{name}.edit", encoding="utf-8") as it:
+        with open(f"{self.crate.folder}/wrong-edits/{name}.edit", encoding="utf-8") as it:
             edit = Edit(name, it.read())
         texts, why = apply(edit.text, self.pristine, {})
         if why:

@@ -44,6 +44,8 @@ from tally import end, told
 # the call has itself, some 33 MiB.)
 MOST_SECONDS = 10
 MOST_MEMORY, MEMORY_PER_BYTE = 64 << 20, 64
+# The memory that suffices for an image.
+MOST_DATA = 4 << 20
 # The program that goes through a session whose images stand in a vector.
 VECTOR_SESSION = os.environ.get("VECTOR_SESSION", f"{ROOT}/crates/vector_session/out/vector_session")
 # The options of each language.
@@ -104,6 +106,8 @@ def memory(room):
     for words in (("asm", source, old, "--rope", "1"), ("asm", source, new), ("asm", FIVE, other)):
         agcws(*words)
     names = ("--symbols", write(f"{room}/names", agcws("asm", source, new)[1]))
+    octals = write(f"{room}/octals", agcws("words", "--octal", new)[1])
+    trials = write(f"{room}/trials", b"3 RUPT 2\n3 CHAN 15 21\n60 TIME3 PINC\n")
     sessions_of = {"debug": ("debug", source, feed), "debug --image": ("debug", "--image", new, feed), "debug --extended": ("debug", "--extended", source, feed), "debug --flight": ("debug", "--extended", "--flight", DOWNLIST, feed), "debug with names": ("debug", "--image", *names, new, feed)}
     calls = {
         "asm": ("asm", source, made),
@@ -111,18 +115,34 @@ def memory(room):
         "run --end": ("run", "--end", source, feed, "300"),
         "run --progress": ("run", "--progress", source, feed, "300"),
         "run --notes": ("run", "--notes", source, feed, "300"),
+        "run --notes --json": ("run", "--notes", "--json", source, feed, "300"),
         "cover --progress": ("cover", "--progress", source, feed, "300"),
         "run --image": ("run", "--image", "--rope", "1", "--end", old, feed, "300"),
         "trace": ("trace", source, feed, "300"),
         "trace --image": ("trace", "--image", "--rope", "1", old, feed, "300"),
         "cover": ("cover", source, feed, "300"),
+        "cover --json": ("cover", "--json", source, feed, "300"),
+        "trace --reads": ("trace", "--reads", source, feed, "300"),
+        "trace --say": ("trace", "--say", source, feed, "300"),
+        "access": ("access", source, feed, "300"),
+        "whatif": ("whatif", source, feed, "300", trials),
+        "differ": ("differ", source, feed, "300", "--with", source, os.devnull),
+        "access of a cell": ("access", "--image", *names, new, feed, "300", "A"),
+        "delays": ("delays", source, feed, "300"),
         "cover --image": ("cover", "--image", "--rope", "1", old, feed, "300"),
+        "reach": ("reach", source),
+        "reach --image": ("reach", "--image", *names, new),
+        "reach beside a run": ("reach", "--feed", feed, "--steps", "300", source),
         **sessions_of,
         "asm --sums": ("asm", "--sums", source, made),
         "upgrade": ("upgrade", old, made),
         "words": ("words", new),
         "words of a bank": ("words", "--rope", "1", old, "02"),
         "words as a source": ("words", "--source", new),
+        "words as a source with names": ("words", "--source", *names, new, "02"),
+        "words in octal": ("words", "--octal", new),
+        "words of octal words": ("words", octals, "02"),
+        "words of all forms": ("words", "--rope", "1", "--form", "hardware,swapped,complemented,numbered", old, "02"),
         "words with names": ("words", *names, new, "02"),
         "trace with names": ("trace", "--image", *names, new, feed, "300"),
         "cover with names": ("cover", "--image", *names, new, feed, "300"),
@@ -130,10 +150,15 @@ def memory(room):
         "compare with a source": ("compare", "--only", source, other),
         "compare": ("compare", "--old", "1", old, other),
         "compare of equal images": ("compare", "--old", "1", old, new),
+        "align": ("align", "--old", "1", old, other),
+        "align with names": ("align", *names, new, other),
+        "find": ("find", source, other),
         "sums": ("sums", new),
         "sums in both orders": ("sums", "--forms", new),
         "where an image is refused": ("words", "--where", "--rope", "1", new),
         "parity": ("parity", old),
+        "damages": ("damages", old),
+        "damages as a source": ("damages", "--source", old),
         "parity of the hardware's form": ("parity", "--form", "hardware", new),
         "words of the hardware's form": ("words", "--form", "hardware", "--parity", "ignore", new, "02"),
         "asm --flight": ("asm", "--flight", DOWNLIST, made),
@@ -146,10 +171,13 @@ def memory(room):
         "check": ("check", source),
         "check of a source with faults": ("check", feed),
         "check of labels": ("check", "--unused", source),
+        "check as JSON": ("check", "--json", source, feed),
+        "check of a source with faults as JSON": ("check", "--json", feed),
         "check of feeds": ("check", source, feed, old),
         "explain": ("explain",),
         "explain of a number": ("explain", "E16"),
         "explain of a warning": ("explain", "W4"),
+        "explain of a note": ("explain", "SKIP"),
         "help of a command": ("help", "run"),
         "a refused source": ("run", feed, feed, "300"),
         "a refused image": ("words", source),
@@ -324,8 +352,8 @@ MEANINGS = {
 
 
 def refused(words, path, error):
-    """What a call says of a file that is refused: `check` and `compare` name it."""
-    return b"%s: error %s: %s\n" % (path.encode(), error, MEANINGS[error]) if words[0] in ("check", "compare") else b"agcws: %s\n" % error
+    """What a call says of a file that is refused: `check`, `compare`, `align` and `find` name it."""
+    return b"%s: error %s: %s\n" % (path.encode(), error, MEANINGS[error]) if words[0] in ("check", "compare", "align", "find") and "--symbols" not in words else b"agcws: %s\n" % error
 
 
 def name_of(words):
@@ -339,12 +367,13 @@ def devices(room):
     image, other = write(f"{room}/image", bytes(IMAGE_BYTES)), f"{room}/other"
     agcws("asm", "--rope", "1", FIVE, other)
     # Calls that write some output, the last five a session's.
-    writing = [("run", FIVE, EMPTY, "100"), ("trace", FIVE, EMPTY, "100"), ("cover", FIVE, EMPTY, "100"), ("run", "--end", FIVE, EMPTY, "100"), ("run", "--progress", FIVE, EMPTY, "100"), ("run", "--notes", FIVE, EMPTY, "100"), ("run", "--image", "--rope=1", other, EMPTY, "100"), ("asm", FIVE, made), ("words", "--rope=1", image)]
+    writing = [("run", FIVE, EMPTY, "100"), ("trace", FIVE, EMPTY, "100"), ("cover", FIVE, EMPTY, "100"), ("run", "--end", FIVE, EMPTY, "100"), ("run", "--progress", FIVE, EMPTY, "100"), ("run", "--notes", FIVE, EMPTY, "100"), ("cover", "--json", FIVE, EMPTY, "100"), ("run", "--image", "--rope=1", other, EMPTY, "100"), ("asm", FIVE, made), ("words", "--rope=1", image), ("access", FIVE, EMPTY, "100"), ("access", FIVE, EMPTY, "100", "A"), ("delays", FIVE, EMPTY, "100"), ("trace", "--reads", FIVE, EMPTY, "100"), ("trace", "--say", FIVE, EMPTY, "100"), ("whatif", FIVE, EMPTY, "100", EMPTY)]
     writing += [("asm", "--flight", DOWNLIST, made), ("run", "--flight", DOWNLIST, EMPTY, "100")]
-    writing += [("check", FIVE), ("check", FIVE, EMPTY, FIVE), ("check", "--unused", FIVE), ("explain",), ("explain", "17")]
-    writing += [("compare", "--old=1", "--new=1", image, other), ("sums", "--rope=1", image), ("sums", "--forms", "--rope=1", image), ("words", "--symbols", EMPTY, "--rope=1", image), ("trace", "--image", "--symbols", EMPTY, "--rope=1", other, EMPTY, "100"), ("cover", "--image", "--symbols", EMPTY, "--rope=1", other, EMPTY, "100"), ("parity", image), ("--help",), ("words", "--help"), ("--version",)]
+    writing += [("check", FIVE), ("check", FIVE, EMPTY, FIVE), ("check", "--unused", FIVE), ("check", "--json", FIVE, FIVE), ("explain",), ("explain", "17"), ("explain", "SKIP")]
+    writing += [("compare", "--old=1", "--new=1", image, other), ("sums", "--rope=1", image), ("sums", "--forms", "--rope=1", image), ("words", "--symbols", EMPTY, "--rope=1", image), ("words", "--source", "--symbols", EMPTY, "--rope=1", image), ("trace", "--image", "--symbols", EMPTY, "--rope=1", other, EMPTY, "100"), ("cover", "--image", "--symbols", EMPTY, "--rope=1", other, EMPTY, "100"), ("parity", image), ("damages", image), ("damages", "--source", image), ("--help",), ("words", "--help"), ("--version",)]
     writing += [("words", "--source", "--rope=1", image), ("words", "--where", "--rope=1", image), ("parity", "--form=hardware", image), ("explain", "W4"), ("help", "run"), ("check", "--flight", DOWNLIST), ("compare", "--only", "--new=1", FIVE, image), ("compare", "--only", "--flight", "--new=1", DOWNLIST, image)]
     writing += [("trace", "--flight", "--from=2", DOWNLIST, EMPTY, "40"), ("cover", "--flight", DOWNLIST, EMPTY, "40"), ("run", "--flight", "--notes", DOWNLIST, EMPTY, "100")]
+    writing += [("align", "--old=1", "--new=1", image, other), ("align", "--symbols", write(f"{room}/table", b"START 02,4000\n"), "--old=1", "--new=1", image, other), ("find", "--rope=1", FIVE, image)]
     sessions = [("debug", FIVE, EMPTY), ("debug", "--image", "--rope=1", other, EMPTY), ("debug", "--extended", FIVE, EMPTY), ("debug", "--flight", DOWNLIST, EMPTY), ("debug", "--extended", "--image", "--symbols", EMPTY, "--rope=1", other, EMPTY)]
     writing += sessions
     outputs_that_fail(writing)
@@ -354,12 +383,13 @@ def devices(room):
     if os.path.exists(made):
         os.remove(made)
     for bad in (none, folder):
-        reading = [("run", bad, EMPTY, "1"), ("run", FIVE, bad, "1"), ("trace", bad, EMPTY, "1"), ("trace", FIVE, bad, "1"), ("cover", bad, EMPTY, "1"), ("cover", FIVE, bad, "1"), ("asm", bad, made), ("debug", bad, EMPTY), ("debug", FIVE, bad), ("upgrade", bad, made), ("words", bad), ("words", bad, "02"), ("sums", bad), ("sums", "--forms", bad), ("parity", bad)]
+        reading = [("run", bad, EMPTY, "1"), ("run", FIVE, bad, "1"), ("trace", bad, EMPTY, "1"), ("trace", FIVE, bad, "1"), ("cover", bad, EMPTY, "1"), ("cover", FIVE, bad, "1"), ("asm", bad, made), ("debug", bad, EMPTY), ("debug", FIVE, bad), ("upgrade", bad, made), ("words", bad), ("words", bad, "02"), ("sums", bad), ("sums", "--forms", bad), ("parity", bad), ("damages", bad), ("damages", "--source", bad), ("access", bad, EMPTY, "1"), ("access", FIVE, bad, "1"), ("delays", bad, EMPTY, "1"), ("delays", FIVE, bad, "1"), ("whatif", bad, EMPTY, "1", EMPTY), ("whatif", FIVE, bad, "1", EMPTY), ("whatif", FIVE, EMPTY, "1", bad)]
         reading += [("words", "--symbols", bad, "--rope=1", image), ("words", "--symbols", EMPTY, bad), ("trace", "--image", "--symbols", bad, "--rope=1", other, EMPTY, "1"), ("cover", "--image", "--symbols", bad, "--rope=1", other, EMPTY, "1"), ("debug", "--image", "--symbols", bad, "--rope=1", other, EMPTY)]
         reading += [("compare", bad, image), ("compare", "--old=1", image, bad), ("run", "--image", bad, EMPTY, "1"), ("run", "--image", "--rope=1", image, bad, "1")]
         reading += [("debug", "--image", bad, EMPTY), ("debug", "--image", "--rope=1", image, bad), ("check", bad), ("check", FIVE, bad), ("check", FIVE, EMPTY, bad)]
         reading += [("debug", "--extended", bad, EMPTY), ("debug", "--extended", FIVE, bad), ("debug", "--flight", bad, EMPTY), ("asm", "--flight", bad, made), ("asm", "--sums", bad, made), ("run", "--flight", bad, EMPTY, "1"), ("run", "--notes", bad, EMPTY, "1"), ("run", "--notes", FIVE, bad, "1")]
         reading += [("trace", "--flight", bad, EMPTY, "1"), ("trace", "--image", bad, EMPTY, "1"), ("cover", "--flight", bad, EMPTY, "1"), ("cover", "--image", bad, EMPTY, "1"), ("check", "--flight", bad), ("compare", "--only", bad, image), ("compare", "--only", FIVE, bad), ("words", "--source", bad), ("words", "--where", bad), ("parity", "--form=hardware", bad)]
+        reading += [("align", bad, image), ("align", "--old=1", image, bad), ("align", "--symbols", bad, "--old=1", "--new=1", image, other), ("find", bad, image), ("find", FIVE, bad)]
         for words in reading:
             answer = agcws(*words)
             told(f"devices: {name_of(words)}", answer == (3, b"", refused(words, bad, b"E6")), f"{answer}")
@@ -425,6 +455,13 @@ def endless_inputs(made):
         (("run", FIVE, zeros, "1"), b"E34"),
         (("trace", FIVE, zeros, "1"), b"E34"),
         (("cover", FIVE, zeros, "1"), b"E34"),
+        (("access", FIVE, zeros, "1"), b"E34"),
+        (("delays", FIVE, zeros, "1"), b"E34"),
+        (("reach", FIVE, "--feed", zeros, "--steps", "1"), b"E34"),
+        (("whatif", FIVE, zeros, "1", EMPTY), b"E34"),
+        (("differ", FIVE, zeros, "1", "--with", FIVE, EMPTY), b"E34"),
+        (("differ", FIVE, EMPTY, "1", "--with", FIVE, zeros), b"E34"),
+        (("whatif", FIVE, EMPTY, "1", zeros), b"E34"),
         (("asm", zeros, made), b"E34"),
         (("asm", "--flight", zeros, made), b"E34"),
         (("check", zeros), b"E34"),
@@ -437,14 +474,19 @@ def endless_inputs(made):
         (("words", "--rope=1", zeros), b"E4"),
         (("words", "--source", "--rope=1", zeros), b"E4"),
         (("words", "--parity=ignore", "--form=hardware", zeros), b"E4"),
+        (("words", "--form=swapped", zeros), b"E4"),
+        (("words", "--octal", "--rope=1", "--form=complemented,numbered", zeros), b"E4"),
         (("trace", "--image", "--rope=1", zeros, EMPTY, "1"), b"E4"),
         (("cover", "--image", "--rope=1", zeros, EMPTY, "1"), b"E4"),
         (("words", zeros), b"E5"),
         (("sums", "--rope=1", zeros), b"E4"),
         (("sums", "--forms", "--rope=1", zeros), b"E4"),
         (("words", "--symbols", zeros, zeros), b"E34"),
+        (("words", "--source", "--symbols", zeros, zeros), b"E34"),
         (("debug", "--image", "--symbols", zeros, zeros, EMPTY), b"E34"),
         (("parity", zeros), b"E4"),
+        (("damages", zeros), b"E4"),
+        (("damages", "--source", zeros), b"E4"),
         (("compare", "--old=1", zeros, zeros), b"E4"),
         (("run", "--image", "--rope=1", zeros, EMPTY, "1"), b"E4"),
         (("debug", "--image", zeros, EMPTY), b"E5"),
@@ -470,12 +512,13 @@ def endless_commands():
 def few_of_the_system(writing):
     """No memory is to be had beyond what the program starts with; and no second file."""
     for words in writing:
-        ran = limited(words, resource.RLIMIT_DATA, 5 << 15)
+        ran = limited(words, resource.RLIMIT_DATA, 6 << 15)
         told(f"devices: {name_of(words)}, with little memory", ran == (3, b"", b"agcws: E2\n"), f"{ran}")
-        if len([it for it in words if "/" in it]) > 1:
+        paths = [it for it in words if "/" in it]
+        if len(paths) > 1:
             # three are the standard streams, and three stand in for those of them that may be closed
             ran = limited(words, resource.RLIMIT_NOFILE, 7)
-            wanted = E7 if words[0] == "asm" else refused(words, words[-1] if words[0] == "compare" else EMPTY, b"E6")
+            wanted = E7 if words[0] == "asm" else refused(words[:1], paths[1], b"E6")
             told(f"devices: {name_of(words)}, with one file to be had", ran == (3, b"", wanted), f"{ran}")
 
 
@@ -498,10 +541,13 @@ def without_rights(room, image):
         (("debug", locked, feed), E6),
         (("trace", locked, feed, "1"), E6),
         (("cover", locked, feed, "1"), E6),
+        (("access", locked, feed, "1"), E6),
+        (("delays", locked, feed, "1"), E6),
         (("run", "--notes", locked, feed, "1"), E6),
         (("check", locked), E6),
         (("check", feed, locked), E6),
         (("parity", locked), E6),
+        (("damages", locked), E6),
         (("compare", "--only", locked, image), E6),
         (("words", "--symbols", locked, "--rope=1", image), E6),
         (("words", locked), E6),
@@ -518,6 +564,22 @@ def without_rights(room, image):
 
 
 # Sizes
+
+
+def periodic_ropes(room):
+    """Ropes of few words that stand again and again, or of none in common, are aligned in bounded time."""
+    rng = random.Random(5)
+    periods = {"zeros": [0], "ones": [0o77777], "one word": [0o30100], "two words": [0o30100, 0o54101], "three words": [1, 2, 5], "thirteen words": list(range(100, 113)), "a bank": [rng.randrange(0o100000) for _ in range(1024)], "two random words": [rng.choice((0o1234, 0o4321)) for _ in range(36864)], "random words": [rng.randrange(0o100000) for _ in range(36864)], "other random words": [rng.randrange(0o100000) for _ in range(36864)]}
+    ropes = {name: write(f"{room}/periodic_{number}", b"".join((2 * word).to_bytes(2, "big") for word in (words * 36864)[:36864])) for number, (name, words) in enumerate(periods.items())}
+    slow, wrong = [], []
+    for old, first in ropes.items():
+        for new, second in ropes.items():
+            begin = time.monotonic()
+            status, out, err = agcws("align", "--old=1", "--new=1", first, second)
+            slow += [(old, new, time.monotonic() - begin)] if time.monotonic() - begin > 10 else []
+            wrong += [(old, new, status, err)] if (status, err) != (0, b"") or b"SAME WORDS" not in out.splitlines()[-1] else []
+            wrong += [(old, new, out[-80:])] if old == new and out.count(b"\n") != 1 else []
+    told(f"sizes: {len(ropes) ** 2} alignments of periodic ropes", not slow and not wrong, f"slow: {slow[:5]}, wrong: {wrong[:5]}")
 
 
 def sizes(room):
@@ -558,10 +620,13 @@ def sizes(room):
     told("sizes: commands of a byte less", agcws("debug", FIVE, EMPTY, commands=commands[1:]) == right)
     told("sizes: an extended session of more bytes", agcws("debug", "--extended", FIVE, EMPTY, commands=commands + b"echo on\n") == (0, b"E51 LONG\nAT 1 2 02,4001\non\n", b""))
     image_sizes(room, zeros)
+    odd_images(room)
+    octal_texts(room)
 
 
 def image_sizes(room, zeros):
     """An image of a byte less, and of a byte more."""
+    periodic_ropes(room)
     short, long = write(f"{room}/short", bytes(IMAGE_BYTES - 1)), write(f"{room}/long", bytes(IMAGE_BYTES + 1))
     for image, error in ((short, b"E3"), (long, b"E4"), ("/dev/null", b"E3")):
         for words in (
@@ -570,6 +635,8 @@ def image_sizes(room, zeros):
             ("sums", "--forms", "--rope=1", image),
             ("parity", image),
             ("parity", "--form=hardware", image),
+            ("damages", image),
+            ("damages", "--source", image),
             ("words", "--parity=ignore", image),
             ("words", "--symbols", EMPTY, "--rope=1", image),
             ("trace", "--image", "--rope=1", image, EMPTY, "1"),
@@ -587,6 +654,52 @@ def image_sizes(room, zeros):
             told(f"sizes: {name_of(words)}", answer == (1, b"", refused(words, image, error)), f"{answer}")
 
 
+def odd_images(room):
+    """Images of other lengths, up to 1,000 banks, and images of zeros, of ones, and of bytes that come again: each answer in time and in little memory."""
+    image, chance = f"{room}/odd", random.Random(64)
+    lengths = [0, 1, 2, 2047, 2048, 2049, 12_288, 24_576, 61_440, IMAGE_BYTES - 2, IMAGE_BYTES + 2, 2 * IMAGE_BYTES, 1000 * 2048, *chance.sample(range(IMAGE_BYTES), 20)]
+    for length in lengths:
+        write(image, bytes(length))
+        for words in (("words", "--rope=1", image), ("sums", "--rope=1", image), ("sums", "--forms", "--rope=1", image), ("parity", image), ("damages", image), ("damages", "--form=swapped,numbered", image)):
+            error = b"E3" if length < IMAGE_BYTES else b"E4"
+            told(f"sizes: {words[0]} of an image of {length} bytes", in_bounds(words) == (1, b"", refused(words, image, error)))
+    periods = [bytes([byte]) for byte in (0, 255, 1, 254)] + [chance.randbytes(length) for length in (2, 3, 4, 6, 16, 512, 1024, 2048, 4096, 12_288, 24_576, IMAGE_BYTES)]
+    for period in [*periods, b"\0\1", b"\xff\xfe"]:
+        write(image, (period * (IMAGE_BYTES // len(period) + 1))[:IMAGE_BYTES])
+        for words in (("words", "--parity=ignore", image), ("sums", "--parity=ignore", image), ("sums", "--forms", "--rope=1", image), ("parity", image), ("damages", image), ("damages", "--form=hardware", image), ("damages", "--form=hardware,swapped,complemented,numbered", image), ("damages", "--source", image)):
+            status, out, err = in_bounds(words)
+            is_right = (status, err) == (0, b"") or (status == 1 and (out.endswith(b"\n") and b"COUNT " in out[-12:] or err == b"agcws: E5\n"))
+            told(f"sizes: {words[0]} of a period of {len(period)} bytes", is_right, f"{status} {out[-80:]} {err}")
+
+
+def octal_texts(room):
+    """Texts of octal words of 1,000 banks, of one line, of lines without a word and of more bytes than a text may have: each answer in time and in little memory."""
+    text, bank = f"{room}/octals", b"00001 " * 1023 + b"77777"
+    banks = b"\n".join(b"BANK=%o\n%s" % (number, bank) for number in range(36))
+    write(text, banks)
+    status, out, err = in_bounds(("words", "--octal", text), os.path.getsize(text))
+    told("sizes: a text of 36 banks", (status, err) == (0, b"") and out.replace(b"BANK=0", b"BANK=").split() == banks.split(), f"{status} {out[:80]} {err}")
+    for label, it in (("1,000 banks", b"\n".join(b"BANK=%o\n%s" % (number, bank) for number in range(1000))), ("one line", b"BANK=02 " + bank * 100), ("a long line", b"BANK=02\n" + bank * 1000), ("ones", b"BANK=02\n" + b"1" * 1_000_000)):
+        write(text, it)
+        status, out, err = in_bounds(("words", text), os.path.getsize(text))
+        told(f"sizes: a text of octal words, {label}", (status, out) == (1, b"") and err.startswith(text.encode() + b":") and err.endswith((b"agcws: E3\n", b"agcws: E4\n", b"agcws: E5\n")), f"{status} {out[:80]} {err}")
+    write(text, b"BANK=02\n" + b"\n" * 8_388_601)
+    told("sizes: a text of octal words of 8,388,609 bytes", in_bounds(("words", text), os.path.getsize(text)) == (1, b"", b"agcws: E34\n"))
+    write(text, b"BANK=02\n" + b"\n" * 8_388_600)
+    told("sizes: a text of octal words of 8,388,608 bytes", in_bounds(("words", text), os.path.getsize(text))[::2] == (0, b""))
+
+
+def in_bounds(words, length=0):
+    """What a call answers to which little time is given, and little memory besides four bytes for each of a text's length."""
+
+    def bound():
+        resource.setrlimit(resource.RLIMIT_CPU, (MOST_SECONDS, MOST_SECONDS))
+        resource.setrlimit(resource.RLIMIT_DATA, (MOST_DATA + 4 * length,) * 2)
+
+    ran = subprocess.run([PROGRAM, *words], stdin=subprocess.DEVNULL, capture_output=True, timeout=300, preexec_fn=bound)
+    return ran.returncode, ran.stdout, ran.stderr
+
+
 # Bytes
 
 
@@ -594,6 +707,8 @@ def image_sizes(room, zeros):
 REFUSED = re.compile(rb"agcws: E(\d+)(?: LINE [1-9]\d*)?\n")
 REFUSED_COMPARED = re.compile(rb"(?:agcws: E(\d+) LINE [1-9]\d*|[^\n]+/(?:case|twin): error E(\d+): [^\n]+)\n")
 REFUSED_WHERE = re.compile(rb"agcws: E(?:(5)\nagcws: BYTE \d*[02468] [0-4][0-7],[2-7][0-7]{3}\n|([34])\n)")
+REFUSED_TRIED = re.compile(rb"(?:agcws|[^\n]+/case): E(\d+)(?: LINE [1-9]\d*)?\n")
+NO_SERIES = b"error: a line of TRIALS begins with EVERY: each input that is tried has a line of its own\n"
 NO_ROOM = re.compile(rb"agcws: bank [0-4][0-7] has no room for check words: they take 3 places after its last word\n")
 
 
@@ -637,7 +752,7 @@ class Worker:
 
     def why(self, kind, words, status, out, err):
         has_made = os.path.exists(self.made)
-        if status == 1 and words[0] in ("compare", "parity") and not err:
+        if status == 1 and words[0] in ("compare", "parity", "damages") and not err:
             return "" if re.search(rb"(^|\n)COUNT [1-9]\d*\n$", out) else "no difference is told"
         if status == 0:
             is_made = has_made and os.path.getsize(self.made) == IMAGE_BYTES if "made" in words else not has_made
@@ -645,7 +760,10 @@ class Worker:
             return "" if is_silent and is_made else f"done, with {err!r}"
         if "--sums" in words and status == 1 and NO_ROOM.fullmatch(err):
             return "" if not out and not has_made else "refused, with some output"
-        number = (REFUSED_WHERE if "--where" in words else REFUSED_COMPARED if words[0] == "compare" else REFUSED).fullmatch(err)
+        if words[0] == "whatif" and (status, err) == (2, NO_SERIES):
+            return "refused, with some output" if out else ""
+        forms = {"compare": REFUSED_COMPARED, "whatif": REFUSED_TRIED}
+        number = (REFUSED_WHERE if "--where" in words else forms.get(words[0], REFUSED)).fullmatch(err)
         refusals = cases.TABLE_REFUSALS if "--symbols" in words and kind != "image" else REFUSALS[kind]
         if status != 1 or not number or int(number[number.lastindex]) not in refusals:
             return f"status {status}, {err!r}"
@@ -761,7 +879,7 @@ def checks_of_feeds(made, count, seed):
 
 
 READ_STEPS = 300
-NOTES = re.compile(rb"(NOTE ((QUOTIENT|SKIP|NOWORD|ERASABLE|NOHANDLER|OTHERBANK) +\S.* STEP [1-9]\d* CYCLES \d+ TIMES [1-9]\d*|INSIDE STEP \d+|WAITING \w+ STEP [1-9]\d* CYCLES \d+)\n)*")
+NOTES = re.compile(rb"(NOTE ((QUOTIENT|SKIP|NOWORD|ERASABLE|NOHANDLER|OTHERBANK|NOTKEPT|MINUSZERO|OVERWRITTEN|SHARED) +\S.* STEP [1-9]\d* CYCLES \d+ TIMES [1-9]\d*|INSIDE STEP \d+|WAITING \w+ STEP [1-9]\d* CYCLES \d+|UNREAD CHAN [0-7]{3} CYCLES \d+)\n)*")
 
 
 def is_read_alike(run, notes, trace, cover):

@@ -212,7 +212,10 @@ static int open_file(const char *path, int flags)
 {
     if (strcmp(path, DRAFT) == 0 && flags & O_CREAT) return MADE_FILE;
     int number = find_file(path);
-    return number < 0 ? -1 : FIRST_FILE + number;
+    if (number < 0) return -1;
+    /* (no file is open twice at a time) */
+    call.files[number].at = 0;
+    return FIRST_FILE + number;
 }
 
 int rename(const char *from, const char *to)

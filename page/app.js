@@ -10,15 +10,15 @@ import { codeOf, Machine, Names, sentenceOf } from './machine.js';
 import { Why } from './why.js';
 import { Dsky } from './dsky.js';
 import { Console, Memory, Put, Steps } from './panes.js';
-import { feedOf, judge, statedBy, Tests, testsOf } from './tests.js';
+import { feedOf, judge, statedBy, statedOfProgram, Tests, testsOf, toldByProgram } from './tests.js';
 import { Compare } from './compare.js';
 import { finder } from './find.js';
 import { download, linkOf, setting, Storage, taskOf } from './storage.js';
 import { handoutOf, svgOf } from './export.js';
-import { bindKeys, showSheet } from './keys.js';
+import { bindKeys, bindTouch, showSheet } from './keys.js';
 
-const TABS = ["steps", "dsky", "output", "memory", "tests", "compare", "console"], MOST_FILE = 32 << 20, KEY_CYCLES = 853, MOST_TIP = 420, FIRST_STEPS = 200;
-const examples = JSON.parse($("examples")?.textContent || "[]");
+const TABS = ["steps", "dsky", "output", "memory", "tests", "compare", "console"], MOST_FILE = 32 << 20, KEY_CYCLES = 853, MOST_TIP = 420, FIRST_STEPS = 200, MOST_FIRST = 100_000;
+const examples = globalThis.agcwsExamples || [];
 // What stands on the page: the program, the picture of the machine and the one before it.
 const S = { name: "", flight: false, isBuilt: false, builtFeed: "", names: new Names(), picture: null, old: null, tab: "steps", chosen: null, presses: [], results: [], isMoving: false, isPacing: false, testFeed: "" };
 
@@ -29,9 +29,11 @@ function say(text, isBad) {
   $("said").title = text || "";
   $("said").classList.toggle("bad", Boolean(isBad));
   // (a small screen has no room for it below)
-  if (text && isBad && document.body.classList.contains("to70")) banner(text);
-  if (text) soon("said", 9000, () => { $("said").textContent = ""; });
+  $("toast").hidden = !text || !isRoomed();
+  $("toast").textContent = text || "";
+  if (text) soon("said", isBad || !isRoomed() ? 9000 : 4000, () => { $("said").textContent = ""; $("toast").hidden = true; });
 }
+const isRoomed = () => document.body.classList.contains("roomed");
 function banner(text, ...buttons) {
   $("banner").replaceChildren(el("span", {}, text), ...buttons.map(([name, work]) => el("button", { onclick: () => { $("banner").hidden = true; work(); } }, name)), el("button", { onclick: () => { $("banner").hidden = true; } }, T.dismiss));
   $("banner").hidden = false;
@@ -55,14 +57,21 @@ const storage = new Storage({
   kept() { $("banner").hidden = true; say(T.keptAgain); },
   split() { banner(T.split); keep(); },
 });
-const axis = new Axis($("axis"), { seek, windowed: () => soon("survey", 120, loadSurvey) });
+const axis = new Axis($("axis"), { seek, told: (text) => say(text), wordOf: (name) => (S.picture?.p === axis.p ? machine.wordOf(name) : null), windowed: () => soon("survey", 120, loadSurvey) });
+// Where one begins who has nothing here yet.
+function starts() {
+  if (S.isOwn !== false || storage.all().length) return [];
+  if (S.lesson) return S.name !== S.lesson.name ? [] : [[T.lessonBegins, T.tips.step, () => by(1)]];
+  if (!examples.some((it) => it.lesson)) return [];
+  return [...(S.name === "lost_sum.agc" ? [[T.firstTask, T.firstAsk, () => why("SUM")]] : []), [T.firstLesson, T.firstOpen, () => openDoc(examples.find((it) => it.lesson), { isExample: true })]];
+}
 const hovering = { line: (line) => toggleBreak(line), fault: explain, note: (note) => seek(note.step), word: (text) => { if (S.names.kinds.has(text)) why(text); }, hover: tip, ghost, about: tipFault, context: (event, line) => openContext(event, event.target, lineMenu(line)) };
 const editor = new Editor($("editor"), "source", { edited, ...hovering });
 const feed = new Editor($("feed"), "feed", { edited, fault: explain, about: tipFault, hover: () => tip(null) });
 const tests = new Editor($("tests"), "tests", { edited() { S.isOwn = true; keepSoon(); soon("tests", 400, readTests); } });
 const machine = new Machine($("state"), { why, seek, astray: () => astray()?.step ?? null, toAstray, curve: chooseCell, context: (event, name) => openContext(event, event.target.closest("button"), wordMenu(name)), lineText: (line) => editor.lines[editor.shownLine(line) - 1] });
 const chain = new Why($("why"), {
-  seek, nameOf: (cell) => S.names.of(cell), isRope: (cell) => S.names.isRope(cell), more: () => why(S.chosen ?? "", (chain.asked?.count || 16) * 4),
+  seek, starts, nameOf: (cell) => S.names.of(cell), isRope: (cell) => S.names.isRope(cell), more: () => why(S.chosen ?? "", (chain.asked?.count || 16) * 4),
   point(t) { axis.pointed = t; axis.draw(); editor.mark({ pointed: chain.asked?.steps[t]?.line || 0 }); },
 });
 const dsky = new Dsky($("tab-dsky"), { press, undo: undoKey });
@@ -77,7 +86,7 @@ const compare = new Compare($("tab-compare"), {
     return null;
   },
 });
-const testPane = new Tests($("tab-tests"), { run: runTests, open: openTest, write: () => { showFile("tests"); if (!tests.text.trim()) { tests.text = `${T.testExample}\n`; readTests(); } tests.area.focus(); }, take() { if (!S.isBuilt || !session.outputs.count) { say(T.nothingPut, true); return; } S.isOwn = true; tests.text = statedBy({ ...present(), name: T.asRun }); readTests(); keepSoon(); say(T.testsTaken); }, counted: (text, isBad) => badge("tests", text, isBad) });
+const testPane = new Tests($("tab-tests"), { lesson: () => S.lesson, wrong: (i) => openDoc({ ...S.lesson, name: S.lesson.name.replace(".agc", `_wrong_${i + 1}.agc`), source: S.lesson.wrong[i], isWrong: true }, { isExample: true }).then(() => showTab("tests")), run: runTests, open: openTest, write: () => { showFile("tests"); if (!tests.text.trim()) { tests.text = `${T.testExample}\n`; readTests(); } tests.area.focus(); }, take() { if (!S.isBuilt || !session.outputs.count) { say(T.nothingPut, true); return; } S.isOwn = true; tests.text = statedBy({ ...present(), name: T.asRun }); readTests(); keepSoon(); say(T.testsTaken); }, counted: (text, isBad) => badge("tests", text, isBad) });
 
 // What the session tells of the position.
 
@@ -159,6 +168,13 @@ async function run() {
   if (steps === null) { $("count").focus(); say(T.howMany, true); return; }
   if ((isEdited() || S.testFeed) && !(await build())) return;
   if (!S.isBuilt) { if (!(await build())) return; }
+  // (before the end of the run it goes on to there, and makes new steps from there alone)
+  if (session.p < session.n) {
+    const told = S.picture.breaks.length ? await move("on", session.n - session.p) : await seek(session.n);
+    if (session.p === session.n && !/^HIT/.test(told || "")) say(T.atEnd(group(steps)));
+    keepSoon();
+    return;
+  }
   await move("run", steps);
   // (what was asked before the source was changed is asked again)
   if (S.again) { const again = S.again; S.again = null; if (machine.wordOf(again) !== null) await why(again); }
@@ -211,14 +227,14 @@ async function undoKey(press) {
   axis.survey = null;
   take(await during(async () => { await session.refeed(feed.text); S.picture = { ...S.picture, n: -1 }; return session.look(); }));
 }
-function setFeed(text) { S.isOwn = true; feed.text = text; feed.built(); S.builtFeed = text; showEdited(); keepSoon(); }
+function setFeed(text) { S.isOwn = true; feed.text = text; feed.built(); S.builtFeed = text; showEdited(); keepSoon(); testAgain(1500); }
 
 // The source.
 
 const isEdited = () => S.isBuilt && !(editor.isBuilt && feed.text === S.builtFeed);
 function showEdited() {
   const is = isEdited() || !S.isBuilt;
-  $("edited").hidden = !isEdited(); $("edited").textContent = T.edited;
+  $("edited").classList.toggle("on", isEdited()); $("edited").textContent = isEdited() ? T.edited : "";
   $("run").textContent = is ? T.build : T.run;
 }
 function edited() { S.isOwn = true; showEdited(); keepSoon(); soon("check", editor.lines.length > 20_000 ? 700 : 180, check); }
@@ -228,7 +244,7 @@ async function check() {
   showFaults(faults);
   // (beside a long line there is no room for the cure)
   const here = faults.find((it) => it.kind === "error" && it.file === "source" && it.line === editor.caretLine());
-  if (here && document.activeElement === editor.area && !document.body.classList.contains("to70")) say(saidOf(here), true);
+  if (here && document.activeElement === editor.area && !isRoomed()) { say(saidOf(here), true); S.faultSaid = saidOf(here); } else if ($("said").textContent === S.faultSaid) say("");
 }
 const saidOf = (it) => `${it.number} ${it.text}${it.cure ? `: ${it.cure}` : ""}`;
 let allFaults = [];
@@ -273,6 +289,7 @@ async function build() {
   take(await session.look());
   if (chosen && wasBuilt) S.again = chosen;
   showEdited();
+  testAgain();
   return true;
 }
 // Where a program cannot be built, nothing of the one before is left.
@@ -288,6 +305,7 @@ function clear() {
   chain.empty(); dsky.tell([]);
   machine.picture = null;
   for (const id of ["flags", "regs", "words", "chans"]) $(id).replaceChildren();
+  $("state").classList.add("bare");
   $("now").replaceChildren(el("p", { class: "says" }, T.notBuilt));
   showStops([]);
   for (const it of ["steps", "output", "memory"]) $(`tab-${it}`).replaceChildren(el("p", { class: "empty-tab" }, T.notBuilt));
@@ -330,14 +348,19 @@ function lineMenu(line) {
   if (!row) return [{ name: T.lineMenu.none, work() { /* nothing can be done here */ } }];
   return [{ name: isSet ? T.lineMenu.drop : T.lineMenu.stop, note: "B", work: () => toggleBreak(line) }, { name: T.lineMenu.exec, work: () => addStop(`exec ${row.place}`) }, "-", ...(editor.counts.get(line) ? [] : [{ name: T.lineMenu.never, work: () => whyNever(row) }]), { name: T.lineMenu.on, work: () => toNearest(`at ${row.place}`, false, T.noStepOn) }, { name: T.lineMenu.back, work: () => toNearest(`at ${row.place}`, true, T.noStepBack) }];
 }
-// Why a line is never executed: the last before it that is, which always goes elsewhere.
+// Why a line is never executed: the last before it that is, which always goes elsewhere. Or why not again: where it was executed last. And which interrupt waits.
 async function whyNever(row) {
   const later = await during(() => session.nearest(`at ${row.place}`, false));
   if (later !== null) { if (typeof later === "number") { await seek(later); say(T.comesLater); } return; }
-  const counts = await session.cover(session.n), before = [...S.names.rows.values()].filter((it) => it.line < row.line && counts?.get(it.line)).sort((a, b) => b.line - a.line)[0];
+  const { regs } = S.picture, isAsked = regs.ASKED && regs.ASKED !== "NONE", waits = isAsked && (regs.INH === "1" ? T.inhibited(regs.ASKED) : regs.INT === "1" ? T.served(regs.ASKED) : "");
+  const counts = await session.cover(session.n, "never"), mine = counts?.get(row.line), before = mine ? row : [...S.names.rows.values()].filter((it) => it.line < row.line && counts?.get(it.line)).sort((a, b) => b.line - a.line)[0];
   if (!before) { say(T.neverAny, true); return; }
-  await toNearest(`at ${before.place}`, null, T.neverAny);
-  say(T.neverCome(codeOf(editor.lines[editor.shownLine(before.line) - 1] || "").join(" "), before.line, group(counts.get(before.line)[0]), row.line), true);
+  await toNearest(`at ${before.place}`, mine ? true : null, T.neverAny);
+  const code = codeOf(editor.lines[editor.shownLine(before.line) - 1] || "").join(" "), text = mine ? T.neverAgain(code, row.line, group(mine[0])) : T.neverCome(code, before.line, group(counts.get(before.line)[0]), row.line);
+  say(text, true);
+  S.chosen = null;
+  chain.tell(mine ? T.neverAgainWhy(row.line) : T.neverWhy(row.line), [text, waits].filter(Boolean).join(" "), T.toLine(before.line), () => { document.body.dataset.room = "source"; showFile("source"); editor.pointAt(editor.shownLine(before.line)); });
+  document.body.dataset.room = "why";
 }
 // The menu of what has the keyboard: a word, or the next line.
 function ownMenu() {
@@ -358,7 +381,7 @@ function tip(at) {
   if (!at || !S.picture) { soon("tip", 60, () => { box.hidden = true; }); return; }
   let text = "";
   const named = S.names.kinds.get(at.word), line = editor.lines[at.line - 1] || "";
-  if (named) { const word = machine.wordOf(at.word); text = `${at.word} ${named.value}${word && named.kind !== "FIXED" ? `\n${word} = ${decimalOf(word)}` : ""}`; }
+  if (named) { const word = machine.wordOf(at.word); text = `${at.word} ${S.names.placeOf(named)}${word && named.kind !== "FIXED" ? `\n${word} = ${decimalOf(word)}` : ""}`; }
   if (at.kind === "op") text = sentenceOf(codeOf(line), (name) => (S.names.isRope(name.split(" ")[0]) ? null : machine.wordOf(name)));
   if (!text) { box.hidden = true; return; }
   soon("tip", 350, () => showTip(text, at.x, at.y));
@@ -370,12 +393,15 @@ function tipFault(fault, box) {
   soon("tip", 400, async () => {
     if (!explained.has(fault.number)) explained.set(fault.number, await session.explain(fault.number));
     const text = explained.get(fault.number), at = box.getBoundingClientRect();
-    if (text && box.isConnected && box.matches(":hover")) showTip([fault.text, fault.cure, "", text.length > MOST_TIP ? `${text.slice(0, MOST_TIP)} \u2026` : text].filter((it, i) => it || i === 2).join("\n"), at.left, at.bottom);
+    if (text && box.isConnected && box.matches(":hover")) showTip([fault.text, fault.cure, "", partOf(text)].filter((it, i) => it || i === 2).join("\n"), at.left, at.bottom);
   });
 }
+// As many of its paragraphs as have room.
+function partOf(text) { const cut = text.lastIndexOf("\n\n", MOST_TIP); return text.length <= MOST_TIP ? text : cut > 0 ? text.slice(0, cut) : `${text.slice(0, MOST_TIP)} \u2026`; }
 function showTip(text, x, y) {
-  const box = $("hover");
-  box.textContent = text; box.hidden = false;
+  const box = $("hover"), [first, ...rest] = text.split("\n");
+  box.replaceChildren(rest.length ? el("b", {}, first) : first, ...rest.flatMap((it) => ["\n", /^ *> /.test(it) ? el("code", {}, it.replace(/^ *> /, "")) : it]));
+  box.hidden = false;
   box.style.left = `${Math.max(4, Math.min(innerWidth - box.offsetWidth - 8, x))}px`;
   box.style.top = `${y + 4 + box.offsetHeight > innerHeight ? Math.max(4, y - box.offsetHeight - 26) : y + 4}px`;
 }
@@ -408,6 +434,7 @@ async function why(place, count = 16) {
   axis.draw();
   if (place && place !== cell() && S.names.erasable.some((it) => it.name === place)) chooseCell(place);
   document.body.dataset.room = "why";
+  if (document.documentElement.classList.contains("lecture")) document.body.classList.remove("unfolded");
 }
 
 // The curve.
@@ -455,22 +482,35 @@ async function toAstray() {
   await seek(step - 1);
   const last = S.picture.steps.filter((it) => it.t < step && it.line).pop();
   if (last) await seek(last.t - 1);
+  // (by where Q leads, most of all)
+  if (last && /^(?:RETURN|TC Q)\b/.test(last.text)) await why("Q");
   say(T.leftProgram(group(step)), true);
 }
 
 // Tests.
 
 function readTests() {
-  const { tests: found, faults } = testsOf(tests.text);
+  const stated = expectation(), { tests: found, faults } = stated ? { tests: stated.tests, faults: [] } : testsOf(tests.text);
   tests.mark({ faults: grouped(faults) });
   S.tests = found; S.results = [];
   testPane.show(found, []);
-  if (found.length && !faults.length) soon("run tests", 500, runTests);
+  testAgain(500);
 }
+// (of what was built before, no result stays)
+function testAgain(wait = 300) { S.results = []; if (S.tests?.length && !tests.faults.size) soon("run tests", wait, runTests); }
+const countOf = () => stepsOf($("count").value) || FIRST_STEPS, expectation = () => statedOfProgram(tests.text, { source: `${base()}.agc`, feed: `${base()}.feed`, steps: Math.max(countOf(), S.isBuilt ? session.n : 0) });
 async function runTests() {
-  const all = S.tests || [], results = S.results = [], source = editor.text;
+  const all = S.tests || [], results = S.results = [], source = editor.text, stated = expectation();
+  if (stated) {
+    const told = toldByProgram(stated, await session.expected(stated, { source, feed: feed.text }));
+    if (results !== S.results) return;
+    tests.mark({ faults: grouped(told.faults) });
+    S.results = told.results;
+    testPane.show(all, told.results, told.faults[0] ? T.testFault(told.faults[0].line, told.faults[0].text) : told.said);
+    return;
+  }
   for (const [i, test] of all.entries()) {
-    const told = await session.once({ source, feed: feedOf(test, feed.text), flight: S.flight, steps: test.steps || stepsOf($("count").value) || 200, places: test.wanted.filter((it) => it.kind === "mem").map((it) => it.place) });
+    const told = await session.once({ source, feed: feedOf(test, feed.text), flight: S.flight, steps: test.steps || countOf(), places: test.wanted.filter((it) => it.kind === "mem").map((it) => it.place) });
     if (results !== S.results) return;
     results[i] = { wrong: judge(test, told) };
   }
@@ -482,14 +522,17 @@ async function openTest(test, result) {
     if (!(await build())) return;
     if (inputs !== kept) { await session.refeed(inputs); S.testFeed = test.name; say(T.testFeed(test.name)); }
   }
-  const steps = test.steps || stepsOf($("count").value) || 200;
+  const steps = test.steps || countOf();
   if (session.n < steps) await move("step", steps - session.p);
   const wrong = result?.wrong;
   if (wrong?.cycles) await move("until", wrong.cycles);
   else if (wrong?.step) await seek(wrong.step);
   else await seek(steps);
   if (wrong?.place) await why(wrong.place);
-  else if (wrong && !wrong.step) {
+  else if (wrong?.label) {
+    const value = S.names.kinds.get(wrong.label)?.value, row = [...S.names.rows.values()].find((it) => it.place === (value ?? wrong.label));
+    if (row) await whyNever(row);
+  } else if (wrong && !wrong.step) {
     // (what never comes is often lost where the run has left the program)
     await loadNotes();
     if (astray()) { await toAstray(); return; }
@@ -508,7 +551,8 @@ function showTab(name) {
   S.tab = name;
   chooseTab($("tabs"), name, "tab");
   for (const it of TABS) $(`tab-${it}`).hidden = it !== name;
-  document.body.classList.toggle("tall", name === "dsky" || name === "compare");
+  // (once these have their height it stays, so that no tab moves away below a click)
+  if (name === "dsky" || name === "compare") document.body.classList.add("tall");
   if (!S.picture) return;
   if (name === "steps") showSteps();
   if (name === "output") panes.output.show(session.outputs, S.picture.cycles);
@@ -533,19 +577,19 @@ async function command(text) {
 
 // Files and links.
 
-const document_ = () => ({ name: S.name, source: editor.text, feed: feed.text, tests: tests.text, flight: S.flight, steps: S.isBuilt ? session.n : stepsOf($("count").value) || 0, count: $("count").value, position: S.isBuilt ? session.p : undefined, breaks: S.picture?.breaks || [], cell: cell(), why: S.chosen || "" });
+const document_ = () => ({ name: S.name, lesson: S.lesson?.lesson || undefined, source: editor.text, feed: feed.text, tests: tests.text, flight: S.flight, steps: S.isBuilt ? session.n : stepsOf($("count").value) || 0, count: $("count").value, position: S.isBuilt ? session.p : undefined, breaks: S.picture?.breaks || [], cell: cell(), why: S.chosen || "" });
 function keep() { if (S.isOpen && S.isOwn) { $("name").classList.toggle("unkept", !storage.keep(document_())); } }
 const keepSoon = () => soon("keep", 400, keep);
 async function openDoc(doc, { id = null, isExample = false } = {}) {
   if (S.isOpen && !storage.isKept && isEdited() && !confirm(T.leave)) return;
   const { name = "", source, feed: inputs = "", tests: stated = "", flight = false, steps = 0, position, breaks = [], cell: wanted = "", why: asked = "" } = doc;
   S.isOpen = false;
-  Object.assign(S, { name: name || T.unnamed, flight, isBuilt: false, chosen: null, picture: null, old: null });
+  Object.assign(S, { flight, lesson: doc.lesson ? examples.find((it) => it.lesson === doc.lesson) : null, isBuilt: false, chosen: null, picture: null, old: null });
+  named(name);
+  panes.console.begin(S.name);
   compare.take(null);
   storage.begin(id);
   S.isOwn = !isExample;
-  $("name").textContent = S.name;
-  document.title = `${S.name} · agcws`;
   for (const it of [editor, feed, tests]) Object.assign(it, { breaks: new Set(), base: null, counts: new Map(), notes: new Map(), links: new Map(), now: 0, faults: new Map() });
   editor.text = source; feed.text = inputs; tests.text = stated;
   showFile("source");
@@ -558,14 +602,16 @@ async function openDoc(doc, { id = null, isExample = false } = {}) {
     if (steps) await move("step", steps);
     for (const text of breaks) await session.breakpoint(text);
     if (breaks.length) take(await session.look(), { isLight: true });
+    // (a lesson begins at its first step)
     if (position != null && position !== session.p) await seek(position);
+    else if (doc.lesson && !doc.isWrong) { await seek(0); S.old = null; machine.show(S.picture, null, S.names); }
     if (asked) await why(asked);
     document.body.dataset.room = "source";
   } else clear();
   keep();
 }
 async function openPicked(files) {
-  const some = [...files].slice(0, 4);
+  const some = [...files].slice(0, 8);
   if (some.some((it) => it.size > MOST_FILE)) { say(T.tooLarge, true); return; }
   const ropes = some.filter((it) => /\.(rope|bin)$/i.test(it.name) || it.size === 73_728);
   if (ropes.length) { await showRope(await Promise.all(ropes.slice(0, 2).map(async (it) => ({ name: it.name, bytes: new Uint8Array(await it.arrayBuffer()) })))); return; }
@@ -573,10 +619,20 @@ async function openPicked(files) {
   if (found.some((it) => it.text.slice(0, 4000).includes("\0"))) { say(T.notText, true); return; }
   const saved = of(".json");
   if (saved) { let doc = null; try { doc = JSON.parse(saved.text); } catch { /* told below */ } if (typeof doc?.source === "string") await openDoc(doc); else say(T.noSession, true); return; }
-  const inputs = of(".feed"), source = found.find((it) => !/\.(feed|tests|json)$/i.test(it.name)), stated = of(".tests");
-  if (source) { await openDoc({ name: source.name.replace(/\.lst$/i, ".agc"), source: sourceOf(source.text), feed: inputs?.text || "", tests: stated?.text || "", steps: FIRST_STEPS }); say(T.opened(source.name, FIRST_STEPS)); return; }
+  const inputs = of(".feed"), stated = found.find((it) => /\.(tests?|expect)$/i.test(it.name)), source = found.find((it) => it !== inputs && it !== stated), left = found.filter((it) => ![inputs, stated, source].includes(it));
+  if (source) {
+    const doc = { name: source.name.replace(/\.lst$/i, ".agc"), source: sourceOf(source.text), feed: inputs?.text || "", tests: stated?.text || "" }, known = storage.all().find((it) => ["name", "source", "feed", "tests"].every((one) => it[one] === doc[one]));
+    await (known ? openDoc(known, { id: known.id }) : openDoc({ ...doc, steps: stepsFor(doc) }));
+    say(left.length ? T.notTaken(left.map((it) => it.name).join(", ")) : S.isBuilt ? T.opened(S.name, group(session.n)) : T.hasFaults, Boolean(left.length) || !S.isBuilt);
+    return;
+  }
   if (inputs) { feed.text = inputs.text; edited(); showFile("feed"); }
-  if (stated) { tests.text = stated.text; readTests(); showFile("tests"); }
+  if (stated) { tests.text = stated.text; S.isOwn = true; keepSoon(); readTests(); showFile("tests"); }
+}
+// As many steps as what is stated of it and its inputs need.
+function stepsFor({ feed: inputs, tests: stated }) {
+  const asked = [...stated.matchAll(/^\s*steps\s+(\d{1,6})\b/gim)].map((it) => Number(it[1])), last = Math.max(0, ...[...inputs.matchAll(/^\s*(\d{1,9})\s/gm)].map((it) => Number(it[1])));
+  return Math.min(MOST_FIRST, Math.max(FIRST_STEPS, last ? last + FIRST_STEPS : 0, ...asked));
 }
 // A listing is taken as the source that it shows.
 function sourceOf(text) {
@@ -586,7 +642,7 @@ function sourceOf(text) {
 }
 async function showRope(ropes) {
   const [first, second] = ropes, out = el("pre", { class: "rope", tabindex: 0 }), ask = async (name, work) => { out.textContent = T.starting; out.textContent = await work(); };
-  const buttons = el("div", { class: "row" }, ...["sums", "parity", "words"].map((it) => el("button", { class: "small", onclick: () => ask(it, () => session.rope(it, first.bytes)) }, it)));
+  const buttons = el("div", { class: "row" }, ...["sums", "parity", "damages", "words"].map((it) => el("button", { class: "small", onclick: () => ask(it, () => session.rope(it, first.bytes)) }, it)));
   const other = second?.bytes || session.image;
   if (session.image || second) buttons.append(el("button", { class: "small", onclick: () => ask("compare", () => session.rope("compare", first.bytes, other)) }, second ? `compare ${second.name}` : T.ropeCompare));
   buttons.append(el("button", { class: "small", onclick: async () => { const source = await session.ropeSource(first.bytes); if (source) { $("dialog").close(); await openDoc({ name: `${first.name.replace(/\.\w+$/, "")}.agc`, source, flight: true }); } else out.textContent = await session.rope("words", first.bytes); } }, T.ropeSource));
@@ -594,8 +650,24 @@ async function showRope(ropes) {
   await ask("sums", () => session.rope("sums", first.bytes));
 }
 const base = () => (S.name || T.unnamed).replace(/\.agc$/, "");
-function saveSource() { download(`${base()}.agc`, editor.text); }
-function saveAll() { download(`${base()}.json`, JSON.stringify(document_(), null, 1), "application/json"); }
+function rename() {
+  const field = el("input", { class: "finder", value: S.name, maxlength: 80, spellcheck: "false", autocomplete: "off", "aria-label": T.newName }), take = (event) => {
+    event.preventDefault();
+    $("dialog").close();
+    const name = field.value.trim().replace(/[\\/:*?"<>|]/g, "_");
+    if (!name || name === S.name) return;
+    named(/\.\w+$/.test(name) ? name : `${name}.agc`);
+    S.isOwn = true;
+    keepSoon();
+  };
+  showDialog(T.newName, el("form", { class: "row", onsubmit: take }, field, el("button", { class: "small" }, T.menu.rename.replace(/ .*/, ""))));
+  field.focus(); field.setSelectionRange(0, base().length);
+}
+function named(name) { S.name = name || T.unnamed; $("name").textContent = S.name; document.title = `${S.name} \u00b7 agcws`; }
+function save(name, data, kind) { download(name, data, kind); say(T.saved(name)); }
+function saveSource() { save(`${base()}.agc`, editor.text); }
+function saveTests() { const stated = expectation(); if (stated) save(`${base()}.expect`, `${stated.text.trimEnd()}\n`); else save(`${base()}.test`, tests.text); }
+function saveAll() { save(`${base()}.json`, JSON.stringify(document_(), null, 1), "application/json"); }
 async function copyLink() {
   const doc = document_(), hash = await linkOf({ name: doc.name, source: doc.source, feed: doc.feed, tests: doc.tests, flight: doc.flight, steps: doc.steps, position: doc.position, breaks: doc.breaks, cell: doc.cell, why: doc.why }), url = location.href.split("#")[0] + hash;
   history.replaceState(null, "", hash);
@@ -646,30 +718,36 @@ function menuKeys(event) {
 function showMenu() {
   const mine = storage.all().filter((it) => it.id !== storage.id).slice(0, 12);
   openMenu("menu", $("menu-open"), [
-    { name: T.menu.open, note: T.menu.openNote, work: () => $("picker").click() }, { name: T.menu.fresh, work: () => openDoc({ name: T.unnamed, source: "        SETLOC  4000\n\n", feed: "" }) }, "-",
-    { name: T.menu.save, note: `${base()}.agc`, work: saveSource }, { name: T.menu.saveFeed, note: `${base()}.feed`, work: () => download(`${base()}.feed`, feed.text) }, ...(tests.text.trim() ? [{ name: T.menu.saveTests, note: `${base()}.tests`, work: () => download(`${base()}.tests`, tests.text) }] : []), { name: T.menu.saveAll, note: `${base()}.json`, work: saveAll }, { name: T.menu.link, work: copyLink },
+    { name: T.menu.open, note: T.menu.openNote, work: () => $("picker").click() }, { name: T.menu.fresh, work: () => openDoc({ name: T.unnamed, source: "        SETLOC  4000\n        ", feed: "" }).then(() => { editor.area.focus(); editor.area.setSelectionRange(1e6, 1e6); }) }, { name: T.menu.rename, note: S.name, work: rename }, "-",
+    { name: T.menu.save, note: `${base()}.agc`, work: saveSource }, { name: T.menu.saveFeed, note: `${base()}.feed`, work: () => save(`${base()}.feed`, feed.text) }, ...(tests.text.trim() ? [{ name: T.menu.saveTests, note: `${base()}.${expectation() ? "expect" : "test"}`, work: saveTests }] : []), { name: T.menu.saveAll, note: `${base()}.json`, work: saveAll }, { name: T.menu.link, work: copyLink },
     ...(mine.length ? [{ head: T.menu.mine }, ...mine.map((it) => ({ name: it.name || T.unnamed, note: new Date(it.at).toLocaleString("en", { dateStyle: "medium", timeStyle: "short" }), work: () => openDoc(it, { id: it.id }), remove: () => storage.remove(it.id) }))] : []),
-    { head: T.menu.examples }, ...examples.map((it) => ({ name: it.name, note: it.about, work: () => openDoc(it, { isExample: true }) })),
+    ...(examples.length ? [{ head: T.menu.lessons }] : []), ...examples.filter((it) => it.lesson).map((it) => ({ name: T.lesson(Number(/\d+/.exec(it.name))), note: it.lesson, work: () => openDoc(it, { isExample: true }) })),
+    ...(examples.length ? [{ head: T.menu.examples }] : []), ...examples.filter((it) => !it.lesson).map((it) => ({ name: it.name, note: it.about, work: () => openDoc(it, { isExample: true }) })),
   ]);
 }
+// How many steps, without a key.
+function showCounts(event) { openContext(event, $("counts"), [10, 100, 1000, 10_000, 100_000, 1_000_000].map((it) => ({ name: T.someOf(group(it)), work: () => { $("count").value = group(it); keepSoon(); } }))); }
 function showMore() {
   const theme = document.documentElement.dataset.theme;
   openMenu("more-menu", $("more"), [
     { name: T.more[theme === "dark" ? "light" : "dark"], note: "D", work: () => setTheme(theme === "dark" ? "light" : "dark") }, { name: T.more.lecture, note: "L", isOn: document.documentElement.classList.contains("lecture"), work: lecture }, { name: T.more.notes, isOn: setting.get("notes") !== "off", work: toggleNotes }, "-",
-    { name: T.more.page, note: `${base()}.html`, work: saveHandout }, { name: T.more.png, work: () => axis.picture().toBlob((it) => download(`${base()}-time.png`, it)) }, { name: T.more.svg, work: () => { const text = svgOf(chain); if (text) download(`${base()}-${T.chainFile}.svg`, text, "image/svg+xml"); else say(T.noChain); } }, { name: T.more.print, note: "Ctrl P", work: () => print() }, "-",
+    { name: T.more.page, work: saveHandout }, { name: T.more.png, work: () => axis.picture().toBlob((it) => save(`${base()}-time.png`, it)) }, { name: T.more.svg, work: () => { const text = svgOf(chain); if (text) save(`${base()}-${T.chainFile}.svg`, text, "image/svg+xml"); else say(T.noChain); } }, { name: T.more.print, note: "Ctrl P", work: () => print() }, "-",
     { name: T.more.about, work: async () => showDialog("agcws", el("p", {}, T.about(await engine.about))) },
   ]);
 }
 function toggleNotes() { const isOff = setting.get("notes") === "off"; setting.set("notes", isOff ? "on" : "off"); if (isOff) loadNotes(); else { editor.mark({ notes: new Map() }); axis.notes = []; axis.draw(); } }
 const handout = () => handoutOf({ session, names: S.names, name: S.name, source: editor.lines, cell: cell(), why: S.chosen, picture: S.picture, say });
-async function saveHandout() { if (S.isBuilt) download(`${base()}.html`, await handout(), "text/html"); }
+async function saveHandout() { if (S.isBuilt) save(`${base()}.html`, await handout(), "text/html"); }
 function setTheme(name, isKept = true) { document.documentElement.dataset.theme = name; axis.draw(); if (isKept) setting.set("theme", name); }
 function lecture() { const is = document.documentElement.classList.toggle("lecture"); setting.set("lecture", is ? "on" : "off"); scaled(); }
 // The form of the page, by its width in rem.
 function shape() {
-  const width = innerWidth / (10 * unit());
-  for (const it of [112, 90, 70]) document.body.classList.toggle(`to${it}`, width <= it);
+  const width = innerWidth / (10 * unit()), isLow = width > 56 && innerHeight / (10 * unit()) < 50;
+  for (const it of [112, 90, 70]) document.body.classList.toggle(`to${it}`, width <= it && !(it === 70 && isLow));
   for (const it of [150, 200]) document.body.classList.toggle(`from${it}`, width >= it);
+  // (a low screen has one room at a time too)
+  document.body.classList.toggle("low", isLow);
+  document.body.classList.toggle("roomed", isLow || width <= 70);
 }
 function scaled() { shape(); for (const it of [editor, feed, tests]) it.scaled(); axis.draw(); if (chain.asked) chain.show(chain.asked); if (S.tab === "steps") showSteps(); }
 
@@ -688,12 +766,14 @@ function label() {
   $("curve").prepend(icon("curve"));
   $("find").append(icon("find")); $("find").title = T.tips.find; $("find").setAttribute("aria-label", T.tips.find);
   $("stops").setAttribute("aria-label", T.stopsHead);
+  $("counts").title = T.tips.counts; $("counts").setAttribute("aria-label", T.tips.counts);
+  $("run").dataset.widest = T.build;
   axis.whole.textContent = T.tips.whole.split(" (")[0].toLowerCase().replace("the ", ""); axis.whole.title = T.tips.whole;
   $("faults").setAttribute("aria-description", T.toFault);
 }
 function bind() {
   document.querySelector(".transport").addEventListener("click", (event) => { const it = event.target.closest("[data-go]"); if (it && S.isBuilt) go[it.dataset.go](); });
-  for (const [id, work] of [["run", run], ["stop", stop], ["pace", pace], ["keys", showSheet], ["menu-open", showMenu], ["more", showMore], ["faults", nextFault], ["find", find]]) $(id).addEventListener("click", work);
+  for (const [id, work] of [["run", run], ["stop", stop], ["pace", pace], ["keys", showSheet], ["menu-open", showMenu], ["more", showMore], ["faults", nextFault], ["find", find], ["counts", showCounts]]) $(id).addEventListener("click", work);
   for (const id of ["menu", "more-menu", "context"]) $(id).addEventListener("keydown", menuKeys);
   $("picker").addEventListener("change", () => { openPicked($("picker").files); $("picker").value = ""; });
   $("count").addEventListener("keydown", (event) => { if (event.key === "Enter") run(); });
@@ -719,8 +799,9 @@ function bind() {
     });
   }
   $("rooms").addEventListener("click", (event) => { const it = event.target.closest("[data-room]"); if (it) { document.body.dataset.room = it.dataset.room; for (const one of [editor, feed, tests]) one.measure(); showTab(S.tab); axis.draw(); } });
-  document.addEventListener("click", (event) => { if (!event.target.closest(".file, .context")) closeMenus(); });
-  const dock = (height) => { const most = innerHeight - 330, now = Math.max(90, Math.min(most, height)); document.body.style.setProperty("--dock", `${now}px`); $("split").setAttribute("aria-valuenow", Math.round(now)); editor.measure(); };
+  bindTouch({ isMenuOpen: () => ["menu", "more-menu", "context"].some((it) => !$(it).hidden), closeMenus });
+  document.addEventListener("click", (event) => { if (!event.target.closest(".file, .context, #counts")) closeMenus(); });
+  const dock = (height) => { document.body.classList.remove("tall"); const most = innerHeight - 330, now = Math.max(90, Math.min(most, height)); document.body.style.setProperty("--dock", `${now}px`); $("split").setAttribute("aria-valuenow", Math.round(now)); editor.measure(); };
   $("split").addEventListener("pointerdown", (event) => { $("split").setPointerCapture(event.pointerId); $("split").onpointermove = (moved) => dock(innerHeight - moved.clientY - 4); $("split").onpointerup = () => { $("split").onpointermove = null; }; });
   $("split").addEventListener("keydown", (event) => { const by = { ArrowUp: 24, ArrowDown: -24 }[event.key]; if (by) { event.preventDefault(); event.stopPropagation(); dock(document.querySelector(".dock").offsetHeight + by); } });
   addEventListener("beforeunload", (event) => { keep(); if (!storage.isKept) event.preventDefault(); });
@@ -729,7 +810,7 @@ function bind() {
   for (const name of ["dragleave", "drop", "dragend"]) addEventListener(name, () => document.body.classList.remove("dropping"));
   addEventListener("drop", (event) => { event.preventDefault(); if (event.dataTransfer.files.length) openPicked(event.dataTransfer.files); });
   addEventListener("hashchange", openLink);
-  addEventListener("resize", shape);
+  addEventListener("resize", () => { const was = isRoomed(); shape(); if (was !== isRoomed()) scaled(); });
   bindKeys({ go, run, stop, pace, seek, showTab(name) { document.body.classList.add("unfolded"); showTab(name); }, tabs: TABS, closeMenus, isBusy: () => S.isMoving || S.isPacing, isBuilt: () => S.isBuilt, why: () => why(S.chosen || cell()), toggleBreak: () => toggleBreak(document.activeElement === editor.area ? editor.builtLine(editor.caretLine()) : S.picture?.where.line), edit: () => { showFile("source"); editor.enter(); }, find, menu: ownMenu, theme: () => setTheme(document.documentElement.dataset.theme === "dark" ? "light" : "dark"), lecture, save: saveSource, dsky: (event) => S.tab === "dsky" && dsky.key(event) });
 }
 async function begin() {
@@ -751,5 +832,5 @@ async function begin() {
   document.body.dataset.ready = String(Math.round(performance.now()));
 }
 // (for the tests of the page)
-window.workbench = { S, session, engine, editor, feed, tests, axis, chain, compare, handout, svg: () => svgOf(chain), go, seek, move, why, openDoc, openPicked, cell, storage };
+window.workbench = { S, examples, session, engine, editor, feed, tests, axis, chain, compare, handout, svg: () => svgOf(chain), go, seek, move, why, openDoc, openPicked, cell, storage };
 begin();

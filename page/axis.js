@@ -5,6 +5,8 @@ import { T } from './texts.js';
 
 // Heights, in tenths of a rem: the marks of interrupts, inputs, words put out; where the curve begins.
 const RUPT = 7, IN = 17.5, OUT = 28.5, TOP = 40, FOOT = 20;
+// The part of the line that a long idling at the end has.
+const FOLDED = 0.1;
 
 export class Axis {
   constructor(root, heard) {
@@ -29,12 +31,31 @@ export class Axis {
   get to() { return this.window ? Math.min(this.window[1], Math.max(this.n, 1)) : Math.max(this.n, 1); }
   get left() { return 10 * unit(); }
   get right() { return this.root.clientWidth - 48 * unit(); }
-  x(step) { return this.left + ((step - this.from) / Math.max(1, this.to - this.from)) * (this.right - this.left); }
-  step(x) { return Math.max(0, Math.min(this.n, Math.round(this.from + ((x - this.left) / (this.right - this.left)) * (this.to - this.from)))); }
+  // Where the run idles at its end for most of its steps, these have a tenth of the line: up to which step it is drawn in full, or null.
+  get fold() {
+    const { survey, n } = this;
+    if (this.window || !survey || survey.kind !== "exact" || survey.from !== 0 || survey.to !== n || survey.idle === undefined || n < 30) return null;
+    const most = Math.max(12, Math.ceil(survey.idle * 1.06) + 2);
+    return most < n * 0.6 ? most : null;
+  }
+  x(step) {
+    const { left, right, fold } = this, bend = right - (right - left) * FOLDED;
+    if (fold !== null) return step <= fold ? left + (step / fold) * (bend - left) : bend + ((step - fold) / (this.n - fold)) * (right - bend);
+    return left + ((step - this.from) / Math.max(1, this.to - this.from)) * (right - left);
+  }
+  step(x) {
+    const { left, right, fold } = this, bend = right - (right - left) * FOLDED;
+    const at = fold === null ? this.from + ((x - left) / (right - left)) * (this.to - this.from) : x <= bend ? ((x - left) / (bend - left)) * fold : fold + ((x - bend) / (right - bend)) * (this.n - fold);
+    return Math.max(0, Math.min(this.n, Math.round(at)));
+  }
   spot(event) { const box = this.root.getBoundingClientRect(); return { x: event.clientX - box.left, y: event.clientY - box.top }; }
   seek(event) {
     const { x, y } = this.spot(event), mark = event.type === "pointerdown" ? this.near(x, y) : null;
+    // (of many steps at once, a mark is looked at closer)
+    if (mark?.window) this.show([mark.window[0] - (mark.window[1] - mark.window[0]), mark.window[1] + (mark.window[1] - mark.window[0])]);
     this.heard.seek(mark ? mark.step : this.step(x));
+    // (a finger sees no tip)
+    if (mark?.isNote || (mark && event.pointerType === "touch")) this.heard.told(`${T.step(group(mark.step))}: ${mark.text}`);
   }
   show(window) {
     if (window) {
@@ -46,7 +67,7 @@ export class Axis {
     this.draw();
     this.heard.windowed();
   }
-  closer(factor, at = this.p) { if (this.n > 20) this.show([at - (at - this.from) * factor, at + (this.to - at) * factor]); }
+  closer(factor, at = this.p) { const end = Math.max(this.fold ?? this.to, at); if (this.n > 20) this.show([at - (at - this.from) * factor, at + (end - at) * factor]); }
   zoom(event) {
     if (this.n < 20) return;
     event.preventDefault();
@@ -56,7 +77,7 @@ export class Axis {
       if (this.window) this.show([this.from + by, this.to + by]);
       return;
     }
-    this.closer(Math.exp(Math.max(-60, Math.min(60, event.deltaY)) * 0.006), this.from + ((this.spot(event).x - this.left) / (this.right - this.left)) * span);
+    this.closer(Math.exp(Math.max(-60, Math.min(60, event.deltaY)) * 0.006), this.step(this.spot(event).x));
   }
   // Follows the position where it leaves the window.
   follow() {
@@ -75,11 +96,11 @@ export class Axis {
     if (!this.survey) return null;
     const u = unit(), base = this.root.clientHeight - FOOT * u;
     const marks = [
-      ...this.survey.inputs.map((it) => ({ step: it[0], y: IN * u, text: it[1] })),
-      ...this.survey.interrupts.map((it) => ({ step: it[0], y: RUPT * u, text: it[2] })),
-      ...this.survey.outputs.map((it) => ({ step: it[0], y: OUT * u, text: `CH ${octal(it[1], 3)} ${it[2]} = ${decimalOf(it[2])}` })),
+      ...this.survey.inputs.map(([step, text, count, window]) => ({ step, y: IN * u, text: text ?? T.inputsIn(group(count)), window })),
+      ...this.survey.interrupts.map(([step, , text, count, window]) => ({ step, y: RUPT * u, text: text ?? T.entriesIn(group(count)), window })),
+      ...this.survey.outputs.map(([step, channel, word, count, window]) => ({ step, y: OUT * u, text: word === null ? T.wordsIn(group(count)) : `CH ${octal(channel, 3)} ${word} = ${decimalOf(word)}`, window })),
       ...this.chain.map((it) => ({ step: it.t, y: base, text: it.text })),
-      ...this.notes.map((it) => ({ step: it.step, y: base - 9 * u, text: `${it.kind} ${it.text}` })),
+      ...this.notes.map((it) => ({ step: it.step, y: base - 9 * u, text: `${T.noteKinds[it.kind] || it.kind} ${it.text}`.trim(), isNote: true })),
     ];
     let best = null, least = 7 * u;
     for (const it of marks) {
@@ -144,15 +165,24 @@ export class Axis {
     this.paintPosition(pen, height);
   }
   paintAxis({ c, colour, u, font, bottom }, height) {
-    const { left, right } = this, span = Math.max(1, this.to - this.from), room = (right - left) / (92 * u);
+    const { left, right, fold } = this, end = fold ?? this.to, span = Math.max(1, end - this.from), room = (this.x(end) - left) / (92 * u), pin = this.x(this.p);
     let size = 10 ** Math.floor(Math.log10(span / room || 1));
     size = Math.max(1, [1, 2, 5, 10].map((it) => it * size).find((it) => span / it <= room) || size);
     font(11); c.textAlign = "center"; c.textBaseline = "alphabetic";
-    for (let at = Math.ceil(this.from / size) * size; at <= this.to; at += size) {
-      const x = Math.round(this.x(at)) + 0.5;
+    if (fold !== null) {
+      const bend = this.x(fold);
+      c.save(); c.beginPath(); c.rect(bend, 2, right - bend, bottom - 2); c.clip();
+      c.strokeStyle = colour("line"); c.beginPath();
+      for (let x = bend - bottom; x < right; x += 7 * u) { c.moveTo(x, bottom); c.lineTo(x + bottom, 0); }
+      c.stroke(); c.restore();
+      c.fillStyle = colour("faint");
+      if (Math.abs((bend + right) / 2 - pin) > c.measureText(T.idles).width / 2 + 8 * u) c.fillText(T.idles, (bend + right) / 2, height - 6 * u);
+    }
+    for (let at = Math.ceil(this.from / size) * size; at <= end; at += size) {
+      const x = Math.round(this.x(at)) + 0.5, isBelowPin = Math.abs(x - pin) < (c.measureText(group(at)).width / 2 + 8 * u);
       c.strokeStyle = colour("hair"); c.beginPath(); c.moveTo(x, 2); c.lineTo(x, bottom); c.stroke();
       c.fillStyle = colour("faint");
-      if ((x > left + 12 && x < right - 8) || at === 0) c.fillText(group(at), Math.max(left + 4, x), height - 6 * u);
+      if (!isBelowPin && ((x > left + 12 && x < right - 8) || at === 0)) c.fillText(group(at), Math.max(left + 4, x), height - 6 * u);
     }
     c.strokeStyle = colour("line"); c.beginPath(); c.moveTo(left, Math.round(bottom) + 0.5); c.lineTo(right, Math.round(bottom) + 0.5); c.stroke();
   }
@@ -160,12 +190,12 @@ export class Axis {
     // What lies ahead is paler.
     const { left, right, survey } = this, x = this.x(this.p);
     c.globalAlpha = 0.6; c.fillStyle = colour("pane");
-    if (x < right) c.fillRect(Math.max(left, x), 0, right - Math.max(left, x) + 4, bottom + 4 * u);
+    if (x < right && this.n) c.fillRect(Math.max(left, x), 0, right - Math.max(left, x) + 4, bottom + 4 * u);
     c.globalAlpha = 1;
     if (this.hover != null && !this.isDragged && this.n) { const at = Math.max(left, Math.min(right, this.hover)); c.strokeStyle = colour("faint"); c.setLineDash([2, 3]); c.beginPath(); c.moveTo(at + 0.5, 0); c.lineTo(at + 0.5, bottom); c.stroke(); c.setLineDash([]); }
     if (x < left - 1 || x > right + 1) return;
     c.strokeStyle = colour("now"); c.lineWidth = 1.5 * u; c.beginPath(); c.moveTo(x, 2); c.lineTo(x, bottom + 5 * u); c.stroke(); c.lineWidth = 1;
-    const word = survey?.cell ? this.wordAt(this.p) : null;
+    const word = survey?.cell ? this.heard.wordOf?.(survey.cell) ?? this.wordAt(this.p) : null;
     if (word != null && this.y && this.n) {
       const text = decimalOf(word), at = this.y(numberOf(word)), isLeft = x > right - 60 * u;
       font(12, "600"); c.textAlign = isLeft ? "right" : "left";
@@ -204,16 +234,18 @@ export class Axis {
     c.fillStyle = colour("chain");
     const [least, most] = this.range, say = (number) => group(number).replace("-", "\u2212");
     c.fillText(say(most), right + 6 * u, this.y(most) + 4 * u, 40 * u);
-    if (least !== most) c.fillText(say(least), right + 6 * u, this.y(least) + 3 * u, 40 * u);
+    if (least !== most && this.y(least) - this.y(most) > 11 * u) c.fillText(say(least), right + 6 * u, this.y(least) + 3 * u, 40 * u);
   }
   paintCurve({ c, colour, u, font, bottom }, survey) {
     const { left, right } = this, numbers = (list) => list.map(([step, word]) => [step, numberOf(word)]).filter((it) => it[1] != null), points = numbers(survey.curve);
+    const bands = (survey.bands || []).map(([from, to, least, most]) => [from, to, numberOf(least), numberOf(most)]);
     this.range = null;
     if (!points.length) return;
     // What it was before the last edit stays to be compared.
     const ghost = this.ghost?.cell === survey.cell && !this.window ? numbers(this.ghost.curve) : [];
     let low = Infinity, high = -Infinity;
     for (const [, value] of [...points, ...ghost]) { low = Math.min(low, value); high = Math.max(high, value); }
+    for (const [, , least, most] of bands) { low = Math.min(low, least); high = Math.max(high, most); }
     this.range = [low, high];
     if (low === high) { low -= 1; high += 1; }
     const y = this.y = (value) => bottom - 6 * u - ((value - low) / (high - low)) * (bottom - TOP * u - 14 * u);
@@ -230,6 +262,10 @@ export class Axis {
       if (Math.abs(y(last) - y(points[points.length - 1][1])) > 6 * u) { c.fillStyle = colour("soft"); c.textAlign = "right"; font(11); c.fillText(T.beforeEdit(group(last).replace("-", "\u2212")), end - 52 * u, y(last) + (y(last) < bottom - 30 * u ? 13 : -4) * u); }
     }
     const until = Math.min(survey.soFar || survey.to, this.to);
+    // (where a word has gone up and down within a part, all that it was)
+    c.globalAlpha = 0.28; c.fillStyle = colour("chain");
+    for (const [from, to, least, most] of bands) { const x = this.x(from); c.fillRect(x, y(most) - 0.5, Math.max(1, this.x(to) - x), Math.max(1, y(least) - y(most) + 1)); }
+    c.globalAlpha = 1;
     trace(points, until);
     c.strokeStyle = colour("chain"); c.lineWidth = 1.5 * u; c.lineJoin = "round"; c.stroke(); c.lineWidth = 1;
     const base = low < 0 && high > 0 ? y(0) : bottom;

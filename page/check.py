@@ -13,6 +13,7 @@ program has to be built. The parts, which run side by side:
     hostile       hostile inputs of each kind by SEED (hostile/cases.py)
     inputs        the greatest sources and feeds (bench/inputs.py)
     memory        memory that is refused, and the heap
+    mutants       wrong hosts, each of which one of the calls above has to tell
     arithmetic    arithmetic of 128 bits by SEED
     chromium, firefox, webkit     a page from the disk in each of these browsers
 
@@ -99,10 +100,10 @@ class Module:
 
     begun = []
 
-    def __init__(self, path):
+    def __init__(self, path, command=COMMAND):
         Module.begun.append(self)
         self.is_free = threading.Lock()
-        self.ran = subprocess.Popen(["node", COMMAND, "--calls", path], stdin=subprocess.PIPE, stdout=subprocess.PIPE)
+        self.ran = subprocess.Popen(["node", command, "--calls", path], stdin=subprocess.PIPE, stdout=subprocess.PIPE)
 
     def call(self, words, folder, given=b"", most=MOST_MEMORY):
         """What the program answers in a folder: its status, its output and its error output. What the engine refuses is an error output of its own."""
@@ -129,8 +130,8 @@ def natively(words, folder, given=b""):
 class Sides:
     """The native program and the module, each in a folder of its own with the same files."""
 
-    def __init__(self, module, room):
-        self.module, self.room, self.wrong, self.count = Module(module), room, [], 0
+    def __init__(self, module, room, command=COMMAND):
+        self.module, self.room, self.wrong, self.count = Module(module, command), room, [], 0
 
     def answer(self, side, call, files):
         folder = f"{self.room}/{side}"
@@ -191,6 +192,9 @@ def check_examples(group, module, room, _):
         """Calls the module where a part calls the program with pipes alone."""
         if how.get("timeout"):
             how["timeout"] = MOST_SECONDS_OF_CALL
+        if words[0] == program and any(isinstance(it, bytes) for it in words):
+            # (no page has words that are no text)
+            return run([PROGRAM, *words[1:]], **how)
         plain = words[0] == program and set(how) <= simple and how.get("stdout", -1) == how.get("stderr", -1) == -1
         if not plain or how.get("stdin", subprocess.DEVNULL) != subprocess.DEVNULL:
             return run(words, **how)
@@ -208,7 +212,7 @@ def check_examples(group, module, room, _):
     for name, wants in PARTS_OF_EXAMPLES[group].items():
         part = getattr(examples, name)
         with tempfile.TemporaryDirectory(dir=room) as own:
-            what = {"R": own, "P": program, "T": told, "M": examples.text_of("docs/MANUAL.md"), "E": EXAMPLES}
+            what = {"R": own, "P": program, "T": told, "E": EXAMPLES}
             part(*(what[it] for it in wants))
 
 
@@ -219,11 +223,11 @@ def waits(session):
 
 
 
-# Those parts, by the names of their functions, and what each is given: the folder (R), the program (P), told (T), the manual (M), the examples (E).
+# Those parts, by the names of their functions, and what each is given: the folder (R), the program (P), told (T), the examples (E).
 PARTS_OF_EXAMPLES = {
     "documents": {"check_documents": "R", "check_examples": "R", "check_flight": "R", "check_long_texts": "R", "check_likely_mistakes": "R"},
     "traces": {"check_traces": "R", "check_covers": "R", "check_operators": "", "check_one_processor": "", "check_inputs": "R", "check_debugger": "R"},
-    "checks": {"check_checks": "PRTM", "check_slips": "PRTE", "check_notes": "R", "check_end": "R", "check_command_line": ""},
+    "checks": {"check_checks": "PRT", "check_slips": "PRTE", "check_notes": "R", "check_end": "R", "check_command_line": ""},
     "rows": {"check_rows": "PTR", "check_arguments": "PTR"},
     "ropes": {
         "check_upgrade": "R", "check_ropes": "R", "check_parities": "R", "check_sums_made": "R", "check_sources_of_ropes": "R", "check_form_sums": "R",
@@ -247,6 +251,7 @@ def check_refusals(module, room, _):
         both.compare(["check", "my.agc", it], files)
         both.compare(["run", it, it, "3"], files)
         both.compare(["debug", it, "empty"], files, b"step 1\n")
+    compare_in_place(both)
     both.tell("images and files")
     commands = "asm run trace cover debug check explain upgrade words compare sums parity help".split()
     for words in [[], ["--version"], ["-V"], ["--help"], ["bogus"], ["--bogus"], *([it, *more] for it in commands for more in ([], ["--help"], ["--bogus"], ["a", "b", "c", "d", "e"]))]:
@@ -254,6 +259,12 @@ def check_refusals(module, room, _):
     for it in [f"{kind}{number}" for kind in ("E", "W", "") for number in range(64)]:
         both.compare(["explain", it])
     both.tell("words")
+
+
+def compare_in_place(both):
+    """An image is written to its place itself where all names of drafts are taken: of what stood there, and was longer, nothing stays."""
+    drafts = {f"made.rope.part{number}": b"" for number in range(100)}
+    both.compare(["asm", "my.agc", "made.rope"], {"my.agc": read(f"{EXAMPLES}/lost_sum.agc"), "made.rope": b"old " * 20000, **drafts})
 
 
 IMAGE_CALLS = [
@@ -297,10 +308,41 @@ def sessions(count, seed):
 
 def check_sessions(module, room, given):
     both, most = Sides(module, room), 0
+    compare_last_lines(both)
     for words, files, lines in sessions(2000 if given.all else 200, given.seed):
         most = max(most, len(both.compare(words, files, lines)[1]))
     both.tell("sessions")
     told("a session has replies", most > 2000)
+
+
+def compare_last_lines(both):
+    """The last line of a session is answered, whether a newline ends it or not."""
+    files = {"my.agc": read(f"{EXAMPLES}/lost_sum.agc"), "my.feed": read(f"{EXAMPLES}/lost_sum.feed")}
+    for lines in (b"regs", b"run 20\nwhy A", b"run 20\nback 3\n", b"run 20\n\nregs all"):
+        both.compare(["debug", "--extended", "my.agc", "my.feed"], files, lines)
+
+
+# Wrong hosts: what each does, what stands in host.js in place of what, and what tells it.
+MUTANTS = [
+    ("a file keeps what it held where it is to be made empty", "if (flags & Linux.O_TRUNC) {", "if (flags & 0) {", compare_in_place),
+    ("a last line without a newline is dropped", "const bytes = input(Number(count));", "const all = input(Number(count)), bytes = all.subarray(0, all.lastIndexOf(10) + 1);", compare_last_lines),
+    ("a file that was written is not handed on", "file.isWritten ||= (flags & Linux.O_ACCESS) !== 0;", "file.isWritten ||= false;", compare_in_place),
+]
+
+
+def check_mutants(module, room, _):
+    """Each wrong host answers otherwise than the native program."""
+    for number, (label, old, new, compare) in enumerate(MUTANTS):
+        folder = f"{room}/{number}"
+        os.mkdir(folder)
+        text = read(f"{HERE}/module/host.js").decode()
+        told(f"{label}: the text stands once", text.count(old) == 1, f"{text.count(old)} times")
+        write(f"{folder}/host.js", text.replace(old, new).encode())
+        write(f"{folder}/command.js", read(COMMAND))
+        write(f"{folder}/package.json", b'{"type": "module"}')
+        both = Sides(module, folder, f"{folder}/command.js")
+        compare(both)
+        told(f"{label}: that is told", both.wrong, f"{both.count} calls compared")
 
 
 def check_hostile(module, room, given):
@@ -645,7 +687,7 @@ def differing(wanted, got):
 PARTS = {
     **{group: functools.partial(check_examples, group) for group in PARTS_OF_EXAMPLES}, "chromium": lambda *given: check_browser("chromium", *given), "firefox": lambda *given: check_browser("firefox", *given),
     "webkit": lambda *given: check_browser("webkit", *given), "refusals": check_refusals, "sessions": check_sessions, "hostile": check_hostile, "inputs": check_inputs,
-    "memory": check_memory, "arithmetic": check_arithmetic,
+    "memory": check_memory, "mutants": check_mutants, "arithmetic": check_arithmetic,
 }
 
 

@@ -80,7 +80,9 @@ export class Compare {
     this.tell();
     if (!isSeen) return;
     this.draw(now);
-    if (!this.told.steps && !this.isReading) { await this.read(old, now); if (this.told?.key !== key || this.old !== old) return this.show(isSeen); this.draw(now); }
+    const { told } = this;
+    // (what was forgotten meanwhile is read anew, though it has the same key)
+    if (!told.steps && !this.isReading) { await this.read(old, now); if (this.told !== told || this.old !== old) return this.show(isSeen); this.draw(now); }
     return undefined;
   }
   // What the tab says.

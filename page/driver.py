@@ -108,8 +108,8 @@ class Browser:
         self.ask("POST", "/url", {"url": url})
 
     def script(self, text, *given):
-        """What a script of the page answers; where it answers a promise, what that comes to."""
-        wrapped = "const done = arguments[arguments.length - 1]; (async (...arguments_) => { " + text.replace("arguments[", "arguments_[") + " })(...arguments).then(it => done({it}), failed => done({failed: String(failed && failed.stack || failed)}));"
+        """What a script of the page answers; where it answers a promise, what that comes to. A node of the page is answered as true: it may be gone before it is named."""
+        wrapped = "const done = arguments[arguments.length - 1]; (async (...arguments_) => { " + text.replace("arguments[", "arguments_[") + " })(...arguments).then(it => done({it: it instanceof Node || it}), failed => done({failed: String(failed && failed.stack || failed)}));"
         told = self.ask("POST", "/execute/async", {"script": wrapped, "args": list(given)})
         if "failed" in told:
             raise Failed(told["failed"])

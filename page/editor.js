@@ -5,7 +5,7 @@ import { group, short } from './words.js';
 import { T } from './texts.js';
 
 const DIRECTIVES = new Set("SETLOC BANK BLOCK ERASE EQUALS = OCT OCTAL DEC 2OCT 2DEC 2DEC* DEC* CADR FCADR ECADR 2CADR GENADR ADRES EBANK= BNKSUM BBCON REMADR COUNT COUNT* SBANK= EVERY CHAN RUPT MEMORY CHECK= 2BCADR 2FCADR EQUALS SUBRO DNCHAN DNPTR".split(" "));
-const TESTS = new Set("test steps in out mem notes none".split(" "));
+const TESTS = new Set("test steps in out mem notes none SOURCE FEED STEPS TEST CHANNEL AT END ALWAYS NEVER WITHIN CYCLES THEN NOTHING".split(" "));
 const ROW = 20, LONG = 3000, AROUND = 400, MOST_COLOURED = 400;
 
 // The parts of a line, each with its kind.
@@ -15,7 +15,9 @@ function partsOf(text, kind) {
   for (const [word] of code.matchAll(/\s+|\S+/g)) {
     if (/^\s/.test(word)) { parts.push(["", word]); continue; }
     let name = "";
-    if (kind !== "source") name = /^[-+]?\d+$/.test(word) ? "num" : DIRECTIVES.has(word) || TESTS.has(word) ? "dir" : "op";
+    // (the name of a test is no word of its form)
+    if (kind === "tests" && field > 1 && /^\s*TEST\b/i.test(code)) name = "";
+    else if (kind !== "source") name = /^[-+]?\d+D?$/.test(word) ? "num" : DIRECTIVES.has(word) || TESTS.has(word) ? "dir" : "op";
     else if (field === 0) name = "label";
     else if (field === 1) name = DIRECTIVES.has(word) ? "dir" : "op";
     else if (/^[+-]?[\d.]+[DB]?$/.test(word)) name = "num";
@@ -31,12 +33,14 @@ export class Editor {
     Object.assign(this, { root, kind, heard, lines: [""], base: null, first: 0, size: 1, faults: new Map(), notes: new Map(), breaks: new Set(), counts: new Map(), most: 1, links: new Map(), places: new Map(), now: 0, pointed: 0, rows: new Map() });
     this.inside = el("div", { class: "in" });
     this.drawn = el("div", { "aria-hidden": "true" });
-    this.area = el("textarea", { spellcheck: "false", autocapitalize: "off", autocomplete: "off", wrap: "off", "aria-label": T.files[kind], "aria-description": T.leaveEditor });
+    this.area = el("textarea", { spellcheck: "false", autocapitalize: "off", autocomplete: "off", wrap: "off", "aria-label": T.files[kind], "aria-description": T.leaveEditor, placeholder: T.emptyFiles[kind] || null });
     this.inside.append(this.drawn, this.area);
     root.append(this.inside);
     this.area.addEventListener("input", () => this.typed());
     this.area.addEventListener("keydown", (event) => this.key(event));
     this.area.addEventListener("click", (event) => { if (event.ctrlKey || event.metaKey) heard.word?.(this.wordAt(this.area.selectionStart)); });
+    // (beside the text and below it, too)
+    root.addEventListener("mousedown", (event) => { if (event.button === 0 && event.target !== this.area && !event.target.closest(".g, .told, button")) { event.preventDefault(); this.area.focus({ preventScroll: true }); } });
     this.area.addEventListener("mousemove", (event) => this.hover(event));
     this.area.addEventListener("mouseleave", () => heard.hover?.(null));
     root.addEventListener("scroll", () => { this.shift(); this.draw(); heard.hover?.(null); }, { passive: true });
@@ -158,7 +162,8 @@ export class Editor {
   scaled() { this.charWidth = 0; this.measure(); }
   place() {
     this.area.style.top = `${this.first * this.rowHeight}px`;
-    this.area.style.height = `${(this.size + 1) * this.rowHeight}px`;
+    const isLast = this.first + this.size >= this.lines.length;
+    this.area.style.height = `${Math.max((this.size + 1) * this.rowHeight, isLast ? this.root.clientHeight - this.first * this.rowHeight : 0)}px`;
   }
   drawAll() { this.rows.clear(); this.drawn.replaceChildren(); this.draw(); }
   draw() {

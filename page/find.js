@@ -28,7 +28,7 @@ export function showFinder(box, heard) {
     if (it.kind === "line") return [el("span", {}, T.lineOf(it.line)), el("code", {}, it.text), el("em", {}, "")];
     if (it.kind === "place") return [el("span", {}, it.line ? T.lineOf(it.line) : it.place), el("code", {}, it.text), el("em", {}, "")];
     const word = it.symbol.kind === "FIXED" ? null : heard.wordOf(it.name);
-    return [el("span", {}, it.line ? T.lineOf(it.line) : ""), el("code", {}, el("b", {}, it.name), ` ${it.symbol.value}`), el("em", {}, isWord(word) ? `${word} ${decimalOf(word)}` : T.kinds[it.symbol.kind] || it.symbol.kind)];
+    return [el("span", {}, it.line ? T.lineOf(it.line) : ""), el("code", {}, el("b", {}, it.name), ` ${heard.names.placeOf(it.symbol)}`), el("em", {}, isWord(word) ? `${word} ${decimalOf(word)}` : T.kinds[it.symbol.kind] || it.symbol.kind)];
   };
   const draw = () => {
     list.replaceChildren(...rows.map((it, i) => { const row = el("div", { id: `found${i}`, role: "option", class: "found", onclick: () => choose(it), onmousemove: () => { if (at !== i) point(i); } }, ...told(it)); return row; }));

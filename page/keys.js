@@ -12,6 +12,26 @@ export function showSheet() {
   box.showModal();
 }
 
+// A finger that rests asks for the menu of what is below it; and one beside a menu that is open closes it, and no more.
+export function bindTouch({ isMenuOpen, closeMenus }) {
+  let timer = 0, from = null, taken = "";
+  document.addEventListener("pointerdown", (event) => {
+    clearTimeout(timer);
+    taken = "";
+    if (event.pointerType !== "touch") return;
+    if (isMenuOpen() && !event.target.closest(".menu, .file, #counts")) { taken = "menu"; return; }
+    const at = event.target.closest("button.cell, .editor .g");
+    if (!at) return;
+    from = event;
+    timer = setTimeout(() => { taken = "rest"; at.dispatchEvent(new MouseEvent("contextmenu", { bubbles: true, cancelable: true, clientX: from.clientX, clientY: from.clientY })); }, 550);
+  }, true);
+  document.addEventListener("pointermove", (event) => { if (from && Math.hypot(event.clientX - from.clientX, event.clientY - from.clientY) > 9) clearTimeout(timer); }, true);
+  for (const name of ["pointerup", "pointercancel"]) document.addEventListener(name, () => clearTimeout(timer), true);
+  // (the browser makes a mouse's click of what a finger did)
+  document.addEventListener("mousedown", (event) => { if (taken) event.preventDefault(); }, true);
+  document.addEventListener("click", (event) => { if (!taken || !event.isTrusted) return; event.preventDefault(); event.stopPropagation(); if (taken === "menu") closeMenus(); taken = ""; }, true);
+}
+
 export function bindKeys(on) {
   document.addEventListener("keydown", (event) => {
     const field = event.target.closest?.("input, textarea, select, dialog"), take = (work) => { event.preventDefault(); work(); };
@@ -26,7 +46,7 @@ export function bindKeys(on) {
     if (on.dsky(event)) return event.preventDefault();
     if (event.target.closest?.('[role="tab"], [role="menu"], [role="separator"]') && /^Arrow|Home|End/.test(event.key)) return null;
     const name = event.key.length === 1 ? event.key.toLowerCase() : event.key;
-    const by = { ArrowLeft: event.shiftKey ? on.go.back10 : on.go.back, ArrowRight: event.shiftKey ? on.go.step10 : on.go.step, Home: on.go.first, End: on.go.last, p: on.go.prev, n: on.go.next, o: on.go.over, u: on.go.out, r: on.run, t: on.pace, w: on.why, b: on.toggleBreak, m: on.menu }, always = { "/": on.find, g: () => $("position").focus(), e: on.edit, d: on.theme, l: on.lecture, "?": showSheet };
+    const by = { ArrowLeft: event.shiftKey ? on.go.back10 : on.go.back, ArrowRight: event.shiftKey ? on.go.step10 : on.go.step, Home: on.go.first, End: on.go.last, p: on.go.prev, n: on.go.next, o: on.go.over, u: on.go.out, r: on.run, t: on.pace, w: on.why, b: on.toggleBreak, m: on.menu, ...(document.documentElement.classList.contains("lecture") && { PageUp: on.go.back, PageDown: on.go.step }) }, always = { "/": on.find, g: () => $("position").focus(), e: on.edit, d: on.theme, l: on.lecture, "?": showSheet };
     if (/^[1-7]$/.test(name)) return take(() => on.showTab(on.tabs[Number(name) - 1]));
     if (always[name]) return take(always[name]);
     if (by[name] && on.isBuilt()) return take(by[name]);

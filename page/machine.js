@@ -20,6 +20,12 @@ export class Names {
     this.lineOf = new Map();
     for (const it of rows) if (it.word && !this.lineOf.has(it.place)) this.lineOf.set(it.place, it.line);
   }
+  // Where a symbol stands, as the listing has places.
+  placeOf({ kind, value }) {
+    if (kind !== "FIXED") return value;
+    const [bank, offset] = value.split(",");
+    return `${bank},${((parseInt(offset, 8) & 0o1777) + ({ "02": 0o4000, "03": 0o6000 }[bank] ?? 0o2000)).toString(8)}`;
+  }
   isRope(cell) { return isFixedPlace(cell) || this.kinds.get(cell)?.kind === "FIXED"; }
   // A cell as the program's names tell it.
   of(cell) {
@@ -84,6 +90,7 @@ export class Machine {
   }
   show(picture, old, names) {
     Object.assign(this, { picture, old, names });
+    this.root.classList.remove("bare");
     const focused = document.activeElement?.closest?.("button.cell")?.dataset.cell;
     this.showNext();
     const { regs } = picture, was = old?.regs || {};
@@ -93,6 +100,8 @@ export class Machine {
     $("words").replaceChildren(...(words.length ? words : [el("p", { class: "none" }, T.noNames)]));
     this.used ||= new Set();
     if (this.number !== picture.number) { this.number = picture.number; this.used.clear(); }
+    // (a word that was put out may be zero, and is asked for too)
+    for (const channel of picture.put) this.used.add(channel);
     for (const [channel, word] of picture.chans) if (word !== "00000") this.used.add(channel);
     const chans = [...this.used].sort((a, b) => a - b).slice(0, 64).map((it) => this.row(channelName(it), picture.chans.get(it) ?? "00000", old?.chans.get(it)));
     $("chans").replaceChildren(...(chans.length ? chans : [el("p", { class: "none" }, T.noChannels)]));
@@ -118,7 +127,7 @@ export class Machine {
     const did = picture.steps.find((it) => it.t === picture.p);
     if (picture.p === 0) lines.push(el("div", { class: "line" }, T.nothingDone));
     else if (did) {
-      const line = el("button", { class: "line did", title: T.whyDid, onclick: () => heard.why("") }, `${did.word === "INPUT" ? T.cameInput : did.word === "ENTRY" ? T.cameEntry : T.came} `, el("code", {}, did.text));
+      const line = el("button", { class: "line did", title: T.whyDid, onclick: () => heard.why(did.written.length ? names.of(did.written[0][0]) : "") }, `${did.word === "INPUT" ? T.cameInput : did.word === "ENTRY" ? T.cameEntry : T.came} `, el("code", {}, did.text));
       for (const [name, word] of did.written.slice(0, 4)) line.append("  ", el("b", {}, `${names.of(name)}=${word}`));
       lines.push(line);
     }

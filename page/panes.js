@@ -13,8 +13,10 @@ function table(kind, heads, label) {
 // Brings a row to the middle.
 function centre(root, row) {
   if (!row) return;
-  const box = row.getBoundingClientRect(), pane = root.getBoundingClientRect();
-  root.scrollTop += Math.round((box.top + box.height / 2) - (pane.top + pane.height / 2));
+  // (no row is cut off below the heads)
+  const box = row.getBoundingClientRect(), pane = root.getBoundingClientRect(), high = box.height || 1, rest = (root.scrollHeight - root.clientHeight) % high;
+  if (rest > 0.5) row.closest("table").style.marginBottom = `${high - rest}px`;
+  root.scrollTop = Math.max(0, Math.round((root.scrollTop + (box.top + high / 2) - (pane.top + pane.height / 2)) / high) * high);
 }
 
 export class Steps {
@@ -35,7 +37,7 @@ export class Steps {
       const way = wayOf(steps, i);
       if (it.word === "ENTRY") isInside = true;
       const kinds = [it.t === p && "at", it.t > p && "later", it.word === "ENTRY" && "entry", it.word === "INPUT" && "input", isInside && "rupt"].filter(Boolean).join(" ");
-      const written = it.written.flatMap(([name, word]) => [el("span", { "data-cell": name, title: T.whyThen(it.t) }, `${names.of(name)}=${word}`), " "]);
+      const written = it.written.flatMap(([name, word]) => [el("span", { "data-cell": name, title: `${formsOf(word, T.forms)}\n${T.whyThen(it.t)}` }, `${names.of(name)}=${word}`), " "]);
       body.append(el("tr", { class: kinds, "data-t": it.t, tabindex: -1, "aria-current": it.t === p ? "step" : null }, el("td", {}, group(it.t)), el("td", {}, group(it.cycles)), el("td", {}, it.place), el("td", {}, it.word), el("td", {}, it.text, way ? el("em", { class: "way" }, way) : ""), el("td", {}, ...written), el("td", { class: "out" }, it.output ? `CH ${octal(it.output.channel, 3)} ${it.output.word}` : ""), el("td", { class: "said" }, commentOf(it.line))));
       if (/^RESUME/.test(it.text)) isInside = false;
     }
@@ -43,7 +45,6 @@ export class Steps {
     root.replaceChildren(made);
     reachable(root, "tbody tr", ".at");
     if (wasFocused) body.querySelector(".at")?.focus({ preventScroll: true });
-    made.style.marginBottom = `${root.clientHeight / 2}px`;
     centre(root, body.querySelector(".at") || body.firstChild);
   }
 }
@@ -118,6 +119,8 @@ export class Console {
     });
     root.addEventListener("click", () => { if (!String(getSelection())) this.line.focus(); });
   }
+  // Another program stands here from now on.
+  begin(name) { if (this.log.children.length) this.log.append(el("div", { class: "of" }, name)); }
   asked(text) { this.log.append(el("div", { class: "q" }, `> ${text}`)); }
   told(lines) {
     for (const it of lines) this.log.append(el("div", { class: /^E\d\d/.test(it) ? "e" : "" }, it));

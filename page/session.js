@@ -3,17 +3,21 @@
 // A session tells of a step far before its last one by executing steps again, once for each command.
 // So a picture of the machine is asked of a session that ends shortly beyond the position: the run's own, or one of a few others over the same run ("views").
 import { Outputs } from './outputs.js';
-import { INTERRUPTS } from './words.js';
+import { COUNTERS, erasableOf, INTERRUPTS, placeOf } from './words.js';
 
-const SOURCE = "source.agc", FEED = "inputs.feed", MARK = "--";
+export const SOURCE = "source.agc";
+export const FEED = "inputs.feed";
+const EXPECT = "my.expect", MARK = "--";
 // The length of a part of a long move, by the clock and by what it writes; the steps of a part at first.
 const PART_MS = 90, PART_BYTES = 300_000, FIRST_PART = 1 << 18, LEAST_PART = 1 << 20, MOST_PART = 1 << 24;
 // What a step back costs in steps, and the start of a session; how far a view ends beyond the position.
 const BACK = 10, START = 300_000, BEYOND = 64, MOST_VIEWS = 3;
 export const AROUND = 24, MOST_STEPS = 1_099_511_627_774;
 // The line of time is exact for so many steps, and has so many samples beyond.
-const MOST_EXACT = 60_000, SAMPLES = 400, MOST_COVER = 60_000_000, MOST_NOTED = 30_000_000;
+const MOST_EXACT = 60_000, SAMPLES = 400, MOST_BUCKETS = 2000, PART_SUMMED = 1 << 21, MOST_COVER = 60_000_000, MOST_NOTED = 30_000_000;
 const MOST_FAULTS = 300;
+// Cells with a use of their own, as a trace names them where no symbol does.
+const SPECIAL = new Map([...COUNTERS, [0o20, "CYR"], [0o21, "SR"], [0o22, "CYL"], [0o23, "EDOP"]]);
 // How many steps of another run are read at once, at first and at most.
 const FIRST_READ = 500, MOST_READ = 4_000;
 // The channels that are looked at: those of the machine, and those that the feed or the program has used.
@@ -44,6 +48,8 @@ class Line {
 }
 
 const linesOf = (text) => text.split("\n").slice(0, text.endsWith("\n") || !text ? -1 : undefined);
+// What the program tells as JSON: an object a line, beside lines that are none.
+const objectsOf = (text) => linesOf(text).filter((it) => it.startsWith("{")).map((it) => JSON.parse(it));
 export const octalPlace = (number) => number.toString(8);
 
 function atOf(text) {
@@ -406,7 +412,7 @@ export class Session {
     }
     this.cycles = Number(regs.CYCLES) || 0;
     const { p, n, cycles, end, breaks, outputs, number } = this;
-    return { p, n, cycles, end, breaks: [...breaks], regs, where, words, chans, steps: this.around?.steps || [], display: outputs.display(cycles), count: outputs.count, number, took: performance.now() - began };
+    return { p, n, cycles, end, breaks: [...breaks], regs, where, words, chans, steps: this.around?.steps || [], display: outputs.display(cycles), count: outputs.count, put: outputs.used, number, took: performance.now() - began };
   }
   // The steps around the position that the page does not have yet.
   needed() {
@@ -415,7 +421,7 @@ export class Session {
     const from = Math.max(0, p - AROUND), to = Math.min(n, p + AROUND);
     return to > from ? { from, to } : null;
   }
-  placed(step) { const row = this.at.get(step.place); return { ...step, line: row && step.word !== "ENTRY" && step.word !== "INPUT" ? row.line : 0 }; }
+  placed(step) { const row = this.at.get(step.place); return { ...step, written: step.written.map(([cell, word]) => [this.untraced(cell), word]), line: row && step.word !== "ENTRY" && step.word !== "INPUT" ? row.line : 0 }; }
   standing(reply) {
     const where = { place: "", symbol: "", line: 0, text: "", word: "", interrupt: null };
     for (const line of linesOf(reply)) {
@@ -515,15 +521,14 @@ export class Session {
 
   // What is worked out beside the session, by a call of its own.
 
-  async cover(p = this.p) {
-    const { number } = this, told = await this.beside("cover", ["cover", ...this.words, String(Math.min(p, MOST_COVER))]);
+  async cover(p = this.p, asked = "cover") {
+    const { number } = this, told = await this.beside(asked, ["cover", "--json", ...this.words, String(Math.min(p, MOST_COVER))]);
     if (!told || told.status || number !== this.number) return null;
     const counts = new Map();
-    for (const line of linesOf(told.output)) {
-      const figures = /^ *(\d+) +(\d+) +(\d+) \d\d,/.exec(line);
-      if (!figures) continue;
-      const [times, cycles] = counts.get(Number(figures[3])) || [0, 0];
-      counts.set(Number(figures[3]), [times + Number(figures[1]), cycles + Number(figures[2])]);
+    for (const row of objectsOf(told.output)) {
+      if (row.kind !== "line" || !row.count) continue;
+      const [times, cycles] = counts.get(row.line) || [0, 0];
+      counts.set(row.line, [times + row.count, cycles + row.cycles]);
     }
     return counts;
   }
@@ -531,30 +536,40 @@ export class Session {
   async notes() {
     const { number } = this;
     if (this.n > MOST_NOTED) return [];
-    const told = await this.beside("notes", ["run", "--notes", ...this.words, String(this.n)]);
+    const told = await this.beside("notes", ["run", "--notes", "--json", ...this.words, String(this.n)]);
     if (!told || told.status || number !== this.number) return null;
-    const notes = [];
-    for (const line of linesOf(told.errors)) {
-      const found = /^NOTE (\S+) +(.*?)STEP (\d+)(?: CYCLES (\d+))?(?: TIMES (\d+))?$/.exec(line);
-      if (!found) continue;
-      const fields = found[2].trim().split(/ {2,}/), row = this.at.get(fields[0]);
-      notes.push({ kind: found[1], step: Number(found[3]), times: Number(found[5] || 1), line: row?.line || 0, text: fields.slice(2).join(" ") || fields[0] || "", whole: line.slice(5) });
-    }
-    return notes;
+    return objectsOf(told.errors).map((it) => ({ kind: it.kind, step: it.step ?? this.n, times: it.count || 1, line: this.at.get(it.place)?.line || 0, text: it.text || it.interrupt || (it.channel ? `CH${it.channel}` : "") }));
   }
-  // The name by which a trace tells a cell: a number that EQUALS has named is told as a place is.
+  // The name by which a trace tells a cell: its first symbol, the manual's name of one with a use of its own, the symbol before it, or its place. A number that
+  // EQUALS has named is told as its place is.
   traced(cell) {
-    const found = this.symbols.find((it) => it.name === cell);
-    if (!found || found.kind !== "NUM" || !/^[0-7]+$/.test(found.value)) return cell;
-    const at = parseInt(found.value, 8);
-    return ["A", "L", "Q", "EB", "FB"][at] || `E${(at >> 8).toString(8)},${(at < 0o1400 ? at : 0o1400 | (at & 0o377)).toString(8).padStart(4, "0")}`;
+    const found = this.symbols.find((it) => it.name === cell), [base, by] = cell.split(" +");
+    if (found && found.kind !== "NUM") return cell;
+    const at = found ? (/^[0-7]+$/.test(found.value) ? parseInt(found.value, 8) : null) : by ? this.erasableAt(base, by) : erasableOf(cell);
+    return at === null ? cell : this.tracedAt(at);
+  }
+  tracedAt(at) {
+    const named = (number) => this.symbols.find((it) => it.kind === "ERASABLE" && parseInt(it.value, 8) === number)?.name, exact = ["A", "L", "Q", "EB", "FB", "Z", "BB"][at] || named(at) || SPECIAL.get(at);
+    if (exact) return exact;
+    for (let by = 1; by <= 0o77 && at - by >= 0o61; by += 1) { const name = named(at - by); if (name) return `${name}+${by.toString(8)}`; }
+    return placeOf(at);
+  }
+  erasableAt(base, by) {
+    const found = this.symbols.find((it) => it.name === base && it.kind === "ERASABLE");
+    return found ? parseInt(found.value, 8) + parseInt(by, 8) : null;
+  }
+  // A cell of a trace that no symbol is, as a listing has its place.
+  untraced(cell) {
+    if (this.symbols.some((it) => it.name === cell)) return cell;
+    const [base, by] = cell.split("+"), at = by ? this.erasableAt(base, by) : [...SPECIAL].find(([, name]) => name === cell)?.[0] ?? null;
+    return at === null ? cell : placeOf(at);
   }
   // What happens in a window of steps: interrupts, inputs, words put out, and the words of a cell.
   async survey({ from, to, cell, buckets }, told) {
     const { number } = this, mine = this.surveyed = (this.surveyed || 0) + 1, isOver = () => mine !== this.surveyed || number !== this.number;
     to = Math.min(this.n, to);
     try {
-      const found = to - from <= MOST_EXACT && to <= 40 * MOST_EXACT ? await this.exact(from, to, cell, isOver) : await this.sampled(from, to, cell, Math.min(buckets, SAMPLES), isOver, told);
+      const found = to - from <= MOST_EXACT ? await this.exact(from, to, cell, isOver) : (this.has.has("survey") && await this.summed(from, to, cell, Math.min(buckets, MOST_BUCKETS), isOver, told)) || await this.sampled(from, to, cell, Math.min(buckets, SAMPLES), isOver, told);
       return isOver() || !found ? null : { ...found, from, to, cell };
     } catch (failed) { if (failed instanceof Ended) return null; throw failed; }
   }
@@ -582,9 +597,10 @@ export class Session {
       curve.push([from, word]);
     }
     if (to <= from) return { kind: "exact", interrupts, inputs, outputs, curve, cycles };
-    const all = await this.beside("survey", ["trace", ...this.words, String(to), "--from", String(from + 1)]);
-    if (!all || all.status) return null;
-    const lines = linesOf(all.output), wanted = cell ? ` ${name}=` : null, every = Math.max(1, Math.floor(lines.length / 1500));
+    // (far from the start a session is there already)
+    const isFar = to > 40 * MOST_EXACT, all = isFar ? null : await this.beside("survey", ["trace", ...this.words, String(to), "--from", String(from + 1)]);
+    if (!isFar && (!all || all.status)) return null;
+    const lines = linesOf(isFar ? (await (await this.surveyorAt(to, isOver)).ask(`trace ${to - from}`))[0] : all.output), wanted = cell ? ` ${name}=` : null, every = Math.max(1, Math.floor(lines.length / 1500));
     for (let i = 0; i < lines.length; i += 1) {
       const line = lines[i], step = from + 1 + i;
       // (a page draws between two parts of it)
@@ -600,7 +616,40 @@ export class Session {
         if (at >= 0) { const now = /^[0-7]+/.exec(line.slice(at + wanted.length))[0]; if (now !== word) { word = now; curve.push([step, word]); } }
       }
     }
-    return { kind: "exact", interrupts, inputs, outputs, curve, cycles };
+    // (from where on nothing but one and the same instruction is executed)
+    let idle = to;
+    const of = (line) => line?.replace(/^\S+ +\S+ +/, ""), last = of(lines[lines.length - 1]);
+    if (/ TCF? .* -$/.test(last)) while (idle > from && of(lines[idle - from - 1]) === last) idle -= 1;
+    return { kind: "exact", interrupts, inputs, outputs, curve, cycles, idle };
+  }
+  // Of as many steps each: how many interrupts, inputs and words put out, and the least, the greatest and the last word. Nothing is passed over.
+  async summed(from, to, cell, buckets, isOver, told) {
+    const line = await this.surveyorAt(from, isOver), size = Math.ceil((to - from) / buckets), part = size * Math.max(1, Math.floor(PART_SUMMED / size)), interrupts = [], inputs = [], outputs = [], curve = [], bands = [], cycles = [];
+    let at = from, shown = performance.now();
+    curve.push([from, /([0-7]{5,6})\s*$/.exec((await line.ask(`mem ${cell || "0"}`))[0])?.[1] ?? null]);
+    const state = () => ({ kind: "summed", from, to, soFar: at, cell, curve, bands, cycles, interrupts, inputs, outputs, every: size });
+    while (at < to) {
+      await this.leisure(isOver);
+      const end = Math.min(to, at + part), asks = [`survey ${at + 1} ${end} ${Math.ceil((end - at) / size)} ${cell}`];
+      if (line.n < end) { asks.unshift(`goto ${line.n}`, `step ${end - line.n}`); line.n = end; }
+      const reply = (await line.ask(...asks)).pop();
+      if (isOver()) return null;
+      if (!/^BUCKET /.test(reply)) return null;
+      for (const it of linesOf(reply)) {
+        const found = /^BUCKET (\d+) (\d+) ENTRIES (\d+) INPUTS (\d+) OUTPUTS (\d+)(?: : ([0-7]+) ([0-7]+) ([0-7]+))?/.exec(it);
+        if (!found) continue;
+        const [last, after, entered, taken, put] = found.slice(1, 6).map(Number), [least, most, now] = found.slice(6), window = [at, last];
+        if (entered) interrupts.push([at + 1, last, null, entered, window]);
+        if (taken) inputs.push([at + 1, null, taken, window]);
+        if (put) outputs.push([at + 1, null, null, put, window]);
+        if (least !== most) bands.push([at, last, least, most]);
+        if (now !== undefined && now !== curve[curve.length - 1][1]) curve.push([last, now]);
+        cycles.push([last, after]);
+        at = last;
+      }
+      if (performance.now() - shown > 250) { shown = performance.now(); told?.(state()); }
+    }
+    return state();
   }
   async sampled(from, to, cell, buckets, isOver, told) {
     const line = await this.surveyorAt(from, isOver), interrupts = [], outputs = [], curve = [], cycles = [], ask = `mem ${cell || "0"}`;
@@ -649,11 +698,16 @@ export class Session {
     return found;
   }
 
+  // What the program says of a text of tests.
+  async expected(stated, { source, feed }) {
+    const files = { [EXPECT]: stated.asked, [SOURCE]: source, [FEED]: feed };
+    return this.engine.call(["expect", EXPECT], files, "");
+  }
   // One run from its first step to its last, for a test: what it puts out, what is told of it, and some words at its end.
   async once({ source, feed, flight, steps, places }) {
     const files = { [SOURCE]: source, [FEED]: feed }, words = [...(flight ? ["--flight"] : []), SOURCE, FEED];
-    const ran = await this.engine.call(["run", "--notes", ...words, String(steps)], files, "");
-    const told = { status: ran.status, errors: ran.errors || ran.failed, outputs: [], notes: linesOf(ran.errors).filter((it) => it.startsWith("NOTE ")).map((it) => it.slice(5)), cells: new Map() };
+    const ran = await this.engine.call(["run", "--notes", "--json", ...words, String(steps)], files, "");
+    const told = { status: ran.status, errors: ran.errors || ran.failed, outputs: [], notes: objectsOf(ran.errors), cells: new Map() };
     for (const [, cycles, channel, word] of ran.output.matchAll(/^(\d+) CH ([0-7]{3}) ([0-7]{5})$/gm)) told.outputs.push({ cycles: Number(cycles), channel: parseInt(channel, 8), word });
     if (places.length && !ran.status) {
       const given = [`step ${steps}`, ...places.map((it) => `mem ${it}`), "quit", ""].join("\n");

@@ -37,7 +37,7 @@ SERVED = os.environ.get("AGCWS_PAGE")
 STEPS = 100_000_000 if os.environ.get("AGCWS_LONG") else 5_000_000
 # The most seconds of what is waited for, on a machine however busy.
 MOST_SECONDS = 120
-WIDTHS = (360, 800, 1280, 2560)
+WIDTHS = (360, 1024, 1920, 2560)
 # The browser of these tests; and which of them a browser other than Chromium is tried by. (In WebKit no session waits for its next line, so each line costs what
 # all before it have cost.)
 IS_ONE = sys.argv[1:2] == ["--in"]
@@ -49,6 +49,7 @@ TRIED_BY = {
     "Firefox": {
         "Runs": ("it_is_ready_and_tells_what_it_is", "nothing_is_asked_of_any_server_and_no_rule_of_the_policy_is_broken", "a_server_may_have_it_too"),
         "Search": OF_SEARCH,
+        "Used": ("a_click_below_a_text_enters_it", "what_a_text_of_tests_claims_is_green_and_red", "nothing_moves_away_below_the_pointer", "a_program_is_begun_and_named", "a_lesson_begins_at_its_start_and_what_idles_is_narrow"),
         "Kept": ("what_is_typed_is_there_after_a_reload_in_the_midst_of_a_run", "a_full_store_is_told_and_nothing_is_lost", "two_tabs_never_write_over_one_another", "a_link_holds_the_whole_task", "a_spoilt_link_is_told_and_the_page_goes_on"),
     },
     "WebKit": {
@@ -56,6 +57,7 @@ TRIED_BY = {
         "Search": OF_SEARCH,
         "Asked": ("a_name_a_place_and_a_text_are_found", "the_last_choice_is_told_with_its_way", "what_a_run_puts_out_is_stated_by_a_click", "what_the_program_takes_has_a_button"),
         "Beside": ("a_comment_changes_nothing_and_code_that_has_moved_is_the_same", "a_run_that_is_kept_is_compared_with_another_program"),
+        "Used": ("what_a_text_of_tests_claims_is_green_and_red", "nothing_moves_away_below_the_pointer", "a_lesson_begins_at_its_start_and_what_idles_is_narrow"),
         "Kept": ("a_full_store_is_told_and_nothing_is_lost",),
     },
 }
@@ -167,7 +169,7 @@ class Workbench(unittest.TestCase):
         self.wait(f"return workbench.session.source === workbench.editor.text && workbench.session.n === {steps} && !workbench.S.isMoving")
 
     def example(self, name):
-        self.js("await workbench.openDoc(JSON.parse(document.getElementById('examples').textContent).find(it => it.name === arguments[0]), {isExample: true})", f"{name}.agc")
+        self.js("await workbench.openDoc(workbench.examples.find(it => it.name === arguments[0]), {isExample: true})", f"{name}.agc")
 
     def place(self, selector, x=8, y=8):
         """A place in what is seen, from the corner of a thing."""
@@ -188,7 +190,7 @@ class Runs(Workbench):
                 continue
             name, _, steps = line.split()
             with self.subTest(name):
-                put = self.js("await workbench.openDoc(JSON.parse(document.getElementById('examples').textContent).find(it => it.name === arguments[0]), {isExample: true}); const {outputs, n} = workbench.session; return [n, outputs.cycles.map((it, i) => `${it} CH ${outputs.channels[i].toString(8).padStart(3, '0')} ${outputs.words[i].toString(8).padStart(5, '0')}\\n`).join('')]", f"{name}.agc")
+                put = self.js("await workbench.openDoc(workbench.examples.find(it => it.name === arguments[0]), {isExample: true}); const {outputs, n} = workbench.session; return [n, outputs.cycles.map((it, i) => `${it} CH ${outputs.channels[i].toString(8).padStart(3, '0')} ${outputs.words[i].toString(8).padStart(5, '0')}\\n`).join('')]", f"{name}.agc")
                 self.assertEqual(put, [int(steps), read(f"{ROOT}/examples/{name}.out")])
                 self.assertFalse(self.js("return document.getElementById('faults').classList.contains('bad')"))
 
@@ -276,13 +278,13 @@ class Search(Workbench):
         self.js("workbench.editor.showLine(27); workbench.editor.area.focus(); const at = workbench.editor.text.indexOf('INDEX   COUNT'); workbench.editor.area.setSelectionRange(at + 3, at + 4)")
         began = time.monotonic()
         browser.keys("X")
-        self.wait("return document.querySelector('#editor .told')")
+        self.wait("return document.querySelector('#editor .told:not(.note)')")
         figure(f"a fault is told {(time.monotonic() - began) * 1000:.0f} ms after the key, of which 180 are the page's patience")
-        self.assertIn("E15", browser.text("#editor .told"))
+        self.assertIn("E15", browser.text("#editor .told:not(.note)"))
         self.assertIn("1 error", browser.text("#faults"))
         # (what stands beside the lines below has moved with them, and the run stands still)
         self.assertEqual(self.at(), [60, 60])
-        browser.click("#editor .told")
+        browser.click("#editor .told:not(.note)")
         self.wait("return document.getElementById('dialog').open")
         self.assertIn("E15", browser.text("#dialog"))
 
@@ -348,6 +350,7 @@ class Beside(Workbench):
     def test_a_comment_changes_nothing_and_code_that_has_moved_is_the_same(self):
         source = read(f"{ROOT}/examples/waitlist.agc")
         self.example("waitlist")
+        self.still()
         n = self.at()[1]
         # (three words more before the program: all places move)
         moved = source.replace("        SETLOC  4100\n", "        SETLOC  4100   # further on\n        OCT     1\n        OCT     2\n        OCT     3\n", 1)
@@ -421,12 +424,83 @@ class Asked(Workbench):
         self.wait("return document.querySelector('#editor .is-now')?.textContent.includes('CCS')")
         self.assertEqual(self.js("return [...document.querySelectorAll('.steps-table .way')].map(it => it.textContent).includes('+0')"), True)
 
+    def test_a_zero_that_was_put_out_is_there_to_be_asked_for(self):
+        # (the sign of -9 comes out as 0, since two ways of CCS are exchanged)
+        source = "        SETLOC  100\nX       ERASE\n        SETLOC  4000\n        CAF     NINE\n        TS      X\n        CCS     X\n        TCF     PLUS\n        TCF     MINUS\n        TCF     NUL\nNUL     CAF     ZERO\n        TCF     OUT\nPLUS    CAF     ONE\n        TCF     OUT\nMINUS   CAF     LESS\nOUT     EXTEND\n        WRITE   11\nHERE    TCF     HERE\nNINE    DEC     -9\nONE     OCT     1\nZERO    OCT     0\nLESS    OCT     77776\n"
+        self.take(source, 60)
+        self.rest("document.querySelector('#chans [data-cell=\"CH011\"]')")
+        self.browser.click('#chans [data-cell="CH011"]')
+        self.wait("return document.querySelector('.why h2')?.textContent.includes('CH011 0')")
+        self.assertIn("ZERO 0", self.browser.text(".why .ask"))
+
     def test_what_a_run_puts_out_is_stated_by_a_click(self):
-        self.example("key_echo")
+        self.example("relay_word")
         self.browser.click('[data-tab="tests"]')
         self.js("[...document.querySelectorAll('#tab-tests button')].find(it => it.textContent === 'State what this run puts out').click()")
         self.wait("return document.querySelector('.test.good')")
-        self.assertEqual(self.js("return workbench.tests.text.match(/^  out /gm).length"), self.js("return workbench.session.outputs.count"))
+        self.assertEqual(self.js("return workbench.tests.text.match(/ [0-7]{5}\\b/g).length"), self.js("return workbench.session.outputs.count"))
+        self.assertRegex(self.js("return workbench.tests.text"), r"^STEPS   \d+\nTEST    as this run\n        CHANNEL 010 .* THEN NOTHING\n$")
+
+    def test_an_exercise_of_the_course_is_red_until_it_is_solved(self):
+        self.browser.click("#menu-open")
+        self.js("[...document.querySelectorAll('#menu button')].find(it => it.textContent.startsWith('Lesson 3a loop')).click()")
+        self.wait("return workbench.S.name === 'lesson_03.agc' && document.body.dataset.ready")
+        self.assertIn("# Exercise 3: ", self.js("return workbench.editor.text"))
+        self.browser.click('[data-tab="tests"]')
+        self.wait("return document.querySelector('.test.bad')")
+        self.take(read(f"{ROOT}/examples/course/03/model.agc"), 200)
+        self.browser.click("#tab-tests .small")
+        self.wait("return document.querySelector('.test.good')")
+
+    def test_the_wrong_solutions_of_a_lesson_are_there_to_be_searched(self):
+        self.browser.click("#menu-open")
+        self.js("[...document.querySelectorAll('#menu button')].find(it => it.textContent.startsWith('Lesson 10')).click()")
+        self.wait("return workbench.S.name === 'lesson_10.agc' && document.body.dataset.ready && !workbench.S.isMoving")
+        self.browser.click('[data-tab="tests"]')
+        self.assertIn("channel", self.browser.text(".asked"))
+        self.js("[...document.querySelectorAll('#tab-tests .small')].find(it => it.textContent === 'Wrong 1').click()")
+        self.wait("return workbench.S.name === 'lesson_10_wrong_1.agc' && document.querySelector('.test.bad')")
+        self.assertEqual(self.js("return workbench.editor.text"), read(f"{ROOT}/examples/course/10/wrong_1.agc").replace(": a solution with a mistake in it.", ""))
+        # (a handler without RESUME is executed once, and no key is taken after that; without RELINT none is taken at all)
+        self.js("[...document.querySelectorAll('#tab-tests .small')].find(it => it.textContent === 'Wrong 2').click()")
+        self.wait("return workbench.S.name === 'lesson_10_wrong_2.agc' && document.querySelector('.test.bad')")
+        self.browser.click(".test.bad")
+        self.wait("return document.querySelector('.told-why')")
+        self.assertRegex(self.browser.text(".told-why"), r"Why is line \d+ not executed again\?\s+WRITE 10, on line \d+, is executed once, here for the last time\. At the end of the run interrupt 5 waits, since the one that is served has not come to RESUME\.")
+
+    def test_routines_are_passed_over_and_left_and_all_breakpoints_hold(self):
+        browser = self.browser
+        source = "        SETLOC  100\nX       ERASE\n        SETLOC  4000\n        CA      FIVE\n        TC      TWICE\n        TS      X\n        EXTEND\n        WRITE   11\nDONE    TCF     DONE\nTWICE   DOUBLE\n        RETURN\nFIVE    DEC     5\n"
+        self.js("await workbench.openDoc({name: 'calls.agc', source: arguments[0], steps: 40, position: 1})", source)
+        self.js("document.activeElement.blur()")
+        browser.keys("o")
+        self.rest("workbench.session.p === 5 && document.getElementById('said').textContent.includes('It took')")
+        self.js("await workbench.seek(2)")
+        browser.click('[data-go="out"]')
+        self.rest("workbench.session.p === 5")
+        for stop, at in (("exec 02,4006", 3), ("change X", 6), ("word X 12", 6), ("chan 11 12", 8)):
+            self.js("await workbench.seek(0); await workbench.session.clearBreak(); await workbench.session.breakpoint(arguments[0]); await workbench.seek(1); await workbench.seek(0)", stop)
+            browser.click('[data-go="next"]')
+            self.rest(f"workbench.session.p === {at}")
+        self.js("await workbench.session.clearBreak()")
+
+    def test_what_is_seldom_meant_is_marked_in_the_source_and_on_the_line_of_time(self):
+        browser = self.browser
+        # (the routine calls another and loses its own way back)
+        source = "        SETLOC  4000\n        CA      ONE\n        TC      OUTER\nDONE    TCF     DONE\nOUTER   TC      INNER\n        RETURN\nINNER   RETURN\nONE     DEC     1\n"
+        self.js("await workbench.openDoc({name: 'lost.agc', source: arguments[0], steps: 40})", source)
+        self.wait("return workbench.axis.notes.length && document.querySelector('#now .badge.odd')")
+        at = self.js("return workbench.axis.notes[0].step")
+        x, y = self.js("const {axis} = workbench, box = axis.root.getBoundingClientRect(); return [box.left + axis.x(arguments[0]), box.top + axis.root.clientHeight - 29]", at)
+        browser.pointer((int(x), int(y)), "down", "up")
+        self.rest(f"workbench.session.p === {at}")
+        self.assertIn("executed in erasable memory", browser.text("#said"))
+        browser.click("#now .badge.odd")
+        self.rest("document.getElementById('now').textContent.includes('RETURN') && document.querySelector('.why h2')?.textContent.includes('Why is Q')")
+
+    def test_a_listing_is_opened_as_the_source_that_it_shows(self):
+        self.js("await workbench.openPicked([new File([arguments[0]], 'names.lst')])", read(f"{ROOT}/examples/names.lst"))
+        self.assertEqual(self.js("return [workbench.S.name, workbench.S.isBuilt, workbench.editor.text.trimEnd()]"), ["names.agc", True, read(f"{ROOT}/examples/names.agc").rstrip()])
 
     def test_a_line_has_a_menu(self):
         browser = self.browser
@@ -466,8 +540,8 @@ class Asked(Workbench):
 
     def test_a_fault_is_explained_where_the_pointer_rests_on_it(self):
         self.js("const {editor} = workbench; editor.area.focus(); editor.area.setSelectionRange(0, 0); document.execCommand('insertText', false, '        CB      SUM\\n')")
-        self.wait("return document.querySelector('#editor .told')")
-        self.browser.pointer(self.place("#editor .told", 40, 9), self.place("#editor .told", 44, 9))
+        self.wait("return document.querySelector('#editor .told:not(.note)')")
+        self.browser.pointer(self.place("#editor .told:not(.note)", 40, 9), self.place("#editor .told:not(.note)", 44, 9))
         self.wait("return !document.getElementById('hover').hidden && document.getElementById('hover').textContent.length > 60")
 
     def test_what_the_program_takes_has_a_button(self):
@@ -480,9 +554,172 @@ class Asked(Workbench):
         self.wait("return !document.querySelector('.press') && !workbench.S.isMoving")
 
 
+class Used(Workbench):
+    """What people stumbled over, who had never seen the page: a student, a lecturer, one who dislikes typing."""
+
+    def test_a_click_below_a_text_enters_it(self):
+        browser = self.browser
+        self.js("await workbench.openDoc({name: 'mine.agc', source: '        SETLOC  4000\\nDONE    TCF     DONE\\n', steps: 20})")
+        for name in ("tests", "feed"):
+            browser.click(f'[data-file="{name}"]')
+            x, y = self.place(f"#{name}", 300, 160)
+            browser.pointer((x, y), "down", "up")
+            browser.keys(*"# my text")
+            self.assertEqual(self.js(f"return workbench.{name}.text"), "# my text")
+        self.assertEqual(self.js("return [workbench.editor.text, workbench.S.isPacing]"), ["        SETLOC  4000\nDONE    TCF     DONE\n", False])
+
+    def test_what_a_text_of_tests_claims_is_green_and_red(self):
+        browser = self.browser
+        self.wait("return document.querySelector('[data-tab=\"tests\"] i')?.textContent === '1/2'")
+        browser.click('[data-tab="tests"]')
+        self.assertIn("CHANNEL 012 50D THEN NOTHING: it is 00075 (61) after step 47", browser.text(".test.bad"))
+        browser.click(".test.bad")
+        self.rest("workbench.session.p === 47 && document.querySelector('.why h2')?.textContent.includes('CH012 61')")
+        # (no result stays of what was built before)
+        self.take(MENDED, 60)
+        self.wait("return document.querySelector('[data-tab=\"tests\"] i')?.textContent === '2/2'")
+        # (a text of the page needs no lines that name its files)
+        self.js("workbench.tests.text = 'TEST a word\\n  CHANNEL 12 50D\\n  ALWAYS TICKS < 2\\nTEST two\\n  CHANEL 12 0\\n'; workbench.tests.area.dispatchEvent(new Event('input'))")
+        self.wait("return document.querySelector('.tests-head .bad')")
+        self.assertIn("Line 5 of the tests: TEST, CHANNEL, AT, ALWAYS, NEVER or CALLS is asked for; CHANNEL is near", browser.text(".tests-head"))
+        self.assertEqual(self.js("const it = workbench.tests.faults.get(5)[0]; return [it.column, it.length]"), [3, 6])
+        self.js("workbench.tests.text = 'TEST a word\\n  CHANNEL 12 50D\\nTEST two\\n  CHANNEL 13 1\\n'; workbench.tests.area.dispatchEvent(new Event('input'))")
+        self.wait("return document.querySelector('[data-tab=\"tests\"] i')?.textContent === '1/2'")
+        self.assertIn("nothing came", browser.text(".test.bad"))
+
+    def test_files_are_taken_with_their_tests_and_as_many_steps_as_these_need(self):
+        room = f"{ROOT}/examples/course/12"
+        files = [[name, read(f"{room}/{name}")] for name in ("wrong_1.agc", "exercise.feed", "exercise.test")]
+        picked = "await workbench.openPicked(arguments[0].map(([name, text]) => new File([text], name)))"
+        self.js(picked, files)
+        self.assertEqual(self.at(), [4000, 4000])
+        self.wait("return document.querySelector('[data-tab=\"tests\"] i')?.textContent === '0/1'")
+        # (what stands here already is no second one)
+        kept = self.js("return workbench.storage.all().length")
+        self.js(picked, files)
+        self.assertEqual(self.js("return workbench.storage.all().length"), kept)
+        self.js(picked, [["a.agc", "        SETLOC  4000\n"], ["b.agc", "        SETLOC  4000\n"]])
+        self.assertIn("b.agc was not opened", self.browser.text("#said"))
+
+    def test_what_is_said_is_so(self):
+        self.js("await workbench.openPicked([new File(['        CA      NOWHERE\\n'], 'bad.agc')])")
+        self.assertIn("errors", self.browser.text("#said"))
+        self.assertEqual(self.js("return document.querySelector('#state .cols').getClientRects().length"), 0)
+        self.js("await workbench.openDoc({name: 'good.agc', source: '        SETLOC  4000\\nDONE    TCF     DONE\\n', steps: 20}); const {area} = workbench.editor; area.focus(); area.setSelectionRange(area.value.length, area.value.length); document.execCommand('insertText', false, '        CA      NOWHERE')")
+        self.wait("return document.getElementById('said').textContent.includes('NOWHERE')")
+        self.js("workbench.editor.area.select(); document.execCommand('insertText', false, '        SETLOC  4000\\nDONE    TCF     DONE\\n')")
+        self.wait("return !document.getElementById('said').textContent")
+
+    def test_nothing_moves_away_below_the_pointer(self):
+        browser = self.browser
+        top = "return Math.round(document.getElementById('tabs').getBoundingClientRect().top)"
+        browser.click('[data-tab="dsky"]')
+        stands = self.js(top)
+        for name in ("output", "compare", "console", "steps", "tests"):
+            browser.click(f'[data-tab="{name}"]')
+            self.assertEqual(self.js(top), stands, name)
+        left = "return Math.round(document.querySelector('[data-go=\"step\"]').getBoundingClientRect().left)"
+        stands = self.js(left)
+        self.js("workbench.editor.area.focus(); document.execCommand('insertText', false, '# mine\\n')")
+        self.wait("return document.getElementById('run').textContent.startsWith('Build')")
+        self.assertEqual(self.js(left), stands)
+
+    def test_a_program_is_begun_and_named(self):
+        browser = self.browser
+        self.menu("New")
+        self.wait("return workbench.S.name === 'untitled.agc' && document.activeElement === workbench.editor.area")
+        browser.keys(*"CAF", "Tab", *"ONE")
+        self.assertEqual(self.js("return workbench.editor.text"), "        SETLOC  4000\n        CAF     ONE")
+        self.menu("Rename")
+        self.wait("return document.activeElement.classList.contains('finder')")
+        browser.keys(*"sums", "Enter")
+        self.wait("return document.getElementById('name').textContent === 'sums.agc' && !document.getElementById('dialog').open")
+        self.wait("return workbench.storage.all().some(it => it.name === 'sums.agc' && it.source.endsWith('ONE'))")
+
+    def menu(self, name):
+        self.browser.click("#menu-open")
+        self.js("[...document.querySelectorAll('#menu button')].find(it => it.textContent.startsWith(arguments[0])).click()", name)
+
+    def test_a_lesson_begins_at_its_start_and_what_idles_is_narrow(self):
+        self.browser.click("#start1")
+        self.wait("return workbench.S.name === 'lesson_01.agc' && document.body.dataset.ready && !workbench.S.isMoving && workbench.axis.survey?.kind === 'exact'")
+        self.assertEqual(self.at(), [0, 60])
+        self.assertEqual(self.js("return document.querySelectorAll('.cell.changed').length"), 0)
+        self.browser.click("#start0")
+        self.rest("workbench.session.p === 1")
+        # (DONE TCF DONE, from step 7 on)
+        self.wait("return workbench.axis.survey.idle === 6 && workbench.axis.fold === 12")
+        self.assertEqual(self.js("const {axis} = workbench; return Array.from({length: 61}, (_, i) => axis.step(axis.x(i))).every((it, i) => it === i)"), True)
+        self.assertGreater(self.js("const {axis} = workbench; return (axis.x(12) - axis.left) / (axis.right - axis.left)"), 0.85)
+
+    def test_the_step_that_came_before_tells_why(self):
+        self.js("await workbench.seek(22)")
+        self.browser.click("#now .did")
+        self.wait("return document.querySelector('.why h2')?.textContent.includes('Why is SUM 1?')")
+
+    def test_why_a_line_is_not_executed_stands_in_the_pane(self):
+        self.js("await workbench.openDoc({name: 'never.agc', source: '        SETLOC  4000\\n        TCF     DONE\\n        CA      ONE\\nDONE    TCF     DONE\\nONE     OCT     1\\n', steps: 20})")
+        self.js("document.querySelector('#editor [data-line=\"3\"] .g').dispatchEvent(new MouseEvent('contextmenu', {bubbles: true, cancelable: true})); [...document.querySelectorAll('#context b')].find(it => it.textContent === 'Why is it not executed?').closest('button').click()")
+        self.wait("return document.querySelector('.told-why')?.textContent.includes('TCF DONE, on line 2, is the last before line 3')")
+        self.browser.click(".told-why .small")
+        self.wait("return document.querySelector('#editor .is-pointed')?.dataset.line === '2'")
+
+    def test_before_an_audience_the_chain_has_the_room_and_a_presenter_steps(self):
+        browser = self.browser
+        browser.size(1024, 768)
+        self.js("document.activeElement.blur(); await workbench.seek(10)")
+        browser.keys("l")
+        browser.keys("\ue00f")
+        self.rest("workbench.session.p === 11")
+        browser.keys("\ue00e")
+        self.rest("workbench.session.p === 10")
+        browser.click('[data-tab="output"]')
+        self.assertEqual(self.js("return [document.querySelector('.pane.why').getClientRects().length, document.querySelector('#regs').getBoundingClientRect().bottom < document.querySelector('.pane.state').getBoundingClientRect().bottom]"), [0, True])
+        browser.click("#tab-output tbody tr")
+        self.wait("return document.querySelector('.why h2') && document.querySelector('.pane.why').getClientRects().length")
+        self.assertLess(self.js("return document.querySelector('.dock').offsetHeight"), 60)
+        self.js("document.activeElement.blur()")
+        browser.keys("l")
+        browser.size(1280, 800)
+
+    @unittest.skipUnless(BROWSER is driver.Chromium, "fingers are Chromium's alone")
+    def test_a_finger_does_all(self):
+        browser = self.browser
+        browser.chrome("Emulation.setTouchEmulationEnabled", enabled=True, maxTouchPoints=5)
+        browser.size(390, 844, 1, True)
+        self.open()
+        self.tap("#rooms [data-room='state']")
+        self.tap('#words [data-cell="SUM"]', rest=800)
+        self.wait("return !document.getElementById('context').hidden")
+        # (what closes a menu does nothing else)
+        self.tap('#words [data-cell="COUNT"]')
+        self.wait("return document.getElementById('context').hidden")
+        self.assertEqual(self.js("return [document.body.dataset.room, document.querySelector('.why h2')]"), ["state", None])
+        self.tap("#counts")
+        self.wait("return !document.getElementById('context').hidden")
+        self.tap("#context .item:nth-child(2) button")
+        self.assertEqual(self.js("return document.getElementById('count').value"), "100")
+        self.tap("#run")
+        self.rest("workbench.session.n === 160")
+        self.tap("[data-go='prev']")
+        self.wait("return !document.getElementById('toast').hidden && document.getElementById('toast').textContent.includes('No breakpoint is set')")
+        # (on its side it has one room at a time, too; and so has a screen on which all is twice as large)
+        for width, height in ((844, 390), (640, 400)):
+            browser.size(width, height, 1, True)
+            self.wait("return document.body.classList.contains('low') && document.querySelector('main').offsetHeight > 180")
+            self.assertEqual(self.js("return document.documentElement.scrollWidth <= innerWidth"), True)
+        browser.chrome("Emulation.setTouchEmulationEnabled", enabled=False)
+        browser.size(1280, 800)
+
+    def tap(self, selector, rest=40):
+        x, y = self.place(selector, 12, 12)
+        finger = [{"type": "pointerMove", "x": x, "y": y, "duration": 0, "origin": "viewport"}, {"type": "pointerDown", "button": 0}, {"type": "pause", "duration": rest}, {"type": "pointerUp", "button": 0}]
+        self.browser.ask("POST", "/actions", {"actions": [{"type": "pointer", "id": "finger", "parameters": {"pointerType": "touch"}, "actions": finger}]})
+
+
 class Handed(Workbench):
     def test_a_handout_of_a_thousand_steps_stands_by_itself(self):
-        self.js("await workbench.openDoc({...JSON.parse(document.getElementById('examples').textContent).find(it => it.name === 'waitlist.agc'), steps: 1000}, {isExample: true}); await workbench.seek(500)")
+        self.js("await workbench.openDoc({...workbench.examples.find(it => it.name === 'waitlist.agc'), steps: 1000}, {isExample: true}); await workbench.seek(500)")
         name = self.js("return workbench.S.names.erasable.find(it => workbench.S.picture.words[it.at] !== '00000').name")
         links = self.js("await workbench.why(arguments[0]); return workbench.chain.links.map(it => it.t)", name)
         text = self.js("return workbench.handout()")
@@ -544,6 +781,29 @@ class Long(Workbench):
         seek = self.js("const began = performance.now(); await workbench.session.go('goto', workbench.session.n >> 1); await workbench.session.look(); const first = performance.now() - began, again = performance.now(); await workbench.session.go('back', 1); await workbench.session.look(); return [first, performance.now() - again]")
         figure(f"{STEPS:,} steps {took:.1f} s, {len(frames)} frames, median {frames[len(frames) // 2]:.1f} ms, 99 % below {frames[len(frames) * 99 // 100]:.1f}, worst {frames[-1]:.0f}; a look {look:.1f} ms; to the middle {seek[0]:.0f} ms, a step back {seek[1]:.1f} ms")
         self.assertEqual(self.js("const {p, n} = workbench.session; return p === (n >> 1) - 1"), True)
+
+    def test_the_line_of_time_passes_over_nothing_however_long(self):
+        # (COUNT goes from 0 to 16383 again and again, and a key comes in once; of 600,000 steps a part has some hundred)
+        self.js("await workbench.openDoc({name: 'endless.agc', source: arguments[0], feed: '700001 CHAN 15 21\\n', steps: 600000})", ENDLESS)
+        self.wait("return workbench.axis.survey?.kind === 'summed' && workbench.axis.survey.soFar === workbench.session.n")
+        every, inputs, bands, last = self.js("const {every, inputs, bands, curve} = workbench.axis.survey; return [every, inputs, bands, curve.at(-1)]")
+        self.assertEqual([it[2] for it in inputs], [1])
+        at = self.js("await workbench.seek(arguments[0] - 1); const it = await workbench.session.nearest('chan 15 21', false); return it", inputs[0][0])
+        self.assertTrue(inputs[0][0] <= at < inputs[0][0] + every, (inputs, at))
+        self.assertEqual([min(int(it[2], 8) for it in bands), max(int(it[3], 8) for it in bands)], [0, 0o37777])
+        self.assertEqual(last[1], self.js("await workbench.seek(600000); return workbench.S.picture.words[64]"))
+        # (closer, each step is shown)
+        self.js("workbench.axis.show([arguments[0] - 20, arguments[0] + 20])", at)
+        self.wait("return workbench.axis.survey.kind === 'exact'")
+        self.assertEqual(self.js("return workbench.axis.survey.inputs[0]"), [at, "CHAN 015 00021 ASKS KEYRUPT1"])
+
+    def test_run_goes_to_the_end_first(self):
+        self.js("await workbench.seek(20)")
+        self.browser.click("#run")
+        self.rest("workbench.session.p === 60 && workbench.session.n === 60")
+        self.assertIn("Run makes 60 steps more", self.browser.text("#said"))
+        self.browser.click("#run")
+        self.rest("workbench.session.n === 120")
 
     def test_an_endless_run_is_stopped_and_the_run_goes_on(self):
         self.js("await workbench.openDoc({name: 'endless.agc', source: arguments[0], steps: 100})", ENDLESS)
@@ -744,7 +1004,7 @@ def pictures(folder):
         for theme in ("light", "dark"):
             browser.media(prefers_color_scheme=theme)
             for width in WIDTHS if folder else (1280,):
-                browser.size(width, {360: 740, 2560: 1300}.get(width, 800))
+                browser.size(width, {360: 740, 1024: 768, 1920: 1080, 2560: 1300}.get(width, 800))
                 for name, script in SCENES.items() if folder else [("lost_sum", SCENES["lost_sum"])]:
                     browser.open("about:blank")
                     browser.open(page)
@@ -760,7 +1020,7 @@ def pictures(folder):
         browser.close()
 
 
-EXAMPLE = "await workbench.openDoc(JSON.parse(document.getElementById('examples').textContent).find(it => it.name === '%s.agc'), {isExample: true}); "
+EXAMPLE = "await workbench.openDoc(workbench.examples.find(it => it.name === '%s.agc'), {isExample: true}); "
 # What the pictures show.
 SCENES = {
     "lost_sum": "await workbench.why('SUM'); await workbench.seek(22); document.body.dataset.room = 'why'",
@@ -769,13 +1029,21 @@ SCENES = {
     "key_echo": EXAMPLE % "key_echo" + "document.querySelector('[data-tab=\"dsky\"]').click(); await workbench.why('CH010'); document.body.dataset.room = 'dock'",
     "digits": EXAMPLE % "relay_word" + "document.querySelector('[data-tab=\"dsky\"]').click()",
     "waitlist": EXAMPLE % "waitlist" + "document.querySelector('[data-tab=\"output\"]').click()",
-    "product": EXAMPLE % "double_product" + "document.querySelector('[data-tab=\"memory\"]').click(); await workbench.why('PRODUCT')",
+    "memory": EXAMPLE % "double_product" + "document.querySelector('[data-tab=\"memory\"]').click(); await workbench.why('PRODUCT')",
     "fault": "workbench.editor.showLine(27); const at = workbench.editor.text.indexOf('INDEX   COUNT'); workbench.editor.area.focus({preventScroll: true}); workbench.editor.area.setSelectionRange(at + 3, at + 4); document.execCommand('insertText', false, 'X'); workbench.editor.showLine(27); document.querySelector('[data-tab=\"tests\"]').click(); document.body.dataset.room = 'source'",
     "two_runs": f"workbench.editor.area.focus(); workbench.editor.area.select(); document.execCommand('insertText', false, {json.dumps(MENDED)}); document.getElementById('run').click(); await new Promise(done => setTimeout(done, 900)); document.activeElement.blur(); document.querySelector('[data-tab=\"compare\"]').click(); document.body.dataset.room = 'dock'",
     "found": "document.getElementById('find').click(); const field = document.querySelector('.finder'); field.value = 't'; field.dispatchEvent(new Event('input'))",
     "word_menu": "await workbench.seek(22); await workbench.session.breakpoint('change SUM'); await workbench.session.breakpoint('at LOOP'); await workbench.seek(23); document.body.dataset.room = 'state'; document.querySelector('#words [data-cell=\"SUM\"]').dispatchEvent(new MouseEvent('contextmenu', {bubbles: true, cancelable: true}))",
     "menu": "document.getElementById('menu-open').click()",
+    "more": "document.getElementById('more').click()",
     "keys": "document.getElementById('keys').click()",
+    "lesson": "document.getElementById('menu-open').click(); [...document.querySelectorAll('#menu button')].find(it => it.textContent.startsWith('Lesson 5')).click(); await new Promise(done => setTimeout(done, 900)); document.body.dataset.room = 'source'",
+    "tests": "document.querySelector('[data-tab=\"tests\"]').click(); document.querySelector('[data-file=\"tests\"]').click(); await new Promise(done => setTimeout(done, 900)); document.body.dataset.room = 'dock'",
+    "feed": "document.querySelector('[data-file=\"feed\"]').click()",
+    "console": "document.querySelector('[data-tab=\"console\"]').click(); document.body.dataset.room = 'dock'; for (const it of ['why SUM', 'mem TABLE 5']) { const field = document.querySelector('#tab-console input'); field.value = it; field.form.requestSubmit(); await new Promise(done => setTimeout(done, 300)); }",
+    "new": "document.getElementById('menu-open').click(); [...document.querySelectorAll('#menu button')].find(it => it.textContent.startsWith('New')).click(); await new Promise(done => setTimeout(done, 900))",
+    "broken": "await workbench.openDoc({name: 'broken.agc', source: '        SETLOC  4000\\n        CA      NOWHERE\\n', steps: 20}); document.body.dataset.room = 'state'",
+    "never": "document.activeElement.blur(); workbench.editor.showLine(19); const row = document.querySelector('#editor [data-line=\"23\"] .g'); row?.dispatchEvent(new MouseEvent('contextmenu', {bubbles: true, cancelable: true, clientX: 40, clientY: 300}))",
     "lecture": "document.activeElement.blur(); document.dispatchEvent(new KeyboardEvent('keydown', {key: 'l'})); await workbench.why('SUM'); await workbench.seek(22)",
 }
 

@@ -1,10 +1,10 @@
 // What a program is to put out, test by test, and whether it does.
 import { el } from './dom.js';
 import { decimalOf, group, numberOf, octal } from './words.js';
-import { withInput } from './session.js';
+import { FEED, SOURCE, withInput } from './session.js';
 import { T } from './texts.js';
 
-const MOST_STATED = 40;
+const MOST_STATED = 40, HEADS = ["SOURCE", "FEED", "STEPS", "TEST"];
 
 // A word as a person states it: octal, or with a sign decimal.
 function statedOf(text) {
@@ -32,10 +32,36 @@ export function testsOf(text) {
   });
   return { tests, faults };
 }
-// A test that states what a run has put out, and no more.
+// A text as `agcws expect` takes it: its tests, each with its line, and the words of each line. Null where the text has the short form above.
+// A text of the page may leave out its first lines: they are put before it here (`before` counts them).
+export function statedOfProgram(text, { source, feed, steps }) {
+  const lines = text.split("\n").map((it) => it.split("#")[0].trim()), words = lines.map((it) => it.split(/\s+/).filter(Boolean)), first = words.find((it) => it.length)?.[0];
+  if (!HEADS.includes(first)) return null;
+  const head = (name) => words.find((it) => it[0] === name)?.slice(1).join(" "), isWhole = head("SOURCE") !== undefined, given = isWhole ? [] : [`SOURCE ${source}`, ...(head("FEED") === undefined ? [`FEED ${feed}`] : []), ...(head("STEPS") === undefined ? [`STEPS ${steps}`] : [])];
+  const tests = lines.map((it, i) => ({ kind: "expect", name: it.slice(4).trim() || T.test, line: i + 1, steps: Number(head("STEPS")) || steps, inputs: [], hasFeed: !isWhole || head("FEED") !== undefined })).filter((_, i) => words[i][0] === "TEST");
+  const rows = text.split("\n"), whole = [...given, ...rows];
+  // (to the program the two files are called as those of the session)
+  return { tests, words, rows, before: given.length, text: whole.join("\n"), asked: whole.map((it) => it.replace(/^(\s*)(SOURCE|FEED)\s.*/, (_, blank, name) => `${blank}${name} ${name === "SOURCE" ? SOURCE : FEED}`)).join("\n") };
+}
+// What the program says of each test, with where it goes wrong; and the line that it cannot read.
+export function toldByProgram(stated, { output, errors }) {
+  const fault = /^[^:\n]*:(\d+):(\d+): error: (.*)$/m.exec(output + errors), results = [];
+  if (fault) { const line = Math.max(1, Number(fault[1]) - stated.before), column = Number(fault[2]); return { results, faults: [{ file: "tests", line, column, length: /^\S*/.exec((stated.rows[line - 1] || "").slice(column - 1))[0].length || 1, kind: "error", number: "", text: fault[3], cure: "" }] }; }
+  for (const it of output.split("\n")) {
+    if (/^ok {3}/.test(it)) results.push({ wrong: null });
+    const found = /^FAIL .*: line (\d+), step (\d+), cycle (\d+): (.*)$/.exec(it);
+    if (!found) continue;
+    const claim = stated.words[Number(found[1]) - stated.before - 1] || [], channel = claim[0] === "CHANNEL" && /^[0-7]+$/.test(claim[1]) ? parseInt(claim[1], 8) : null, came = found[4].replace(/; wanted .*$/, ""), isMissed = came === "nothing came";
+    const isAt = claim[0] === "AT", place = channel !== null ? `CH${octal(channel, 3)}` : claim.slice(isAt ? (/^\+/.test(claim[2]) ? 3 : 2) : 1, claim.findIndex((one) => /^[<>=]+$/.test(one))).join(" "), said = claim.join(" ");
+    results.push({ wrong: isMissed ? { said: T.claimMissed(said), channel, label: isAt ? claim[1] : null } : { said: claim[0] === "CALLS" ? `${said}: ${came}` : T.claimFailed(said, came.replace(/^it is /, ""), group(found[2])), step: Number(found[2]), place } });
+  }
+  return { results, faults: [], said: results.length || !errors ? "" : / is refused: E\d+ LINE/.test(errors) ? T.refusedSource : errors.trim().replace(/^.*?error: |^agcws: /, "") };
+}
+// A test that states what a run has put out, and no more: in the order of each channel.
 export function statedBy({ name, n, outputs }) {
-  const lines = [`test ${name}`, `  steps ${n}`], most = Math.min(outputs.count, MOST_STATED);
-  for (let i = 0; i < most - outputs.first; i += 1) lines.push(`  out ${octal(outputs.channels[i], 3)} ${octal(outputs.words[i])}`);
+  const lines = [`STEPS   ${n}`, `TEST    ${name}`], most = Math.min(outputs.count, MOST_STATED), put = new Map();
+  for (let i = 0; i < most - outputs.first; i += 1) put.set(outputs.channels[i], [...(put.get(outputs.channels[i]) || []), octal(outputs.words[i])]);
+  for (const [channel, words] of [...put].sort((a, b) => a[0] - b[0])) lines.push(`        CHANNEL ${octal(channel, 3)} ${words.join(" ")}${most === outputs.count ? " THEN NOTHING" : ""}`);
   return `${lines.join("\n")}\n`;
 }
 export const feedOf = (test, feed) => test.inputs.reduce((all, [cycle, text]) => withInput(all, cycle, text), test.hasFeed ? feed : "");
@@ -54,23 +80,24 @@ export function judge(test, told) {
     } else if (it.kind === "mem") {
       const found = told.cells.get(it.place);
       if (!same(found, it.word)) return { said: found ? T.otherWord(it.place, say(found), say(it.word)) : T.noPlace(it.place), place: found ? it.place : null };
-    } else if (told.notes.length) return { said: T.noted(told.notes[0]), place: null, step: Number(/STEP (\d+)/.exec(told.notes[0])?.[1] || 0) };
+    } else if (told.notes.length) return { said: T.noted(told.notes[0]), place: null, step: told.notes[0].step };
   }
   return null;
 }
 
 export class Tests {
   constructor(root, heard) { Object.assign(this, { root, heard, results: [] }); this.show(); }
-  show(tests = [], results = []) {
+  show(tests = [], results = [], fault = "") {
     this.results = results;
     const good = results.filter((it) => it && !it.wrong).length, all = results.filter(Boolean).length;
-    this.heard.counted(all ? `${good}/${all}` : "", all > 0 && good < all);
-    if (!tests.length) { this.root.replaceChildren(el("div", { class: "empty-tab" }, el("p", {}, T.noTests), el("pre", {}, T.testExample), el("button", { onclick: () => this.heard.write() }, T.writeTests), " ", el("button", { onclick: () => this.heard.take() }, T.takeTests))); return; }
-    const list = el("div", { class: "tests", role: "list" });
+    this.heard.counted(fault ? "!" : all ? `${good}/${all}` : "", Boolean(fault) || (all > 0 && good < all));
+    if (!tests.length) { this.root.replaceChildren(el("div", { class: "empty-tab two" }, el("div", {}, el("p", {}, T.noTests), el("p", { class: "row" }, el("button", { class: "small", onclick: () => this.heard.write() }, T.writeTests), el("button", { class: "small", onclick: () => this.heard.take() }, T.takeTests))), el("pre", {}, T.testExample))); return; }
+    const list = el("div", { class: "tests", role: "list" }), lesson = this.heard.lesson();
     tests.forEach((test, i) => {
       const result = results[i], kind = !result ? "waits" : result.wrong ? "bad" : "good";
       list.append(el("div", { role: "listitem" }, el("button", { class: `test ${kind}`, title: T.testTitle, onclick: () => this.heard.open(test, result) }, el("b", { "aria-hidden": "true" }, { waits: "\u00b7", bad: "\u2715", good: "\u2713" }[kind]), el("span", {}, test.name), el("em", {}, !result ? T.testWaits : result.wrong ? result.wrong.said : T.testGood))));
     });
-    this.root.replaceChildren(el("div", { class: "tests-head" }, el("button", { class: "small", onclick: () => this.heard.run() }, T.runTests), el("span", { class: "quiet" }, all ? T.testsPassed(good, all) : "")), list);
+    if (lesson) list.append(el("p", { class: "asked", role: "listitem" }, el("b", {}, `${T.exercise} `), lesson.asked), el("p", { class: "row", role: "listitem" }, el("span", { class: "quiet" }, T.wrongOnes), ...lesson.wrong.map((_, i) => el("button", { class: "small", onclick: () => this.heard.wrong(i) }, T.wrongOne(i + 1)))));
+    this.root.replaceChildren(el("div", { class: "tests-head" }, el("button", { class: "small", onclick: () => this.heard.run() }, T.runTests), el("span", { class: fault ? "bad" : "quiet" }, fault ? fault : all ? T.testsPassed(good, all) : "")), list);
   }
 }

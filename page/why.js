@@ -39,7 +39,14 @@ export class Why {
   constructor(root, heard) { Object.assign(this, { root, heard, asked: null, links: [] }); this.empty(); }
   empty() {
     this.asked = null; this.links = [];
-    this.root.replaceChildren(el("div", { class: "empty" }, el("b", {}, T.whyHead), el("p", {}, T.whyText)));
+    const starts = this.heard.starts?.() || [];
+    this.root.replaceChildren(el("div", { class: "empty" }, el("b", {}, T.whyHead), el("p", {}, T.whyText), ...starts.map(([text, name, work], i) => el("p", { class: "start" }, text, " ", el("button", { class: "small", id: `start${i}`, onclick: work }, name)))));
+  }
+  // An answer in words, with where it leads.
+  tell(title, text, name, work) {
+    this.asked = null; this.links = [];
+    this.root.replaceChildren(el("div", { class: "empty told-why" }, el("b", {}, title), el("p", {}, text), el("button", { class: "small", onclick: work }, name)));
+    this.root.scrollTop = 0;
   }
   isRope(cell) { return isFixedPlace(cell) || this.heard.isRope(cell); }
   show(asked) {
@@ -47,7 +54,7 @@ export class Why {
     Object.assign(this, { asked, links });
     if (refused || (!links.length && !start.length)) { this.root.replaceChildren(el("div", { class: "empty" }, refused || T.whyNothing)); return; }
     this.root.replaceChildren(this.head(links, start, more), this.draw(links, start));
-    if (more) this.root.append(el("button", { class: "more", onclick: () => this.heard.more() }, T.whyMore(more)));
+    if (more && asked.place) this.root.append(el("button", { class: "more", onclick: () => this.heard.more() }, T.whyMore(more)));
     this.root.scrollTop = 0;
   }
   // What it is made of, in one line.

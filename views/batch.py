@@ -26,8 +26,8 @@ class Progress:
         self.begun = self.told = time.monotonic()
         self.is_shown = sys.stderr.isatty()
 
-    def take(self):
-        self.done += 1
+    def take(self, count=1):
+        self.done += count
         now = time.monotonic()
         if self.is_shown and now - self.told > PAUSE:
             self.told = now
@@ -39,14 +39,14 @@ class Progress:
             print("\r\x1b[K", end="", file=sys.stderr, flush=True)
 
 
-def each(work, items, jobs, name):
-    """Some work on each item, so many at once: the items with what comes of them, as they come."""
-    progress, pool = Progress(name, len(items)), ThreadPoolExecutor(max(1, jobs))
+def each(work, items, jobs, name, sizes=lambda it: 1):
+    """Some work on each item, so many at once: the items with what comes of them, as they come. The progress counts their sizes."""
+    progress, pool = Progress(name, sum(map(sizes, items))), ThreadPoolExecutor(max(1, jobs))
     try:
         for at in range(0, len(items), BATCH):
             asked = {pool.submit(work, it): it for it in items[at : at + BATCH]}
             for it in as_completed(asked):
-                progress.take()
+                progress.take(sizes(asked[it]))
                 yield asked[it], it.result()
     finally:
         pool.shutdown(cancel_futures=True)

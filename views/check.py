@@ -18,10 +18,15 @@ ROOT = os.path.dirname(VIEWS)
 # (`check` is that of examples/)
 sys.path[:1] = [f"{ROOT}/examples", f"{ROOT}/gate", VIEWS]
 import check as examples
+import check_campaign
+import check_certain
 import check_dap
 import check_dsky
 import check_grade
 import check_hostile
+import check_lsp
+import check_fold
+import check_new
 import check_report
 import check_shake
 import pipe
@@ -76,8 +81,8 @@ def check_readings(room):
     steps = list(pipe.steps(*LOST, "60", "--from", "13", "--to", "18"))
     same("an instruction", steps[0], pipe.Step(13, 23, "02,4104", "54100", "TS COUNT", [("COUNT", "00003")], None))
     same("an instruction that writes nothing", steps[2], pipe.Step(15, 27, "02,4106", "50100", "INDEX COUNT", [], None))
-    same("an input", (steps[3][:4], steps[3].text.split()[:2], steps[3].written), ((16, 28, "-", "INPUT"), ["TIME3", "PINC"], [("E0,0026", "00000")]))
-    same("an entry", steps[5][2:6], ("02,4014", "ENTRY", "T3RUPT", [("E0,0017", "54101"), ("E0,0015", "04111")]))
+    same("an input", (steps[3][:4], steps[3].text.split()[:2], steps[3].written), ((16, 28, "-", "INPUT"), ["TIME3", "PINC"], [("TIME3", "00000")]))
+    same("an entry", steps[5][2:6], ("02,4014", "ENTRY", "T3RUPT", [("BRUPT", "54101"), ("ZRUPT", "04111")]))
     [output] = pipe.steps(*LOST, "47", "--from", "47")
     same("an output", (output.written, output.output), ([("CH012", "00075")], pipe.Output(87, 0o12, 0o75)))
     same("a refused trace", refusal(lambda: list(pipe.steps(LOST[0], LOST[0], "4"))), (1, "agcws: E30 LINE 4"))
@@ -85,20 +90,59 @@ def check_readings(room):
 
 def check_calls(room):
     """What all views do alike: help, files that are not there, a program that is not there, an output that nobody reads."""
-    for view in ["talk", "dap", "shake", "chain", "wave", "dsky", "keys", "bridge", "report", "grade"]:
+    for view in ["talk", "dap", "lsp", "shake", "campaign", "chain", "wave", "dsky", "keys", "bridge", "report", "grade"]:
         status, out, err = call(view, "--help")
         told(f"{view} --help", (status, err) == (0, "") and out.startswith(f"usage: {view} "), f"{out} {err}")
     same("a feed that is not there", call("shake", LOST[0], "4", "RUPT 1", "--feed", f"{room}/none"), (3, "", f"shake: {room}/none: No such file or directory\n"))
     same("a source that is not there", call("wave", f"{room}/none", EMPTY, "4"), (3, "", "agcws: E6\n"))
     same("lines that are not there", call("dsky", f"{room}/none"), (3, "", f"dsky: {room}/none: No such file or directory\n"))
     status, out, err = call("wave", *LOST, "4", env={**os.environ, "AGCWS": f"{room}/none"})
-    same("a program that is not there", (status, out, err), (3, "", f"{room}/none is not there: ./agcws --prove builds it, or AGCWS names another, as crates/agcws/out/unproved/agcws after ./agcws --unproved --help\n"))
+    same("a program that is not there", (status, out, err), (3, "", f"{room}/none is not there: ./agcws --version builds it, or AGCWS names another\n"))
     with subprocess.Popen([f"{VIEWS}/wave", f"{EXAMPLES}/seconds.agc", EMPTY, "50000"], stdout=subprocess.PIPE, stderr=subprocess.PIPE) as ran:
         ran.stdout.close()
         same("an output that nobody reads", ran.stderr.read(), b"")
     with open("/dev/full", "wb") as full:
         ran = subprocess.run([f"{VIEWS}/report", *LOST, "4"], stdout=full, stderr=subprocess.PIPE, timeout=300, check=False)
         same("an output that cannot be written", (ran.returncode, ran.stderr), (3, b"report: the output: No space left on device\n"))
+
+
+def check_closed(room):
+    """A view whose standard input or output is closed ends as one over /dev/null does; nothing else gets its number."""
+    lines = write(f"{room}/lines", b"87 CH 012 00075\n")
+    run = [*LOST, "60"]
+    views = {"talk": LOST, "report": run, "wave": run, "chain": [*run, "SUM"], "shake": [LOST[0], "60", "RUPT 1"], "new": ["lamp"], "dsky": [lines]}
+    for view, words in {**views, "fold": [], "dap": [], "lsp": [], "keys": ["V35E"]}.items():
+        ended = []
+        for streams in ("</dev/null >/dev/null", "<&- >&-", ">&-", "<&-"):
+            shell = ["sh", "-c", f'"$0" "$@" {streams}', f"{VIEWS}/{view}", *words]
+            with tempfile.TemporaryDirectory(prefix="agcws-") as place:
+                ran = subprocess.run(shell, stdin=subprocess.DEVNULL, capture_output=True, text=True, timeout=120, check=False, cwd=place)
+            ended.append((ran.returncode, ran.stderr))
+        told(f"{view} with closed streams", ended == 4 * [(ended[0][0], "")], f"{ended}")
+    page = f"{room}/page.html"
+    subprocess.run(["sh", "-c", '"$0" "$@" <&- >&- 2>&-', f"{VIEWS}/report", *LOST, "60", "--out", page], timeout=120, check=False)
+    same("a file that is written beside closed streams", text_at(page), call("report", *LOST, "60")[1])
+
+
+def check_files(room):
+    """A file that a view writes takes the old one's place once it is whole, and never that of a source or a feed."""
+    old = write(f"{room}/old.html", b"old\n")
+    for view, words in [("report", []), ("wave", []), ("chain", ["SUM"])]:
+        status, out, err = call(view, f"{room}/none", EMPTY, "60", *words, "--out", old)
+        same(f"{view} of no source leaves the file", (status, out, err, text_at(old)), (3, "", "agcws: E6\n", "old\n"))
+        source = write(f"{room}/mine.agc", text_at(LOST[0]).encode())
+        status, out, err = call(view, source, LOST[1], "60", *words, "--out", source)
+        told(f"{view} over its source", (status, out) == (2, "") and "is not written over" in err and text_at(source) == text_at(LOST[0]), err)
+        os.chmod(old, 0o600)
+        same(f"{view} writes it", call(view, *LOST, "60", *words, "--out", old)[::2], (0, ""))
+        told(f"what {view} has written", text_at(old) != "old\n" and os.stat(old).st_mode & 0o777 == 0o600 and not os.path.exists(f"{old}.part"))
+        write(old, b"old\n")
+    source = write(f"{room}/mine.agc", text_at(LOST[0]).encode())
+    same("save over a source", talk([f"save {source}"], source, LOST[1])[1], [f"{source} is a source or a feed, or is read: it is not written over"])
+    feed = write(f"{room}/mine.feed", text_at(LOST[1]).encode())
+    same("save over the feed", talk([f"save {room}/mine"], source, feed)[1], [f"{feed} is the feed of this session: it is not written over"])
+    same("a device is written to", call("report", *LOST, "4", "--out", "/dev/null")[::2], (0, ""))
+    told("and stays one", not os.path.isfile("/dev/null"))
 
 
 def talk(commands, *words, **more):
@@ -117,6 +161,12 @@ def check_watches(room):
     same("and stops a move", shown[2][:2], ["changed: EB 00000 -> 01400", "step 2, cycle 4: TS EB  EB=01400"])
     same("what steps do not tell", shown[3:6], [["Z changes at each step"], ["BB is EB and FB: watch these"], ["fixed memory does not change"]])
     told("a list by an erasable symbol", "      3 E0,0100        X ERASE" in shown[6], f"{shown[6]}")
+    # (each is told by the name that a trace has: of a cell with a use of its own, of a word behind a symbol)
+    source = write(f"{room}/behind.agc", b" SETLOC 100\nX ERASE +2\n SETLOC 4000\n CA FIVE\n TS 12\n TS X +1\nDONE TCF DONE\nFIVE OCT 5\n")
+    shown = talk(["watch QRUPT", "watch X +1", "c", "c"], source, EMPTY)
+    words = "00000 = 0 = +0.00000 = 000 000 000 000 000"
+    same("cells without a symbol are watched", shown[1:3], [[f"QRUPT {words}"], [f"QRUPT {words}", f"X+1 {words}"]])
+    same("and stop a move", [it[0] for it in shown[3:5]], ["changed: QRUPT 00000 -> 00005", "changed: X+1 00000 -> 00005"])
     same("a flight source", talk(["step"], "--flight", f"{EXAMPLES}/flight/downlist.agc", EMPTY)[1][0][:7], "step 1,")
 
 
@@ -130,7 +180,7 @@ def check_talk(room):
         (4, ["LAST 43"]),
         (5, ["step 42, cycle 78: AD TABLE +0  A=000075", ">    29 02,4110 54101          TS      SUM"]),
         (6, ["MEM 00063 = 51 = +0.00311 = 000 000 000 110 011"]),
-        (8, ["breakpoint 1: at 02,4014", "step 18, cycle 33: T3RUPT  E0,0017=54101 E0,0015=04111", ">    16 02,4014 34117          CAF     ONE"]),
+        (8, ["breakpoint 1: at 02,4014", "step 18, cycle 33: T3RUPT  BRUPT=54101 ZRUPT=04111", ">    16 02,4014 34117          CAF     ONE"]),
         (9, ["A 177765 = -10 = -0.00061 = 1 111 111 111 110 101", "L 00000 = 0 = +0.00000 = 000 000 000 000 000"]),
         (10, ["CLEAR"]),
         (11, ["no command foo"]),
@@ -153,9 +203,34 @@ def check_talk(room):
     same("values", shown[15], values)
     same("a refused source", call("talk", write(f"{room}/wrong.agc", b" FROB 1\n"), EMPTY)[::2][1].splitlines()[0], "agcws: E15 LINE 1")
     check_display_in_talk()
+    check_whatif_in_talk(room)
     check_saved(room)
     check_reload(room)
     check_ctrl_c(room)
+
+
+def check_devices(room):
+    """A device may be the feed, and is no source; of a folder the program says so itself."""
+    for words in ([], ["--image"]):
+        same(f"a device as a source {words}", call("talk", *words, "/dev/null", "/dev/null"), (2, "", "/dev/null is no file, as a source or an image is to be\n"))
+    same("a folder as a source", call("talk", room, "/dev/null")[::2], (3, f"agcws: E6\n{room}: error E6: a file could not be opened or read\n"))
+    same("no inputs", talk(["run 60"], LOST[0], "/dev/null")[1][0], "77 CH 012 00062")
+
+
+def check_whatif_in_talk(room):
+    """lost_sum.agc tells by hand why a pulse at 27 leaves 75; without one the sum is 62. The session stays as it is."""
+    shown = talk(["until 26", "whatif TIME3 PINC for 100 to 30", "add 60 TIME3 PINC", "inputs", "whatif TIME3 MINC", "whatif RUPT", "whatif RUPT 3 to 5"], LOST[0], EMPTY)
+    same("whatif up to a cycle", shown[2], ["cycles 27-29: CH 012 word 1 is 00075 in place of 00062", "cycle 30: the same"])
+    same("whatif adds nothing", shown[4][-1], "# COUNT 1")
+    same("whatif of an input that is refused", shown[5], ["TIME3 MINC: E33"])
+    same("whatif of no input", shown[6], ["whatif takes an input, as CHAN 15 21, and then for N and to CYCLE where they are meant"])
+    span = ["whatif tries 65,536 cycles at most: it goes to one from 27 to 65562"]
+    same("whatif of a span that is backwards", shown[7], span)
+    shown = talk(["until 26", "whatif TIME3 PINC to 65562", "whatif TIME3 PINC to 65563", "regs"], LOST[0], EMPTY)
+    same("whatif of as many cycles as there can be", shown[2][-1].split(":")[0].split("-")[-1], "65562")
+    told("whatif of more, and the session goes on", shown[3] == span and shown[4], f"{shown[3:]}")
+    full = write(f"{room}/full.feed", b"".join(b"%d TIME3 PINC\n" % it for it in range(100, 65636)))
+    same("whatif beside a feed that is full", talk(["run 60", "whatif TIME3 PINC"], LOST[0], full)[2], ["there are as many inputs as there can be"])
 
 
 def check_display_in_talk():
@@ -183,27 +258,82 @@ def check_saved(room):
         same("the saved run", lines, [it for it in replies if pipe.output_of(it)])
 
 
+def check_saved_names(room):
+    """Names are told as a shell takes them, and taken as one does: what is told makes the session again."""
+    os.mkdir(place := f"{room}/a place")
+    source, feed = write(f"{place}/it's.agc", text_at(LOST[0]).encode()), write(f"{place}/$my.feed", text_at(LOST[1]).encode())
+    named = ["my session", '"x"', "'two words'", "quote\\'s", '""', '"x', '"x" "y"', "$(made)"]
+    shown = talk(["run 60", *(f"save {it}" for it in named)], os.path.basename(source), os.path.basename(feed), cwd=place)
+    same("names that are refused", shown[6:9], [["save takes a file"], ["No closing quotation"], ["a name with quotes is one word"]])
+    files = ["my session", "x", "two words", "quote's", "$(made)"]
+    same("the files", sorted(os.listdir(place)), sorted(["it's.agc", "$my.feed", *files, *(f"{it}.feed" for it in files)]))
+    for told_commands in [*shown[2:6], shown[9]]:
+        for command in told_commands:
+            ran = subprocess.run(["sh", "-c", command.replace("agcws", pipe.program(), 1)], capture_output=True, text=True, timeout=120, check=False, cwd=place)
+            told(command, (ran.returncode, ran.stderr) == (0, "") and "87 CH 012 00075\n" in ran.stdout, f"{ran}")
+
+
 def check_reload(room):
     """After an edit the same moves are made over the new source; one that is refused changes nothing."""
     source = write(f"{room}/edited.agc", b" SETLOC 4000\n CAF X\n EXTEND\n WRITE 10\nX OCT 5\n")
-    with subprocess.Popen([f"{VIEWS}/talk", source, EMPTY], stdin=subprocess.PIPE, stdout=subprocess.PIPE, stderr=subprocess.STDOUT, text=True) as ran:
-        def until(text, command):
-            ran.stdin.write(f"{command}\n")
-            ran.stdin.flush()
-            lines = []
-            while not lines or text not in lines[-1]:
-                lines.append(ran.stdout.readline())
-                if not lines[-1]:
-                    break
-            return lines
-
-        until("4 02,4002", "step 2")
+    with talking(source, EMPTY) as ran:
+        until(ran, "4 02,4002", "step 2")
         write(source, b" SETLOC 4000\n CAF X\n EXTEND\n FROB 10\nX OCT 5\n")
-        told("a refused source at reload", "agcws: E15 LINE 4\n" in until("stays", "reload"))
+        told("a refused source at reload", "agcws: E15 LINE 4\n" in until(ran, "stays", "reload"))
         write(source, b"\n SETLOC 4000\n CAF X\n EXTEND\n WRITE 11\nX OCT 6\n")
-        told("a reload", until(">", "reload")[-1].startswith(">     5 02,4002 01011"))
-        told("the new source runs", "5 CH 011 00006\n" in until(">", "step"))
+        told("a reload", until(ran, ">", "reload")[-1].startswith(">     5 02,4002 01011"))
+        told("the new source runs", "5 CH 011 00006\n" in until(ran, ">", "step"))
         ran.stdin.close()
+
+
+def check_held(room):
+    """What is saved to source and feed during a session is no part of it before it is loaded again; at its end, however that comes, no copy is left."""
+    os.mkdir(copies := f"{room}/copies")
+    for sign in (None, signal.SIGTERM, signal.SIGHUP):
+        source, feed = write(f"{room}/held.agc", text_at(LOST[0]).encode()), write(f"{room}/held.feed", text_at(LOST[1]).encode())
+        with talking(source, feed, env={**os.environ, "TMPDIR": copies}) as ran:
+            until(ran, ">    30 02,4111", "run 10")
+            write(source, re.sub(r"(?m)^(TABLE +DEC +)10", r"\g<1>11", text_at(source)).encode())
+            write(feed, b"0 TIME9 PINC\n")
+            told("steps are the session's", "step 43, cycle 80: TS SUM  SUM=00075\n" in until(ran, ">", "run 33"))
+            told("and its words", until(ran, "MEM", "mem SUM")[-1].startswith("MEM 00075 "))
+            told("and what an input changes", until(ran, "cycle ", "whatif TIME3 PINC")[-1] == "cycle 80: the same\n")
+            told("a refused feed at reload", "agcws: E30 LINE 1\n" in until(ran, "stays", "reload"))
+            write(feed, text_at(LOST[1]).encode())
+            told("then the new source is the session's", "step 43, cycle 80: TS SUM  SUM=00076\n" in until(ran, ">", "reload"))
+            told("there are copies", os.listdir(copies))
+            ran.send_signal(sign) if sign else ran.stdin.close()
+            same("the end", ran.wait(MOST_SECONDS), 128 + sign if sign else 0)
+        same("no copy is left", os.listdir(copies), [])
+
+
+def talking(*words, **more):
+    """A session of talk that goes on."""
+    return subprocess.Popen([f"{VIEWS}/talk", *words], stdin=subprocess.PIPE, stdout=subprocess.PIPE, stderr=subprocess.STDOUT, text=True, **more)
+
+
+def until(ran, text, command):
+    """The lines of a session after a command up to one with a text, or all."""
+    ran.stdin.write(f"{command}\n")
+    ran.stdin.flush()
+    lines = []
+    while not lines or text not in lines[-1]:
+        lines.append(ran.stdout.readline())
+        if not lines[-1]:
+            break
+    return lines
+
+
+def check_unstopped(room):
+    """From a pipe a move that nothing stops ends after the most steps and says so; one with a number makes that many, and one that stops tells nothing."""
+    loop = write(f"{room}/unstopped.agc", b" SETLOC 4000\nLOOP TCF LOOP\n")
+    shown = talk(["c", "c", "c 5", "run", "goto 3", "b LOOP", "c", "c 10000000"], loop, EMPTY)
+    said = ["5,000,000 steps without a stop, the most where no terminal can end a move; c goes on, c K makes K steps"]
+    same("a move that nothing stops", (shown[1][:1], shown[1][1].split(",")[0]), (said, "step 5000000"))
+    same("the session goes on", (shown[2][:1], shown[2][1].split(",")[0]), (said, "step 10000000"))
+    same("a move with a number", shown[3][0].split(",")[0], "step 10000005")
+    same("new steps that nothing stops", (shown[4][:1], shown[4][1].split(",")[0]), (said, "step 15000005"))
+    same("a move that a breakpoint stops", [it[0] for it in shown[7:]], 2 * ["breakpoint 1: at 02,4000"])
 
 
 def check_ctrl_c(room):
@@ -264,7 +394,9 @@ class Dump:
 
 
 # What a session is asked for the word of a signal.
-ASKED = {"channels": lambda it: f"chan {it[2:]}", "cells": lambda it: f"mem {it}", "registers": lambda it: f"mem {'A L Q EB FB Z BB'.split().index(it)}"}
+# The cells that an interrupt writes, which a session takes by their numbers.
+SPECIAL = {"ZRUPT": "15", "BRUPT": "17", "ARUPT": "10", "LRUPT": "11", "QRUPT": "12"}
+ASKED = {"channels": lambda it: f"chan {it[2:]}", "cells": lambda it: f"mem {SPECIAL.get(it, it.replace('+', ' +'))}", "registers": lambda it: f"mem {'A L Q EB FB Z BB'.split().index(it)}"}
 
 
 def check_chain(room):
@@ -287,7 +419,7 @@ def check_wave(room):
     for name, wanted in [
         (("interrupts", "T3RUPT"), [(0, 0), (30, 1), (39, 0)]),
         (("cells", "TICKS"), [(0, 0), (37, 1)]),
-        (("cells", "E0,0026"), [(0, 0), (5, 0o37777), (28, 0)]),
+        (("cells", "TIME3"), [(0, 0), (5, 0o37777), (28, 0)]),
         (("channels", "CH012"), [(0, 0), (87, 0o75)]),
     ]:
         same(f"changes of {name[1]}", dump.changes[name], wanted)
@@ -639,18 +771,29 @@ def main():
             check_session,
             check_readings,
             check_calls,
+            check_closed,
+            check_files,
             check_talk,
+            check_devices,
+            check_saved_names,
+            check_held,
+            check_unstopped,
             check_watches,
             *check_dap.PARTS,
+            *check_lsp.PARTS,
             *check_hostile.PARTS,
             *check_dsky.PARTS,
+            *check_new.PARTS,
+            *check_fold.PARTS,
             *check_shake.PARTS,
+            *check_campaign.PARTS,
             check_chain,
             check_wave,
             check_bridge,
             check_bridge_parts,
             *check_report.PARTS,
             *check_grade.PARTS,
+            check_certain.check_certain,
             check_operators,
             check_faults,
             check_web,

@@ -11,6 +11,7 @@ import threading
 import time
 
 import pipe
+from checking import init_of
 from files import write
 from tally import told
 
@@ -646,6 +647,11 @@ def check_restart(room):
     same("the new source runs", client.outputs(), ["5 CH 011 00006\n"])
     told("the old process is gone", are_gone(kept))
     client.end()
+    client = begun(program=source)
+    write(source, b" FROB 10\n")
+    shown = client.ask("stackTrace", threadId=1)
+    told("a session shows its own words", "stackFrames" in shown, f"{shown}")
+    client.end()
 
 
 def check_other_counts(room):
@@ -723,7 +729,7 @@ def check_emacs(room):
     if not shutil.which("emacs") or not (os.path.isdir("/usr/share/emacs/site-lisp/elpa") and any(it.startswith("dap-mode-") for it in os.listdir("/usr/share/emacs/site-lisp/elpa"))):
         print(f"dap-mode of Emacs: skipped, since it is not there: {APT}")
         return
-    env = {**os.environ, "HOME": room, "AGCWS": pipe.program(), "VIEWS": VIEWS}
+    env = {**os.environ, "HOME": room, "AGCWS": pipe.program(), "VIEWS": VIEWS, "INIT": init_of("With dap-mode", f"{room}/dap-mode.el")}
     ran = subprocess.run(["emacs", "--batch", "-l", script], cwd=room, env=env, capture_output=True, text=True, errors="replace", timeout=300, check=False, stdin=subprocess.DEVNULL)
     shown = [it.removeprefix("## ") for it in ran.stderr.splitlines() if it.startswith("## ")]
     wanted = []

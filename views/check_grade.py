@@ -47,6 +47,8 @@ HAND_INS = {
     "=mo.agc": "",
     "nil.agc": "\0\n\x80",
 }
+# What is changed in the model solution of a lesson of the course: each line is left out, and of some a word is another.
+CHANGES = [("DXCH", "XCH"), ("ADS", "AD"), ("TS", "CS"), ("CA", "CS"), ("DEC     50", "OCT     50"), ("4024", "4020"), ("RELINT", "INHINT"), ("READ    15", "READ    11"), ("WRITE   10", "WRITE   11"), ("WRITE   11", "WRITE   12"), ("CCS", "CA")]
 # Three keys, and one: by hand the words 1, 3, 7 and 5.
 FEEDS = {"keys": "100 CHAN 15 1\n200 CHAN 15 2\n300 CHAN 15 4\n", "one": "100 CHAN 15 5\n"}
 STEPS = "600"
@@ -168,6 +170,74 @@ def check_refused(room):
     same("programs without an end", (status, out.splitlines()), (0, ["fast\t1/1\t", "slow\t1/1\t", "2 hand-ins: 2 right, 0 wrong, 0 refused, 0 not judged."]))
 
 
+def check_noted(room):
+    """A right hand-in whose run has a note, of which the model has none, says so."""
+    asked = room_of(room)
+    write_text(f"{room}/two/keeps.agc", MODEL)
+    write_text(f"{room}/two/loses.agc", MODEL.replace("        DXCH    ARUPT\n        RESUME\n", "        RESUME\n"))
+    status, out, _ = call("grade", f"{room}/two", *asked[1:5], "--out", f"{room}/noted")
+    same("notes of what is right", (status, out.splitlines()[:2]), (0, ["keeps\t1/1\t", "loses\t1/1\tnotes: NOTKEPT"]))
+
+
+def changed(source):
+    """A source with a line left out, or changed: each with the number of the line. A label stays, with NOOP."""
+    lines = source.split("\n")
+    for at, line in enumerate(lines):
+        code = line.split("#")[0].rstrip()
+        if not re.search(r"\s(RELINT|CA|TS|ADS|CCS|TCF|EXTEND|READ|WRITE|DXCH|RESUME|DEC     50|EQUALS 4024)\b", code):
+            continue
+        rest = lines[at + 1 :]
+        if "DEC" not in code and "EQUALS" not in code:
+            yield at + 1, "\n".join([*lines[:at], *[f"{code[:8]}NOOP"] * (code[0] != " "), *rest])
+        for old, new in CHANGES:
+            if re.search(rf"\s{old}(?!\S)", code):
+                yield at + 1, "\n".join([*lines[:at], re.sub(rf"(?<=\s){old}(?!\S)", new, code), *rest])
+
+
+def check_changed(room):
+    """Of 30 changed solutions of an exercise of the course, at least 26 are told with the line that was changed, or that follows where it is left out."""
+    lesson = f"{examples.EXAMPLES}/course/10"
+    those = list(changed(text_at(f"{lesson}/model.agc")))
+    for number, (line, text) in enumerate(those):
+        write_text(f"{room}/class/{number:02} {line}.agc", text)
+    status, out, err = call("grade", f"{room}/class", f"{lesson}/model.agc", "--expect", f"{lesson}/exercise.expect", "--out", f"{room}/graded")
+    same("the end of grading by tests", (status, err), (0, ""))
+    heads, *rows = csv.reader(text_at(f"{room}/graded/class.csv").splitlines())
+    found = [dict(zip(heads, it)) for it in rows]
+    wrong = [it for it in found if it["right"] != "2/2"][:30]
+    same("so many are wrong", len(wrong), 30)
+    silent = [it["hand-in"] for it in wrong if not told_line(int(it["hand-in"].split()[1]), it)]
+    told("the line that was changed is told of 26 at least", len(silent) <= 4, f"{silent}")
+    same("the columns of a class by tests", heads[:4], ["hand-in", "right", "each key is echoed", "the sum of 50 to 1, whenever keys come"])
+    sheets = [text_at(f"{room}/graded/pages/{it}") for it in os.listdir(f"{room}/graded/pages")]
+    told("the claim that fails, and how its word came about", any("CHANNEL 011 1275D THEN NOTHING: it is 02316 (1230)" in it and "IN STEP 60" in it for it in sheets))
+
+
+def told_line(line, row):
+    """Whether a row tells of a line, or of the one behind it: where it parts from the model, what is refused there, or what is not executed from there on."""
+    numbers = re.findall(r"line (\d+)", row["other than the model"]) + re.findall(r"^(\d+):", row["what is wrong first"]) + re.findall(r"\d+", row["never executed, by lines"])
+    return any(int(it) in (line - 1, line, line + 1) for it in numbers)
+
+
+def check_by_tests(room):
+    """A class by tests alone, without a model; and tests that are refused, or that the model does not meet."""
+    asked = room_of(room)
+    tests = write(f"{room}/sum of keys.expect", b"# carriage returns are left out\nSOURCE x.agc\nFEED keys.feed\nSTEPS 600\nTEST sums\n CHANNEL 011 1 3 7\nTEST the total\n AT END TOTAL = 7\n")
+    status, out, err = call("grade", asked[0], "--expect", tests, "--out", f"{room}/by tests")
+    lines = dict(it.split("\t", 1) for it in out.splitlines()[:-1])
+    same("the end of a class by tests", (status, err, out.splitlines()[-1].split(":")[0]), (0, "", "14 hand-ins"))
+    told("one that is right", lines["bob"] == "2/2\t", out)
+    told("one that is wrong", lines["dora"].startswith("0/2\tsums: CHANNEL 011 1 3 7: it is 00002 (2)"), out)
+    told("one that has no such cell", lines["carl"].startswith("0/2\tline 8 of the tests, AT END TOTAL = 7: an erasable place is asked for"), out)
+    told("one that is refused", lines["emil"].startswith("0/2\t8:9: error E15"), out)
+    status, _, err = call("grade", asked[0], f"{room}/class/dora.agc", "--expect", tests, "--out", f"{room}/none")
+    told("a model that does not meet the tests", status == 1 and err.startswith("the model: sums: CHANNEL 011 1 3 7"), err)
+    status, _, err = call("grade", asked[0], "--expect", tests, "--channel", "11", "--out", f"{room}/none")
+    told("a channel beside tests", status == 2 and "--expect has a feed, steps and channels of its own" in err, err)
+    status, _, err = call("grade", asked[0], "--out", f"{room}/none")
+    told("neither a model nor tests", status == 2 and "MODEL and N are asked for, or --expect FILE" in err, err)
+
+
 def own(part):
     """A part in a folder of its own."""
     def run(room):
@@ -179,4 +249,4 @@ def own(part):
     return run
 
 
-PARTS = [own(it) for it in (check_class, check_again, check_refused)]
+PARTS = [own(it) for it in (check_class, check_again, check_refused, check_noted, check_by_tests, check_changed)]

@@ -45,6 +45,14 @@ def text_at(path):
         return file.read()
 
 
+def init_of(words, path):
+    """The file of an editor with the lines that editors/README.md has to paste behind some words."""
+    lines = text_at(f"{VIEWS}/editors/README.md").partition(f"\n{words}")[2].partition("```text\n")[2].partition("```")[0]
+    with open(path, "w", encoding="utf-8") as file:
+        file.write(lines.replace("PATH", os.path.dirname(VIEWS)))
+    return path
+
+
 class Page(HTMLParser):
     """A page's cells by rows, its texts by tag, all that stands within a tag, and its tags and attributes."""
 

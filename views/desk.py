@@ -4,15 +4,19 @@ import functools
 import itertools
 import os
 import re
+import shutil
 import tempfile
 import time
 from typing import NamedTuple
 
 import panel
 import pipe
+import whatif
 
 # The most steps of a run, and of the position up to which the rows of the listing are told: a run to there takes a second or so.
 MOST_STEPS, MOST_TOLD = 1_099_511_627_774, 100_000_000
+# The most bytes of a file that is copied: a longer one is no source, image or feed.
+MOST_BYTES = 1 << 28
 # A part of a long move takes about so many seconds.
 PART_SECONDS = 0.1
 
@@ -21,6 +25,9 @@ PART_SECONDS = 0.1
 SWITCHED, FIXED = 0o1400, 0o2000
 # Registers, which steps tell by letters whatever symbols have their places.
 REGISTERS = {"0000": "A", "0001": "L", "0002": "Q", "0003": "EB", "0004": "FB"}
+# Cells with a use of their own, by their names in section 5 of the manual, as a trace tells them where no symbol stands for them.
+SPECIAL = dict(zip([0o10, 0o11, 0o12, 0o15, 0o16, 0o17, *range(0o20, 0o42), 0o45], """ARUPT LRUPT QRUPT ZRUPT BBRUPT BRUPT CYR SR CYL EDOP TIME2 TIME1 TIME3 TIME4
+TIME5 TIME6 CDUX CDUY CDUZ OPTY OPTX PIPAX PIPAY PIPAZ INLINK""".split()))
 # Those that steps do not tell, and why.
 UNTOLD = {"0005": "Z changes at each step", "0006": "BB is EB and FB: watch these"}
 
@@ -34,19 +41,23 @@ class Coming(NamedTuple):
 
 
 class Desk:
-    """A session over a source or an image, with its listing. Its feed has the inputs that were added."""
+    """A session over a source or an image, with its listing. Its feed has the inputs that were added. Both are copies, so that what is asked beside the session is
+    of the same program, whatever is saved to the files meanwhile."""
 
     def __init__(self, words, feed):
-        self.words, self.feed = list(words), feed
-        self.session = pipe.Session(*self.words, feed)
+        if os.path.exists(words[-1]) and not os.path.isfile(words[-1]) and not os.path.isdir(words[-1]):
+            raise pipe.Refused(2, f"{words[-1]} is no file, as a source or an image is to be")
+        self.room = tempfile.TemporaryDirectory(prefix="agcws-")
+        self.words, self.feed = [*words[:-1], self.copied(words[-1], "program")], self.copied(feed, "feed")
+        self.session = pipe.Session(*self.words, self.feed)
         try:
             self.commands = [line.split()[1] for line in self.session.ask("help")]
             is_image = "--image" in words
-            self.rows, self.symbols = (pipe.words_of(words[-1], *words[1:-1]), {}) if is_image else pipe.listing_of(*words)
+            self.rows, self.symbols = (pipe.words_of(self.words[-1], *words[1:-1]), {}) if is_image else pipe.listing_of(*self.words)
             # (where Z leads, as a listing has it)
             self.place = self.session.ask("goto 0")[-1].split()[3]
         except pipe.Refused:
-            self.session.end()
+            self.end()
             raise
         self.worded = [row for row in self.rows if row.word]
         self.lines = [row.line for row in self.worded]
@@ -54,13 +65,17 @@ class Desk:
         self.position, self.cycles, self.made = 0, 0, 0
         self.kept, self.outputs, self.watched, self.part = [], set(), {}, 1 << 12
         self.display_words = []
-        self.feed_text, self.added = None, None
+        self.feed_text = None
+
+    def copied(self, path, name):
+        """The path of a copy of a file as it stands now; its own, of a device, and where the program is to say why it cannot be read."""
+        if not os.path.isfile(path) or not os.access(path, os.R_OK) or os.path.getsize(path) > MOST_BYTES:
+            return path
+        return shutil.copyfile(path, os.path.join(self.room.name, name))
 
     def end(self):
         self.session.end()
-        if self.added:
-            os.remove(self.added.name)
-            self.added = None
+        self.room.cleanup()
 
     def ask(self, command):
         """Returns the lines of the reply to a command. What it has changed is kept in mind."""
@@ -85,12 +100,9 @@ class Desk:
         """Writes the feed anew, with an input that was added."""
         _, cycle, text = command.split("#")[0].split(None, 2)
         self.feed_text = pipe.with_input(self.whole_feed(), int(cycle), text.strip())
-        if not self.added:
-            self.added = tempfile.NamedTemporaryFile("w", prefix="agcws-", suffix=".feed", delete=False, encoding="utf-8")
-        self.added.seek(0)
-        self.added.truncate()
-        self.added.write(self.feed_text)
-        self.added.flush()
+        self.feed = os.path.join(self.room.name, "added")
+        with open(self.feed, "w", encoding="utf-8") as file:
+            file.write(self.feed_text)
 
     def whole_feed(self):
         """The feed with the inputs that were added: a run over it is the session's."""
@@ -101,7 +113,7 @@ class Desk:
 
     def steps(self, last, *options):
         """The steps of the session's run, as `agcws trace` tells them."""
-        return pipe.steps(*self.words, self.added.name if self.added else self.feed, str(last), *options)
+        return pipe.steps(*self.words, self.feed, str(last), *options)
 
     def coming(self):
         """What stands at the position, or None where that is far from the start."""
@@ -112,6 +124,11 @@ class Desk:
         led = found.pop(0) if self.position else None
         row = next((self.at[it.place] for it in found if it.place in self.at and it.word != "ENTRY"), None)
         return Coming(led, found[0] if found else None, row)
+
+    def what_if(self, text, count, last):
+        """What an input would change in so many steps from the position on, taken at its cycle, and at each one up to another. The session stays as it is."""
+        steps = min(self.position + count, MOST_STEPS)
+        return whatif.changes(self.words, self.feed, steps, range(self.cycles, max(self.cycles, last) + 1), text)
 
     def forward(self):
         """The name of the command that goes on from the position up to a breakpoint."""
@@ -172,7 +189,7 @@ class Desk:
         start, changed = self.position, 0
         if self.watched and start:
             self.ask("back 1")
-            replies = [self.ask(f"last {name}")[0].split() for name in self.watched]
+            replies = [self.ask(f"last {self.in_command(name)}")[0].split() for name in self.watched]
             changed = max((int(it[1]) for it in replies if it[:1] == ["LAST"]), default=0)
             self.ask(f"goto {start}")
         hit = self.position if self.ask("seek")[0].startswith("HIT") else 0
@@ -198,7 +215,7 @@ class Desk:
 
     def watch(self, place):
         """Watches a place: the name by which steps tell it, or None where there is no such place. Raises ValueError where steps do not tell it."""
-        name = self.word(place) and self.name_of(place)
+        name = self.word(self.in_command(place)) and self.name_of(place)
         if name:
             self.watched[name] = self.told_word(name)
         return name
@@ -206,17 +223,38 @@ class Desk:
     def told_word(self, name):
         """The word of a watched place as steps write it."""
         number = next((it for it in ("0003", "0004") if REGISTERS[it] == name), None)
-        return self.one_word(f"mem {number}") if number else self.registers()[name] if name in REGISTERS.values() else self.word(name)
+        return self.one_word(f"mem {number}") if number else self.registers()[name] if name in REGISTERS.values() else self.word(self.in_command(name))
 
     def name_of(self, place):
         """The name by which `agcws trace` tells a place."""
+        base, plus, more = place.partition(" +")
+        if plus and self.symbols.get(base, ("",))[0] == "ERASABLE" and re.fullmatch("[0-7]+", more):
+            place = f"{int(self.symbols[base][1], 8) + int(more, 8):o}"
+        elif re.fullmatch(r"E[0-7],[0-7]{4}", place):
+            place = place_in_command(place)
         kind, value = self.symbols.get(place, ("NUM", {"Z": "5", "BB": "6"}.get(place, place)))
         if not re.fullmatch("[0-7]+", value):
             return place
         number = f"{int(value, 8):04o}"
         if number in UNTOLD or int(value, 8) >= FIXED:
             raise ValueError(UNTOLD.get(number, "fixed memory does not change"))
-        return REGISTERS.get(number) or next((name for name, it in self.symbols.items() if it == ("ERASABLE", number)), listed(int(value, 8)))
+        return REGISTERS.get(number) or self.symbol_at(int(value, 8)) or SPECIAL.get(int(value, 8)) or self.behind(int(value, 8)) or listed(int(value, 8))
+
+    def symbol_at(self, number):
+        """The first symbol of an erasable place, or None."""
+        return next((name for name, it in self.symbols.items() if it == ("ERASABLE", f"{number:04o}")), None)
+
+    def behind(self, number):
+        """An erasable place by the symbol before it, as X+1, or None."""
+        found = ((self.symbol_at(number - by), by) for by in range(1, min(0o77, number - 0o61) + 1))
+        return next((f"{name}+{by:o}" for name, by in found if name), None)
+
+    def in_command(self, name):
+        """A place that a trace names so, as commands take it."""
+        base, plus, more = name.partition("+")
+        if name in self.symbols:
+            return name
+        return f"{base} +{more}" if plus else next((f"{number:o}" for number, it in SPECIAL.items() if it == name), name)
 
     def look_again(self):
         """The watched places have the words of the position."""

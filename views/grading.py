@@ -1,8 +1,10 @@
-"""Judges a source beside a model solution: what it puts out over feeds, its first wrong word and how that came about, what was executed, and what is told of it. `grade` uses this module."""
+"""Judges a source beside a model solution, or by a text of tests: what it puts out over feeds, its first wrong word and how that came about, what was executed, and what is told of it. `grade` uses this module."""
 import hashlib
+import json
 import os
 import re
 import subprocess
+import tempfile
 from itertools import zip_longest
 from typing import NamedTuple
 
@@ -12,8 +14,12 @@ from batch import sum_of
 
 # The most bytes of a source, and the most rows of its listing and links of a chain that are kept.
 MOST_BYTES, MOST_ROWS, MOST_LINKS = 8_388_608, 3000, 12
+# So many links are looked at for those kept, and so many steps for the first that is another than the model's.
+FAR, MOST_STEPS = 400, 4000
 # Words that come too late, or too early, are looked for in so many times N steps.
 LATER = 4
+# What `agcws expect` tells of a test that is not met.
+FAILS = re.compile(r"FAIL .*?: line (\d+), step (\d+), cycle (\d+): (.*)")
 
 
 class Failed(Exception):
@@ -21,8 +27,8 @@ class Failed(Exception):
 
 
 class Task(NamedTuple):
-    """What is asked of each source: the model, feeds, steps, the options before a source, the channels that count or none for those of the model, and the most seconds
-    of a call."""
+    """What is asked of each source: the model, feeds, steps, the options before a source, the channels that count or none for those of the model, the most seconds
+    of a call, and the tests that judge it in place of the model."""
 
     model: str
     feeds: list
@@ -30,6 +36,7 @@ class Task(NamedTuple):
     options: list
     channels: list
     seconds: float
+    tests: object = None
 
 
 def call(task, *words, given=""):
@@ -116,14 +123,104 @@ def judged(task, source, number, model):
     }
 
 
+class Tests:
+    """A text of tests, as `agcws expect` takes it: what it runs, the names of its tests, and its lines."""
+
+    def __init__(self, path):
+        with open(path, encoding="utf-8", errors="surrogateescape", newline="") as file:
+            self.lines = file.read().split("\n")
+        fields = [it.split("#")[0].split() for it in self.lines]
+        head = {it[0]: it[1] for it in reversed(fields) if len(it) == 2 and it[0] in ("SOURCE", "FEED", "STEPS")}
+        self.fields, self.names = fields, [" ".join(it[1:]) for it in fields if it[:1] == ["TEST"]]
+        self.feed = os.path.join(os.path.dirname(path), head["FEED"]) if "FEED" in head else os.devnull
+        if not head.get("STEPS", "").isdigit():
+            raise Failed(f"{path} has no line STEPS")
+        self.steps = int(head["STEPS"])
+
+    def write(self, room, source):
+        """Writes the text into a folder where it judges a source."""
+        os.symlink(os.path.abspath(source), f"{room}/it.agc")
+        os.symlink(os.path.abspath(self.feed), f"{room}/it.feed")
+        files = {"SOURCE": "it.agc", "FEED": "it.feed"}
+        lines = [f"{it[0]} {files[it[0]]}" if it[:1] in (["SOURCE"], ["FEED"]) else line for it, line in zip(self.fields, self.lines)]
+        with open(f"{room}/it.expect", "w", encoding="utf-8", errors="surrogateescape", newline="") as file:
+            file.write("\n".join(lines))
+        return f"{room}/it.expect"
+
+    def claimed(self, line):
+        """What a line claims, and the place, register or channel of which it does; of calls none."""
+        fields = self.fields[line - 1]
+        if fields[0] == "CHANNEL":
+            return " ".join(fields), f"CH{int(fields[1], 8):03o}"
+        end = next((at for at, it in enumerate(fields) if re.fullmatch("[<>=]+", it)), 0)
+        start = 1 if fields[0] != "AT" else 3 if fields[2].startswith("+") else 2
+        return " ".join(fields), " ".join(fields[start:end])
+
+
+def judged_by_tests(task, source):
+    """What a source does by each of some tests."""
+    with tempfile.TemporaryDirectory() as room:
+        status, out, said = call(task, "expect", task.tests.write(room, source))
+    lines = out.splitlines()
+    if status > 1 or len(lines) != len(task.tests.names):
+        refused = re.match(r".*?:(\d+):\d+: error: (.*)\n  *(.*)", said)
+        raise Failed(f"line {refused[1]} of the tests, {refused[3].strip()}: {refused[2]}" if refused else said.strip().split("\n")[0] or f"agcws expect has ended with status {status}")
+    outputs, notes, end = outputs_of(task, source, task.tests.feed)
+    found = [{"wrong": failure_of(task, source, it), "last": 0, "others": [], "notes": [], "end": end} for it in lines]
+    if found:
+        found[0] |= {"notes": notes, "last": outputs[-1].cycles if outputs and not any(it["wrong"] for it in found) else 0}
+    return found
+
+
+def failure_of(task, source, line):
+    """Where a test fails, what is claimed there, and how what came instead came about; or nothing."""
+    found = FAILS.fullmatch(line)
+    if not found:
+        return None
+    number, step, cycles = map(int, found.groups()[:3])
+    claim, place = task.tests.claimed(number)
+    came = not re.match("nothing came|it is not|it is called|a call", found[4])
+    lines = asked(task, source, task.tests.feed, f"run {step}", "where", "trace 6", *[f"why {place} {FAR}"] * (came and bool(place)))
+    chain = folded([it for it in lines if re.match("BY |START |ALL$|MORE ", it)]) if came else [it for it in lines if re.match(r"WHERE |LIST |IN INTERRUPT|TRACE ", it)]
+    return {"said": f"{claim}: {found[4]}", "at": f"step {step}, cycle {cycles}", "step": step if came else None, "got": 0 if came else None, "chain": chain}
+
+
 def chain_of(task, source, feed, wrong):
     """The step that put out a wrong word, and how the word came about; or where the run stands at the end, where a word is missing."""
     if wrong["got"] is None:
         lines = asked(task, source, feed, f"run {task.steps}", "where")
         return {"step": None, "chain": [it for it in lines if re.match("WHERE |LIST |IN INTERRUPT", it)]}
-    lines = asked(task, source, feed, f"until {wrong['cycles']}", f"why CH{wrong['channel']:03o} {MOST_LINKS}")
+    lines = asked(task, source, feed, f"until {wrong['cycles']}", f"why CH{wrong['channel']:03o} {FAR}")
     step = next((int(it.split()[1]) for it in lines if it.startswith("AT ")), None)
-    return {"step": step, "chain": [it for it in lines if re.match("BY |START |ALL$|MORE ", it)]}
+    return {"step": step, "chain": folded([it for it in lines if re.match("BY |START |ALL$|MORE ", it)])}
+
+
+def folded(chain):
+    """A chain in which each instruction stands once, by its last step; and how many links are left out."""
+    links = {re.sub(r"^BY \d+ | : .*?(?= IN STEP|$)", "", it): it for it in reversed(chain) if it.startswith(("BY ", "START "))}
+    shown = [it for it in chain if it in links.values()][:MOST_LINKS]
+    left_out = sum(it.startswith(("BY ", "START ")) for it in chain) - len(shown)
+    return shown + [it for it in chain[-1:] if it == "ALL" and not left_out] + [f"(and {left_out} more of the same rows, or before)"] * (left_out > 0)
+
+
+def steps_of(task, source):
+    """The steps of a run over the first feed: of each its place, and what it did without the places to which calls lead back."""
+    out = answer(task, "trace", *task.options, source, task.feeds[0], str(min(task.steps, MOST_STEPS)))[0]
+    found = [re.split(r"  +", it) for it in out.splitlines()]
+    return [(it[2], re.sub(r"\b(Q|BB|ZRUPT|BRUPT|[A-Z0-9,]*00(15|17))=\d+", r"\1", " ".join(it[4:6]))) for it in found if len(it) > 5]
+
+
+def parting(task, source, rows):
+    """The first step at which a source does another thing than the model, and the line of its instruction; nothing where it is the first of all, or none."""
+    if not task.model:
+        return None
+    steps, model = steps_of(task, source), steps_of(task, task.model)
+    at = next((it for it, (one, other) in enumerate(zip(steps, model)) if one[1] != other[1]), 0)
+    if not at:
+        return None
+    lines = {it[1]: it[0] for it in rows if it[2]}
+    line = next((lines[place] for place, _ in reversed(steps[: at + 1]) if place in lines), None)
+    return {"step": at + 1, "line": line, "text": steps[at][1]}
 
 
 def asked(task, source, feed, *commands):
@@ -135,12 +232,8 @@ def cover_of(task, source):
     """The rows of the listing with how often each was executed over all feeds: line, place, word, text, times, and whether it is an instruction."""
     rows = []
     for feed in task.feeds:
-        found = []
-        for line in answer(task, "cover", *task.options, source, feed, str(task.steps))[0].splitlines():
-            figures, text = line[:21].split(), line[22:]
-            if text[:5].strip().isdigit():
-                row = pipe.row_of(text)
-                found.append([row, int(figures[0]) if figures and figures[0].isdigit() else 0])
+        objects = map(json.loads, answer(task, "cover", "--json", *task.options, source, feed, str(task.steps))[0].splitlines())
+        found = [[pipe.covered_row(it), it["count"] or 0] for it in objects if it["kind"] == "line"]
         rows = [[row, times + more] for (row, times), (_, more) in zip(rows, found)] if rows else found
     return [[row.line, row.place, row.word, row.text, times, pages.is_instruction(row)] for row, times in rows]
 
@@ -164,7 +257,8 @@ def result_of(task, source, model):
         if is_refused:
             return {"refused": lines or ["it is refused"]}
         rows = cover_of(task, source)
-        feeds = [judged(task, source, number, model) for number in range(len(task.feeds))]
+        feeds = judged_by_tests(task, source) if task.tests else [judged(task, source, number, model) for number in range(len(task.feeds))]
+        parts = parting(task, source, rows) if any(it["wrong"] for it in feeds) else None
     except (Failed, pipe.Refused) as failed:
         return {"failed": str(failed).replace(source, "it")}
     except OSError as failed:
@@ -174,6 +268,7 @@ def result_of(task, source, model):
         return {"failed": f"what the program says of it is not understood: {failed!r}"}
     executed, never = [[it for it in rows if it[5] and bool(it[4]) == is_so] for is_so in (True, False)]
     return {
+        "parts": parts,
         "feeds": feeds,
         "warnings": [it for it in lines if re.search(r"^\d+:\d+: ", it)],
         "executed": len(executed),
@@ -214,13 +309,28 @@ def kinds_of(result):
     return sorted({pipe.note_of(line).kind for it in result.get("feeds", []) for line in it["notes"]})
 
 
+def noted(result):
+    """The kinds of its notes, in words, or nothing."""
+    kinds = kinds_of(result)
+    return f"notes: {' '.join(kinds)}" if kinds else ""
+
+
 def told_word(word):
     """A word in octal and decimal."""
     return "no word" if word is None else f"{word:05o} ({word if word < 0o40000 else word - 0o77777})"
 
 
+def kind_of_wrong(wrong):
+    """What is wrong, in words, without the step and the cycle at which it is."""
+    if "said" in wrong:
+        return re.sub(r"called \d+ times", "called some times", wrong["said"])
+    return f"word {wrong['number']} of CH {wrong['channel']:03o} is {told_word(wrong['got'])}"
+
+
 def told_wrong(wrong):
     """The first wrong word, in words."""
+    if "said" in wrong:
+        return f"{wrong['said']} ({wrong['at']})"
     at = f"word {wrong['number']} of CH {wrong['channel']:03o}"
     if wrong["got"] is None:
         where = next((it.split(" ", 2)[-1] for it in wrong["chain"] if it.startswith("WHERE ")), "")

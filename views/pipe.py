@@ -1,6 +1,8 @@
 """Finds the program and drives it: as a process for a whole output, as a trace step by step, or as a session of commands. All views use this module.
 
 Nothing here knows the machine or the language: places, names and instructions are texts as the program writes them."""
+import contextlib
+import json
 import os
 import re
 import shutil
@@ -20,14 +22,49 @@ class Refused(Exception):
         super().__init__(said.strip())
         self.status = status
 
+    def __reduce__(self):
+        # (a worker of another process raises it too)
+        return Refused, (self.status, str(self))
+
+
+@contextlib.contextmanager
+def written(path, *read, encoding="utf-8", newline=None):
+    """Gives a file to write to: standard output where no path is named, else one beside the path that takes its place once it is whole, so that nothing is lost where
+    the work ends before. A source, a feed and what is read are not written over."""
+    if not path:
+        yield sys.stdout
+        return
+    there = os.path.exists(path)
+    if path.endswith((".agc", ".feed")) or there and any(os.path.exists(it) and os.path.samefile(path, it) for it in read):
+        raise Refused(2, f"{path} is a source or a feed, or is read: it is not written over")
+    if there and not os.path.isfile(path):
+        with open(path, "w", encoding=encoding, newline=newline) as file:
+            yield file
+        return
+    whole = os.path.realpath(path)
+    part = f"{whole}.part"
+    try:
+        with open(part, "w", encoding=encoding, newline=newline) as file:
+            yield file
+        if there:
+            shutil.copymode(whole, part)
+        os.replace(part, whole)
+    except BaseException as wrong:
+        with contextlib.suppress(OSError):
+            os.remove(part)
+        if isinstance(wrong, OSError) and wrong.filename == part:
+            wrong.filename = path
+        raise
+
 
 def program():
-    """Returns the path of the program: what AGCWS names, else the one that is built here, else agcws on the PATH."""
+    """Returns the path of the program: what AGCWS names, else the one that is built here, proved or else quick, else agcws on the PATH."""
     named = os.environ.get("AGCWS")
-    for path in [named] if named else [f"{ROOT}/crates/agcws/out/agcws", "agcws"]:
+    built = f"{ROOT}/crates/agcws/out"
+    for path in [named] if named else [f"{built}/agcws", f"{built}/unproved/agcws", "agcws"]:
         if shutil.which(path):
             return path
-    raise Refused(3, f"{named or 'the program'} is not there: ./agcws --prove builds it, or AGCWS names another, as crates/agcws/out/unproved/agcws after ./agcws --unproved --help")
+    raise Refused(3, f"{named or 'the program'} is not there: ./agcws --version builds it, or AGCWS names another")
 
 
 def answer(*words, given=""):
@@ -129,14 +166,18 @@ class Account(NamedTuple):
 def cover_of(*words):
     """Returns what `agcws cover` counts of a run of a source, which stands behind its options and before feed and steps: the rows of the listing, each with its account or None, and the accounts of the other lines by name."""
     rows, others = [], {}
-    for line in answer("cover", *words)[0].splitlines():
-        figures, text = line[:21].split(), line[22:]
-        account = Account(*map(int, figures)) if figures and "-" not in figures else None
-        if text[:5].strip().isdigit():
-            rows.append((row_of(text), account))
+    for it in map(json.loads, answer("cover", "--json", *words)[0].splitlines()):
+        account = Account(it["count"], it["cycles"]) if it["count"] else None
+        if it["kind"] == "line":
+            rows.append((covered_row(it), account))
         else:
-            others[text] = account
+            others[it.get("place", it["kind"])] = account
     return rows, others
+
+
+def covered_row(it):
+    """Returns the row of a listing that an object of `agcws cover --json` is."""
+    return Row(it["line"], *(it[name] or "" for name in ("place", "word", "text")))
 
 
 def knows(*words):
@@ -235,8 +276,20 @@ def program_words(asked):
     return [*options, asked.source]
 
 
+def open_streams():
+    """Has a standard stream that was closed before the view began lead to /dev/null, so that no file of the view gets its number."""
+    for number, (name, mode) in enumerate([("stdin", "r"), ("stdout", "w"), ("stderr", "w")]):
+        if getattr(sys, name) is None:
+            null = os.open(os.devnull, os.O_RDWR)
+            os.dup2(null, number)
+            if null != number:
+                os.close(null)
+            setattr(sys, name, open(number, mode, encoding="utf-8", closefd=False))
+
+
 def main(view):
     """Runs a view and ends it with its status: the program's where that refuses, 3 where a file fails, and quietly where nobody reads on."""
+    open_streams()
     try:
         status = view()
         sys.stdout.flush()

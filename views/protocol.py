@@ -1,4 +1,4 @@
-"""Messages of the Debug Adapter Protocol, whatever a client sends. `dap` uses this module.
+"""Messages of the Debug Adapter Protocol and of the Language Server Protocol, whatever a client sends. `dap` and `lsp` use this module.
 
 A message has a header, `Content-Length: N` and an empty line, and N bytes of JSON."""
 import json
@@ -28,8 +28,9 @@ class Wrong(NamedTuple):
 class Messages:
     """The messages of a stream, each as JSON has it, and what is wrong in its place. After that it goes on with the next header."""
 
-    def __init__(self, stream):
-        self.stream, self.rest = stream, b""
+    def __init__(self, stream, most=MOST_BYTES, named=(SEQ, COMMAND)):
+        """A message has MOST bytes at most; of a longer one it is known what NAMED finds, its number and its name."""
+        self.stream, self.rest, self.most, self.named = stream, b"", most, named
 
     def __iter__(self):
         length, is_lost = None, False
@@ -63,7 +64,7 @@ class Messages:
 
     def message(self, length):
         """The message of so many bytes, or None at the end."""
-        if length > MOST_BYTES:
+        if length > self.most:
             return self.passed_over(length)
         body = self.read(length)
         if len(body) < length:
@@ -88,16 +89,17 @@ class Messages:
             if not part:
                 return None
             tail, left = (tail + part)[-MOST_LINE:], left - len(part)
-        found = [[it[1].decode() for text in (head, tail) if (it := form.search(text))] for form in (SEQ, COMMAND)]
+        found = [[it[1].decode() for text in (head, tail) if (it := form.search(text))] for form in self.named]
         seq, command = (it[0] if it else "" for it in found)
-        return Wrong(f"a message has {MOST_BYTES} bytes at most, and this one {length}", int(seq or 0), command)
+        return Wrong(f"a message has {self.most} bytes at most, and this one {length}", int(seq or 0), command)
 
 
 def json_of(text):
     def refuse(name):
         raise ValueError(name)
 
-    return json.loads(text, parse_constant=refuse)
+    message = json.loads(text, parse_constant=refuse)
+    return Wrong("null is no message") if message is None else message
 
 
 class Inbox:

@@ -12,13 +12,15 @@ import toolchain
 HERE = os.path.dirname(os.path.realpath(__file__))
 # The memory with which it begins: its stack, which lies lowest, so that what goes beyond it is refused by the engine, and its data.
 STACK_BYTES, FIRST_PAGES, PAGE_BYTES = 1 << 20, 32, 65536
-TARGET = [f"--target={TRIPLE}", "-O2"]
+TARGET = [f"--target={TRIPLE}", "-O2", "-fno-unroll-loops"]
 LAYER = "-ffreestanding -nostdlib -std=c17 -Wall -Wextra -Wno-unused-parameter -Werror".split()
 # Of C's main alone something is called from outside, and memory comes from there, so that each run has a bound of its own.
 LINKED = f"""-mwasm64 -O2 -s --gc-sections --no-entry --export=main --import-memory --initial-memory={FIRST_PAGES * PAGE_BYTES} --max-memory={1 << 32}
     --stack-first -z stack-size={STACK_BYTES}""".split()
 # What LLVM's target for WebAssembly takes as there. (Of the passes, one makes addresses of 32 bits; what that leaves over is taken away by the others.)
 FEATURES = "--enable-memory64 --enable-bulk-memory --enable-sign-ext --enable-mutable-globals --enable-nontrapping-float-to-int".split()
+# What makes it small: functions that differ in constants alone become one.
+SMALL = "-O1 --merge-similar-functions --rse --merge-locals --vacuum".split()
 # The section that says which program this is.
 NAME = b"agcws"
 
@@ -68,7 +70,7 @@ def module_of(bitcode, version, is_proved):
         run(clang, *TARGET, "-x", "ir", "-c", "-o", f"{room}/program.o", f"{room}/module.ll")
         run(clang, *TARGET, *LAYER, "-c", "-o", f"{room}/layer.o", f"{HERE}/layer.c")
         run(toolchain.wasm_linker(room), *LINKED, "-o", f"{room}/wide.wasm", f"{room}/program.o", f"{room}/layer.o")
-        run("wasm-opt", *FEATURES, "--memory64-lowering", "-O1", "-o", f"{room}/agcws.wasm", f"{room}/wide.wasm")
+        run("wasm-opt", *FEATURES, "--memory64-lowering", *SMALL, "-o", f"{room}/agcws.wasm", f"{room}/wide.wasm")
         return read(f"{room}/agcws.wasm") + said(version, is_proved)
 
 

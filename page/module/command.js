@@ -31,7 +31,7 @@ function runIn(folder, words, input, output, most) {
     return status;
 }
 
-/** Bytes of standard input, as they come. */
+/** Bytes of standard input, as they come; or an error, as minus a number. */
 function read(count) {
     const bytes = new Uint8Array(count);
     for (;;) {
@@ -39,7 +39,7 @@ function read(count) {
             return bytes.subarray(0, readSync(0, bytes));
         } catch (error) {
             if (error.code !== 'EAGAIN') {
-                throw error;
+                return error.errno;
             }
         }
     }

@@ -138,8 +138,8 @@ export class Files {
  * The calls that layer.c makes.
  *   words            the arguments, of which the first is the program's name
  *   files            Files
- *   input(count)     returns bytes of standard input, at most so many, none at its end; or a promise of them, where the
- *                    engine can have a program wait
+ *   input(count)     returns bytes of standard input, at most so many, none at its end, or an error, as minus a number;
+ *                    or a promise of them, where the engine can have a program wait
  *   output(fd, bytes)    takes what is written to stream 1 or 2, and returns 0 or an error
  */
 export function callsOf({words, files, input, output, memory}) {
@@ -195,7 +195,8 @@ export function callsOf({words, files, input, output, memory}) {
         read(fd, at, count) {
             if (fd === 0) {
                 const bytes = input(Number(count));
-                return bytes instanceof Promise ? bytes.then(it => put(at, it)) : put(at, bytes);
+                const give = it => (typeof it === 'number' ? answer(it) : put(at, it));
+                return bytes instanceof Promise ? bytes.then(give) : give(bytes);
             }
             const it = opened.get(fd);
             if (!it || it.file.isFolder) {

@@ -14,7 +14,7 @@ ROOT = os.path.dirname(os.path.dirname(os.path.dirname(os.path.realpath(__file__
 PAGE, MADE_OF = f"{ROOT}/release/agcws.html", f"{ROOT}/release/agcws.json"
 # All that the module's bytes come from beside the toolchain, and all that the page's come from.
 OF_MODULE = ["crates.txt", "crates/*/src/**/*.rt", "page/module/build.py", "page/module/layer.c", "page/module/retarget.py"]
-OF_PAGE = [*OF_MODULE, "examples/runs.txt", "examples/*.agc", "examples/*.feed", "page/*.js", "page/*.css", "page/*.svg", "page/*.html", "page/make", "page/module/host.js", "page/module/one_file.py"]
+OF_PAGE = [*OF_MODULE, "examples/runs.txt", "examples/*.agc", "examples/*.feed", "docs/COURSE.md", "examples/course/*/exercise.*", "page/*.js", "page/*.css", "page/*.svg", "page/*.html", "page/make", "page/module/host.js", "page/module/one_file.py"]
 
 
 def sum_of(patterns):

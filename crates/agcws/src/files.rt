@@ -1,7 +1,8 @@
 //! The files and streams that a subcommand reads and writes, and what is told of those that fail.
 
+use crate::dumps::{ImageBytes, opened_bytes};
 use crate::gathered::Gathered;
-use plans::{Image, Kind, Program};
+use plans::{Image, Kind, Listed, Program};
 use std::alloc::AllocError;
 use std::cell::Cell;
 use std::{fs, io};
@@ -41,6 +42,26 @@ pub fn opened_program(
     })
 }
 
+/// A program that is not run, whose file is open: where its words come from, and its file with the form in which its bytes are taken.
+#[derive(Drop)]
+pub struct OpenListed {
+    pub origin: Origin,
+    pub file: Std<fs::File>,
+    pub form: Form,
+}
+
+/// Opens the file of a program, and reads its table of names once it is open.
+pub fn opened_listed(rt: &HostRuntime, listed: &Listed<'_>) -> Result<OpenListed, WorkshopFault> {
+    let table = opened_table(rt, listed.symbols)?;
+    let file = opened_file(rt, listed.path)?;
+    let names = names_of(rt, table)?;
+    Ok(OpenListed {
+        origin: origin(listed.kind, names),
+        file,
+        form: listed.form,
+    })
+}
+
 /// Where the words of a program come from: a source, or an image, with names for its places where there are some.
 fn origin(kind: Kind, names: Option<Symbols>) -> Origin {
     match (kind, names) {
@@ -72,12 +93,17 @@ fn names_of(
     }
 }
 
-/// The file of an image, in the form in which its bytes are taken.
+/// An image, in the form in which its bytes are taken.
 pub fn opened_image(
     rt: &HostRuntime,
     image: &Image<'_>,
-) -> Result<InForm<ReadFile>, WorkshopFault> {
-    Ok(taken_in(opened_file(rt, image.path)?, image.form))
+) -> Result<InForm<ReadAhead<Std<ImageBytes>>>, WorkshopFault> {
+    let bytes = opened_bytes(rt, image)?;
+    let form = match (&bytes, image.form) {
+        (ImageBytes::Octals(_), _) => Form::AsWritten,
+        (_, form) => form,
+    };
+    Ok(InForm::new(ReadAhead::new(Std::new(bytes)), form))
 }
 
 /// A file that is read, from its beginning on.

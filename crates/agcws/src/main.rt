@@ -1,27 +1,39 @@
 //! `agcws`: assembles, runs and debugs programs for the Apollo Guidance Computer, and shows rope images.
 #![tactic(auto)]
 
+mod dumps;
+mod expectations;
 mod files;
 mod gathered;
+mod hints;
 mod programs;
+mod progress;
 mod ropes;
 mod sources;
 mod target;
+mod verdicts;
 
 use command_line::{Parsed, parse};
+use expectations::expect;
 use files::{no_memory, with_stdout};
+use hints::tell_more;
 use plans::{Plan, planned};
-use programs::{cover, debug, debug_extended, run, trace};
+use programs::{
+    access, cover, debug, debug_extended, delays, differ, reach, reach_beside_run, run, trace,
+    whatif,
+};
 use ropes::{
-    compare, compare_only, show_parity, show_sums, show_sums_of_both_forms, show_words, upgrade,
+    align, carry, compare, compare_only, find, show_damages, show_mended, show_parity, show_sums,
+    show_sums_of_both_forms, show_words, upgrade,
 };
 use sources::{assemble, assemble_with_sums, check};
+use std::alloc::AllocError;
 use std::process::ExitCode;
 use std::{env, fs, io};
 use words::{Std, write_all};
 use workshop::{
-    Refusal, WorkshopFault, all_headings, explanation, refusal_of, report, warning_explanation,
-    warning_of,
+    Refusal, WorkshopFault, all_headings, explanation, note_explanation, note_kind, refusal_of,
+    report, warning_explanation, warning_of,
 };
 
 const _: () = prove!(command_line::MOST_STEPS == workshop::MOST_STEPS);
@@ -29,8 +41,11 @@ const _: () = prove!(command_line::MOST_STEPS == workshop::MOST_STEPS);
 /// The exit status where all is done.
 const DONE: u8 = 0;
 
-/// The exit status where two images differ, or an image has a wrong parity.
+/// The exit status where two images differ, or an image has a wrong parity or a damage.
 const DIFFERENT: u8 = 1;
+
+/// The exit status where a run does not bear out what is claimed of it.
+const FAILED: u8 = 1;
 
 /// The exit status where a source has a fault.
 const REFUSED: u8 = 1;
@@ -41,9 +56,9 @@ const WRONG_ARGUMENTS: u8 = 2;
 /// The null device.
 const NULL: &str = "/dev/null";
 
-/// What is said of a number that no refusal has.
+/// What is said of what is no number of a refusal or a warning, and no kind of notes.
 const NO_REFUSAL: &[u8] =
-    b"error: no refusal and no warning has this number; agcws explain lists them\n";
+    b"error: no refusal, no warning and no note is called so; agcws explain lists them\n";
 
 /// What is said of a trace whose first step is after its last.
 const NO_STEPS: &[u8] =
@@ -51,6 +66,14 @@ const NO_STEPS: &[u8] =
 
 /// The exit status where not even a fault's line can be written.
 const NOT_REPORTED: u8 = 3;
+
+/// What is said where no cell is shown as the one that is asked for, after what is asked for.
+const NO_CELL: &[u8] =
+    b" is no cell: PLACE is a symbol of an erasable place, or a cell as agcws access shows it, as E3,1401, Q or CH011\n";
+
+/// What is said where a line of trials is one of a series.
+const NO_SERIES: &[u8] =
+    b"error: a line of TRIALS begins with EVERY: each input that is tried has a line of its own\n";
 
 fn main(rt: HostRuntime) -> ExitCode {
     // A file that is opened gets the lowest number that is free, and so that of a standard stream which was closed. The null
@@ -63,10 +86,18 @@ fn main(rt: HostRuntime) -> ExitCode {
     ExitCode::from(match perform(&rt) {
         Ok(status) => status,
         Err(fault) => match report(&fault, &mut Std::new(rt.stderr())) {
-            Ok(status) => status,
+            Ok(status) => after_hint(&rt, &fault, status),
             Err(_) => NOT_REPORTED,
         },
     })
+}
+
+/// The exit status of a fault, once a person at a terminal was told what tells more of it.
+fn after_hint(rt: &HostRuntime, fault: &WorkshopFault, status: u8) -> u8 {
+    match tell_more(rt, fault) {
+        Ok(()) => status,
+        Err(_) => NOT_REPORTED,
+    }
 }
 
 /// Does what the arguments ask for, and answers the exit status.
@@ -93,17 +124,29 @@ fn follow(rt: &HostRuntime, plan: &Plan<'_>) -> Result<u8, WorkshopFault> {
         Plan::Run(it) => run(rt, it),
         Plan::Trace(tracing) => trace(rt, tracing),
         Plan::Cover(profile) => cover(rt, profile),
+        Plan::Reach(listed) => reach(rt, listed),
+        Plan::ReachRun(asked) => reach_beside_run(rt, asked),
+        Plan::Access(accesses) => access(rt, accesses),
+        Plan::Delays(timed) => delays(rt, timed),
+        Plan::Differ(pair) => differ(rt, pair),
+        Plan::WhatIf(trials) => whatif(rt, trials),
         Plan::Debug(program) => debug(rt, program),
         Plan::DebugExtended(program) => debug_extended(rt, program),
         Plan::Check(it) => check(rt, it),
+        Plan::Expect(it) => expect(rt, it.files.as_slice(), it.verdicts),
         Plan::Explain(number) => explain(rt, *number),
         Plan::Upgrade(old, new) => upgrade(rt, old, new),
         Plan::Show(words) => show_words(rt, words),
         Plan::Compare(old, new) => compare(rt, old, new),
         Plan::CompareOnly(source, image) => compare_only(rt, source, image),
+        Plan::Align(old, new) => align(rt, old, new),
+        Plan::Carry(table, old, new) => carry(rt, table, old, new),
+        Plan::Find(passage, image) => find(rt, passage, image),
         Plan::Sum(image) => show_sums(rt, image),
         Plan::SumBothForms(image) => show_sums_of_both_forms(rt, image),
         Plan::ShowParity(image) => show_parity(rt, image),
+        Plan::ShowDamages(image) => show_damages(rt, image),
+        Plan::ShowMended(image) => show_mended(rt, image),
         Plan::NoSteps => refuse_arguments(rt, NO_STEPS),
         Plan::TooManySteps => Ok(WRONG_ARGUMENTS),
     }
@@ -116,24 +159,35 @@ fn tell_help(rt: &HostRuntime, text: &[u8]) -> Result<u8, WorkshopFault> {
 }
 
 /// Says what is wrong with the arguments.
-fn refuse_arguments(rt: &HostRuntime, text: &[u8]) -> Result<u8, WorkshopFault> {
+pub(crate) fn refuse_arguments(rt: &HostRuntime, text: &[u8]) -> Result<u8, WorkshopFault> {
     write_all(&mut Std::new(rt.stderr()), text)?;
     Ok(WRONG_ARGUMENTS)
 }
 
-/// `agcws explain [NUMBER]`.
+/// `agcws explain [NUMBER]`, or a kind of notes.
 fn explain(rt: &HostRuntime, number: Option<&str>) -> Result<u8, WorkshopFault> {
     let text = match number {
         None => all_headings(rt.alloc()),
-        Some(name) => match (warning_named(name), refusal_named(name)) {
-            (Some(warning), _) => warning_explanation(rt.alloc(), &warning),
-            (None, Some(refusal)) => explanation(rt.alloc(), &refusal),
-            (None, None) => return refuse_arguments(rt, NO_REFUSAL),
+        Some(name) => match explained(rt, name) {
+            Some(text) => text,
+            None => return refuse_arguments(rt, NO_REFUSAL),
         },
     };
     let text = text.map_err(no_memory)?;
     with_stdout(rt, |out| Ok(write_all(out, text.as_slice())?))?;
     Ok(DONE)
+}
+
+/// What is explained of a name, where a warning, a refusal or a kind of notes has it.
+fn explained(rt: &HostRuntime, name: &str) -> Option<Result<Vec<u8>, AllocError>> {
+    if let Some(warning) = warning_named(name) {
+        return Some(warning_explanation(rt.alloc(), &warning));
+    }
+    if let Some(refusal) = refusal_named(name) {
+        return Some(explanation(rt.alloc(), &refusal));
+    }
+    let kind = note_kind(name.as_bytes())?;
+    Some(note_explanation(rt.alloc(), name.as_bytes(), &kind))
 }
 
 /// The refusal of a number as it is named: 17, or E17.

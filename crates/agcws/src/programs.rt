@@ -2,23 +2,30 @@
 
 ghost use Rattle.std.specs.Prelude.{◌≤◌, ◌-◌, ◌^◌};
 
-use crate::DONE;
-use crate::files::{OpenProgram, opened_program, taken_in, with_stdout};
-use plans::{Profile, Program, Run, Telling, Tracing};
-use words::{Std, Write};
+use crate::files::{
+    OpenListed, OpenProgram, no_memory, opened, opened_listed, opened_program, taken_in,
+    with_stdout,
+};
+use crate::hints::tell_reached;
+use crate::progress::make_listener;
+use crate::{DONE, NO_CELL, NO_SERIES, refuse_arguments};
+use agc_text::{next_field, next_line};
+use plans::{Accesses, Listed, Pair, Profile, Program, Reaching, Run, Timed, Tracing, Trials};
+use words::{ReadAhead, Std, Write, read_text, write_all};
 use workshop::{
-    Counted, Summary, Unheard, WorkshopFault, cover_and_tell, cover_program, debug_program,
-    run_and_tell, run_program, run_with_notes, tell_commands_end, trace_and_tell, trace_program,
-    write_end,
+    Counted, LineForm, Summary, WorkshopFault, access_program, cover_program, debug_program,
+    delays_program, differ_program, reach_program, reach_run, read_trials, run_and_tell,
+    run_with_notes, tell_commands_end, trace_program, try_program, write_end,
 };
 
-/// `agcws run [--end] [--progress] [--notes] .. SRC FEED N`. All files are opened before anything is read.
+/// `agcws run [--end] [--progress] [--notes [--json]] .. SRC FEED N`. All files are opened before anything is read.
 pub fn run(rt: &HostRuntime, asked: &Run<'_>) -> Result<u8, WorkshopFault> {
     let program = opened_program(rt, &asked.program)?;
-    let steps = asked.steps.count();
-    let summary = with_stdout(rt, |out| run_told(rt, program, steps, asked.telling, out))?;
+    let summary = with_stdout(rt, |out| run_told(rt, program, asked, out))?;
     if asked.tells_end {
         write_end(&summary, &mut Std::new(rt.stderr()))?;
+    } else {
+        tell_reached(rt, &summary)?;
     }
     Ok(DONE)
 }
@@ -27,12 +34,10 @@ pub fn run(rt: &HostRuntime, asked: &Run<'_>) -> Result<u8, WorkshopFault> {
 fn run_told<W: Write>(
     rt: &HostRuntime,
     program: OpenProgram,
-    steps: u64,
-    telling: Telling,
+    asked: &Run<'_>,
     out: &mut W,
-) -> Result<Summary, WorkshopFault>
-    requires { steps ≤ 2 ^ 40 - 2 }
-{
+) -> Result<Summary, WorkshopFault> {
+    let steps = asked.steps.count();
     let OpenProgram {
         origin,
         file,
@@ -40,11 +45,21 @@ fn run_told<W: Write>(
         mut feed,
     } = program;
     let mut file = taken_in(file, form);
-    let mut progress = Std::new(rt.stderr());
-    let mut notes = Std::new(rt.stderr());
-    match telling {
-        Telling::Nothing => run_program(rt.alloc(), origin, &mut file, &mut feed, steps, out),
-        Telling::Progress => run_and_tell(
+    let mut progress = make_listener(rt, asked.tells_progress);
+    if asked.tells_notes {
+        run_with_notes(
+            rt.alloc(),
+            asked.notation,
+            origin,
+            &mut file,
+            &mut feed,
+            steps,
+            out,
+            &mut progress,
+            &mut Std::new(rt.stderr()),
+        )
+    } else {
+        run_and_tell(
             rt.alloc(),
             origin,
             &mut file,
@@ -52,31 +67,11 @@ fn run_told<W: Write>(
             steps,
             out,
             &mut progress,
-        ),
-        Telling::Notes => run_with_notes(
-            rt.alloc(),
-            origin,
-            &mut file,
-            &mut feed,
-            steps,
-            out,
-            &mut Unheard,
-            &mut notes,
-        ),
-        Telling::ProgressAndNotes => run_with_notes(
-            rt.alloc(),
-            origin,
-            &mut file,
-            &mut feed,
-            steps,
-            out,
-            &mut progress,
-            &mut notes,
-        ),
+        )
     }
 }
 
-/// `agcws trace [--progress] .. SRC FEED N [--from T] [--to T]`. All files are opened before anything is read.
+/// `agcws trace [--progress] [--reads | --say] .. SRC FEED N [--from T] [--to T]`. All files are opened before anything is read.
 pub fn trace(rt: &HostRuntime, asked: &Tracing<'_>) -> Result<u8, WorkshopFault> {
     let OpenProgram {
         origin,
@@ -86,27 +81,35 @@ pub fn trace(rt: &HostRuntime, asked: &Tracing<'_>) -> Result<u8, WorkshopFault>
     } = opened_program(rt, &asked.program)?;
     let mut file = taken_in(file, form);
     let (first, last) = (asked.first, asked.last.count());
+    let mut progress = make_listener(rt, asked.tells_progress);
     with_stdout(rt, |out| {
-        if asked.tells_progress {
-            let mut progress = Std::new(rt.stderr());
-            trace_and_tell(
-                rt.alloc(),
-                origin,
-                &mut file,
-                &mut feed,
-                first,
-                last,
-                out,
-                &mut progress,
-            )
-        } else {
-            trace_program(rt.alloc(), origin, &mut file, &mut feed, first, last, out)
-        }
+        trace_program(
+            rt.alloc(),
+            origin,
+            &mut file,
+            &mut feed,
+            line_form(asked),
+            first,
+            last,
+            out,
+            &mut progress,
+        )
     })?;
     Ok(DONE)
 }
 
-/// `agcws cover [--progress] .. SRC FEED N`. All files are opened before anything is read.
+/// In which form the steps of a trace are told.
+fn line_form(asked: &Tracing<'_>) -> LineForm {
+    if asked.says {
+        LineForm::Sentences
+    } else if asked.shows_reads {
+        LineForm::StepsAndReads
+    } else {
+        LineForm::Steps
+    }
+}
+
+/// `agcws cover [--progress] [--json] .. SRC FEED N`. All files are opened before anything is read.
 pub fn cover(rt: &HostRuntime, asked: &Profile<'_>) -> Result<u8, WorkshopFault> {
     let OpenProgram {
         origin,
@@ -116,23 +119,201 @@ pub fn cover(rt: &HostRuntime, asked: &Profile<'_>) -> Result<u8, WorkshopFault>
     } = opened_program(rt, &asked.program)?;
     let mut file = taken_in(file, form);
     let steps = asked.steps.count();
+    let mut progress = make_listener(rt, asked.tells_progress);
     with_stdout(rt, |out| {
-        if asked.tells_progress {
-            let mut progress = Std::new(rt.stderr());
-            cover_and_tell(
-                rt.alloc(),
-                origin,
-                &mut file,
-                &mut feed,
-                steps,
-                out,
-                &mut progress,
-            )
-        } else {
-            cover_program(rt.alloc(), origin, &mut file, &mut feed, steps, out)
-        }
+        cover_program(
+            rt.alloc(),
+            asked.notation,
+            origin,
+            &mut file,
+            &mut feed,
+            steps,
+            out,
+            &mut progress,
+        )
     })?;
     Ok(DONE)
+}
+
+/// `agcws reach .. SRC`. All files are opened before anything is read.
+pub fn reach(rt: &HostRuntime, asked: &Listed<'_>) -> Result<u8, WorkshopFault> {
+    let OpenListed { origin, file, form } = opened_listed(rt, asked)?;
+    let mut file = taken_in(file, form);
+    with_stdout(rt, |out| reach_program(rt.alloc(), origin, &mut file, out))?;
+    Ok(DONE)
+}
+
+/// `agcws reach .. SRC --feed FEED --steps N`. All files are opened before anything is read.
+pub fn reach_beside_run(rt: &HostRuntime, asked: &Reaching<'_>) -> Result<u8, WorkshopFault> {
+    let OpenProgram {
+        origin,
+        file,
+        form,
+        mut feed,
+    } = opened_program(rt, &asked.program)?;
+    let mut file = taken_in(file, form);
+    let steps = asked.steps.count();
+    with_stdout(
+        rt,
+        |out| reach_run(rt.alloc(), origin, &mut file, &mut feed, steps, out),
+    )?;
+    Ok(DONE)
+}
+
+/// `agcws access [--progress] .. SRC FEED N [PLACE]`. All files are opened before anything is read.
+pub fn access(rt: &HostRuntime, asked: &Accesses<'_>) -> Result<u8, WorkshopFault> {
+    let OpenProgram {
+        origin,
+        file,
+        form,
+        mut feed,
+    } = opened_program(rt, &asked.program)?;
+    let mut file = taken_in(file, form);
+    let steps = asked.steps.count();
+    let place = asked.place.map(|place| place.as_bytes());
+    let mut progress = make_listener(rt, asked.tells_progress);
+    let is_found = with_stdout(rt, |out| {
+        access_program(
+            rt.alloc(),
+            origin,
+            &mut file,
+            &mut feed,
+            place,
+            steps,
+            out,
+            &mut progress,
+        )
+    })?;
+    if is_found {
+        Ok(DONE)
+    } else {
+        refuse_cell(rt, place.unwrap_or(b""))
+    }
+}
+
+/// Says that no cell is shown as the one that is asked for.
+fn refuse_cell(rt: &HostRuntime, place: &[u8]) -> Result<u8, WorkshopFault> {
+    let mut stderr = Std::new(rt.stderr());
+    write_all(&mut stderr, b"error: ")?;
+    write_all(&mut stderr, place)?;
+    refuse_arguments(rt, NO_CELL)
+}
+
+/// `agcws delays [--progress] .. SRC FEED N`. All files are opened before anything is read.
+pub fn delays(rt: &HostRuntime, asked: &Timed<'_>) -> Result<u8, WorkshopFault> {
+    let OpenProgram {
+        origin,
+        file,
+        form,
+        mut feed,
+    } = opened_program(rt, &asked.program)?;
+    let mut file = taken_in(file, form);
+    let mut progress = make_listener(rt, asked.tells_progress);
+    with_stdout(rt, |out| {
+        delays_program(
+            rt.alloc(),
+            origin,
+            &mut file,
+            &mut feed,
+            asked.steps.count(),
+            out,
+            &mut progress,
+        )
+    })?;
+    Ok(DONE)
+}
+
+/// `agcws differ .. SRC FEED N --with SRC2 FEED2`. All files are opened before anything is read, but the table of names.
+pub fn differ(rt: &HostRuntime, asked: &Pair<'_>) -> Result<u8, WorkshopFault> {
+    let OpenProgram {
+        origin,
+        file,
+        form,
+        mut feed,
+    } = opened_program(rt, &asked.program)?;
+    let OpenProgram {
+        origin: other_origin,
+        file: other,
+        form: other_form,
+        feed: mut other_feed,
+    } = opened_program(rt, &asked.other)?;
+    let mut file = taken_in(file, form);
+    let mut other = taken_in(other, other_form);
+    with_stdout(rt, |out| {
+        differ_program(
+            rt.alloc(),
+            origin,
+            &mut file,
+            &mut feed,
+            other_origin,
+            &mut other,
+            &mut other_feed,
+            asked.steps.count(),
+            out,
+        )
+    })?;
+    Ok(DONE)
+}
+
+/// The most bytes of a feed, and of trials.
+const MOST_BYTES: usize = 8_388_608;
+
+/// `agcws whatif .. SRC FEED N TRIALS`. All files are opened before anything is read; the trials are read first.
+pub fn whatif(rt: &HostRuntime, asked: &Trials<'_>) -> Result<u8, WorkshopFault> {
+    let OpenProgram {
+        origin,
+        file,
+        form,
+        feed,
+    } = opened_program(rt, &asked.program)?;
+    let mut file = taken_in(file, form);
+    let mut trials = opened(rt, asked.path)?;
+    let trials = read_text(rt.alloc(), &mut trials, MOST_BYTES)?;
+    if has_series(&trials) {
+        return refuse_arguments(rt, NO_SERIES);
+    }
+    let trials = match read_trials(rt.alloc(), &trials) {
+        Ok(trials) => trials,
+        Err(WorkshopFault::NoMemory) => return Err(WorkshopFault::NoMemory),
+        Err(fault) => return refuse_trials(rt, asked.path, fault),
+    };
+    let feed = read_text(rt.alloc(), &mut ReadAhead::new(feed), MOST_BYTES)?;
+    let steps = asked.steps.count();
+    with_stdout(rt, |out| {
+        try_program(
+            rt.alloc(),
+            origin,
+            &mut file,
+            &feed,
+            trials.plain(),
+            steps,
+            out,
+        )
+    })?;
+    Ok(DONE)
+}
+
+/// Whether a line of a text begins with EVERY.
+fn has_series(text: &[u8]) -> bool {
+    let mut rest = text;
+    // (each line has a byte at least)
+    for _ in 0..text.len() {
+        let Some((line, following)) = next_line(rest) else {
+            return false;
+        };
+        rest = following;
+        if next_field(line, 0).is_some_and(|field| field.text == b"EVERY".as_slice()) {
+            return true;
+        }
+    }
+    false
+}
+
+/// Tells that the trials are refused.
+fn refuse_trials(rt: &HostRuntime, path: &str, fault: WorkshopFault) -> Result<u8, WorkshopFault> {
+    let told = format!(in rt.alloc(); "{path}: {fault}\n").map_err(no_memory)?;
+    write_all(&mut Std::new(rt.stderr()), told.as_bytes())?;
+    Ok(fault.status())
 }
 
 /// `agcws debug .. SRC FEED`. All files are opened before anything is read; commands come from standard input.

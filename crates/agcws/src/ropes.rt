@@ -9,9 +9,10 @@ use std::cell::Cell;
 use std::fs;
 use words::Std;
 use workshop::{
-    Bank, Compared, WorkshopFault, compare_engine, compare_only_engine, form_sums_engine,
-    named_words_engine, parity_engine, read_names, report, report_where, source_engine,
-    sums_engine, upgrade_engine, words_engine,
+    Compared, Symbols, WorkshopFault, align_engine, carry_engine, compare_engine,
+    compare_only_engine, damages_engine, find_engine, form_sums_engine, mended_engine,
+    named_source_engine, named_words_engine, octals_engine, parity_engine, read_names, report,
+    report_where, source_engine, sums_engine, upgrade_engine, words_engine,
 };
 
 /// `agcws upgrade OLD NEW`. The file NEW is made at the first write, so that a refused image leaves none. A path of the old
@@ -27,7 +28,7 @@ pub fn upgrade(rt: &HostRuntime, old: &str, new: &str) -> Result<u8, WorkshopFau
     Ok(DONE)
 }
 
-/// `agcws words [--source | --symbols FILE] [--where] .. ROPE [BANK]`.
+/// `agcws words [--source | --octal | --symbols FILE] [--where] .. ROPE [BANK]`.
 pub fn show_words(rt: &HostRuntime, words: &Words<'_>) -> Result<u8, WorkshopFault> {
     match write_words(rt, words) {
         Ok(()) => Ok(DONE),
@@ -39,28 +40,33 @@ pub fn show_words(rt: &HostRuntime, words: &Words<'_>) -> Result<u8, WorkshopFau
 /// Writes the words of an image as they are to be shown.
 fn write_words(rt: &HostRuntime, words: &Words<'_>) -> Result<(), WorkshopFault> {
     let (image, bank) = (&words.image, words.bank);
-    if let Shown::Named(table) = words.shown {
-        return write_named_words(rt, table, image, bank);
+    if let Shown::Named(table) | Shown::NamedSource(table) = words.shown {
+        return write_named_words(rt, table, words);
     }
     let mut file = opened_image(rt, image)?;
     with_stdout(rt, |out| match words.shown {
         Shown::Source => source_engine(rt.alloc(), &mut file, image.version, bank, out),
+        Shown::Octals => octals_engine(rt.alloc(), &mut file, image.version, bank, out),
         _ => words_engine(rt.alloc(), &mut file, image.version, bank, out),
     })
 }
 
-/// Writes the words of an image with the names of a table. Both files are opened before anything is read, and the table is read first.
+/// Writes the words of an image with the names of a table, as a source or not. Both files are opened before anything is read, and
+/// the table is read first.
 fn write_named_words(
     rt: &HostRuntime,
     table: &str,
-    image: &Image<'_>,
-    bank: Option<Bank>,
+    words: &Words<'_>,
 ) -> Result<(), WorkshopFault> {
+    let (version, bank) = (words.image.version, words.bank);
     let mut table = opened(rt, table)?;
-    let mut file = opened_image(rt, image)?;
+    let mut file = opened_image(rt, &words.image)?;
     let names = read_names(rt.alloc(), &mut table)?;
-    with_stdout(rt, |out| {
-        named_words_engine(rt.alloc(), names, &mut file, image.version, bank, out)
+    with_stdout(rt, |out| match words.shown {
+        Shown::NamedSource(_) => {
+            named_source_engine(rt.alloc(), &names, &mut file, version, bank, out)
+        }
+        _ => named_words_engine(rt.alloc(), names, &mut file, version, bank, out),
     })
 }
 
@@ -144,7 +150,89 @@ fn compare_with_source(
     })
 }
 
-/// The exit status where so many places differ, or so many words have a wrong parity.
+/// `agcws align [--old VERSION] [--new VERSION] .. OLD NEW`. Both files are opened before anything is read. A fault of an image is
+/// told by the file's name.
+pub fn align(rt: &HostRuntime, old: &Image<'_>, new: &Image<'_>) -> Result<u8, WorkshopFault> {
+    let mut last = Compared::Old;
+    match align_images(rt, None, old, new, &mut last) {
+        Ok(()) => Ok(DONE),
+        Err(fault) => refused_file(rt, of_compared(last, old.path, new.path), fault),
+    }
+}
+
+/// `agcws align --symbols FILE .. OLD NEW`. The table is read before the images are opened.
+pub fn carry(
+    rt: &HostRuntime,
+    table: &str,
+    old: &Image<'_>,
+    new: &Image<'_>,
+) -> Result<u8, WorkshopFault> {
+    let mut file = opened(rt, table)?;
+    let names = read_names(rt.alloc(), &mut file)?;
+    let mut last = Compared::Old;
+    match align_images(rt, Some(names), old, new, &mut last) {
+        Ok(()) => Ok(DONE),
+        Err(fault) => refused_file(rt, of_compared(last, old.path, new.path), fault),
+    }
+}
+
+/// Aligns two images, and carries names. It is told which was opened or read last.
+fn align_images(
+    rt: &HostRuntime,
+    names: Option<Symbols>,
+    old: &Image<'_>,
+    new: &Image<'_>,
+    last: &mut Compared,
+) -> Result<(), WorkshopFault> {
+    let mut image = opened_image(rt, old)?;
+    *last = Compared::New;
+    let mut other = opened_image(rt, new)?;
+    *last = Compared::Old;
+    let (alloc, olds, news) = (rt.alloc(), old.version, new.version);
+    with_stdout(rt, |out| match names {
+        Some(names) => carry_engine(alloc, &names, &mut image, olds, &mut other, news, last, out),
+        None => align_engine(alloc, &mut image, olds, &mut other, news, last, out),
+    })
+}
+
+/// `agcws find [--flight] [--rope VERSION] .. PASSAGE ROPE`. A fault of a file that stands on no line is told by the file's name.
+pub fn find(
+    rt: &HostRuntime,
+    passage: &Original<'_>,
+    image: &Image<'_>,
+) -> Result<u8, WorkshopFault> {
+    let mut last = Compared::Old;
+    match find_passage(rt, passage, image, &mut last) {
+        Ok(()) => Ok(DONE),
+        Err(fault) => refused_file(rt, of_compared(last, passage.path, image.path), fault),
+    }
+}
+
+/// Finds a passage of a source in an image. It is told which was opened or read last.
+fn find_passage(
+    rt: &HostRuntime,
+    passage: &Original<'_>,
+    image: &Image<'_>,
+    last: &mut Compared,
+) -> Result<(), WorkshopFault> {
+    let mut text = Std::new(fs::open(rt, passage.path).map_err(not_opened)?);
+    *last = Compared::New;
+    let mut file = opened_image(rt, image)?;
+    *last = Compared::Old;
+    with_stdout(rt, |out| {
+        find_engine(
+            rt.alloc(),
+            passage.language,
+            &mut text,
+            &mut file,
+            image.version,
+            last,
+            out,
+        )
+    })
+}
+
+/// The exit status where so many places differ, so many words have a wrong parity, or so many banks are damaged.
 fn status_of(count: u32) -> u8 {
     if count == 0 { DONE } else { DIFFERENT }
 }
@@ -172,6 +260,20 @@ pub fn show_sums_of_both_forms(rt: &HostRuntime, image: &Image<'_>) -> Result<u8
     with_stdout(rt, |out| {
         form_sums_engine(rt.alloc(), &mut file, image.version, out)
     })?;
+    Ok(DONE)
+}
+
+/// `agcws damages [--form FORM] ROPE`.
+pub fn show_damages(rt: &HostRuntime, image: &Image<'_>) -> Result<u8, WorkshopFault> {
+    let mut file = opened_image(rt, image)?;
+    let count = with_stdout(rt, |out| damages_engine(rt.alloc(), &mut file, out))?;
+    Ok(status_of(count))
+}
+
+/// `agcws damages --source [--form FORM] ROPE`.
+pub fn show_mended(rt: &HostRuntime, image: &Image<'_>) -> Result<u8, WorkshopFault> {
+    let mut file = opened_image(rt, image)?;
+    with_stdout(rt, |out| mended_engine(rt.alloc(), &mut file, out))?;
     Ok(DONE)
 }
 

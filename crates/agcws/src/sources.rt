@@ -4,13 +4,14 @@ use crate::files::{ended, not_opened, opened, refused_file, with_stdout};
 use crate::target::wrong_target;
 use crate::{DONE, REFUSED, refuse_arguments};
 use image_file::ImageFile;
+use json_text::Notation;
 use plans::{Assembly, Check};
 use std::cell::Cell;
 use std::fs;
-use words::{Read, Std, Write};
+use words::{MOST_BYTES, Read, Std, Write, read_text};
 use workshop::{
     Tally, WorkshopFault, asm_engine, asm_with_check_words, check_feed, check_source,
-    report_no_room, write_tally,
+    report_no_room, write_tally, xref_engine,
 };
 
 /// `agcws asm [--flight] [--rope VERSION] SRC ROPE`. The file ROPE is made at the first write, so that a refused source leaves
@@ -20,21 +21,37 @@ pub fn assemble(rt: &HostRuntime, assembly: &Assembly<'_>) -> Result<u8, Worksho
     if let Some(wrong) = wrong_target(rt, source.path, assembly.rope) {
         return refuse_arguments(rt, wrong.of_an_assembly());
     }
-    let mut text = Std::new(fs::open(rt, source.path).map_err(not_opened)?);
+    let mut file = Std::new(fs::open(rt, source.path).map_err(not_opened)?);
+    let text = read_text(rt.alloc(), &mut file, MOST_BYTES)?;
+    let mut rest = text.as_slice();
     let refused = Cell::new(false);
     let mut image = Std::new(ImageFile::new(rt, assembly.rope, &refused));
     with_stdout(rt, |listing| {
         let outcome = asm_engine(
             rt.alloc(),
             source.language,
-            &mut text,
+            &mut rest,
             &mut image,
             listing,
             assembly.version,
         );
-        ended(outcome, &refused)
+        ended(outcome, &refused)?;
+        tell_uses(rt, assembly, &text, listing)
     })?;
     Ok(DONE)
+}
+
+/// Tells what the lines of a source do with each name, where that is asked for.
+fn tell_uses<W: Write>(
+    rt: &HostRuntime,
+    assembly: &Assembly<'_>,
+    text: &[u8],
+    out: &mut W,
+) -> Result<(), WorkshopFault> {
+    if assembly.tells_uses {
+        xref_engine(rt.alloc(), assembly.source.language, text, out)?;
+    }
+    Ok(())
 }
 
 /// `agcws asm --sums [--flight] [--rope VERSION] SRC ROPE`: files as without `--sums`. A bank without room is told in words.
@@ -43,19 +60,25 @@ pub fn assemble_with_sums(rt: &HostRuntime, assembly: &Assembly<'_>) -> Result<u
     if let Some(wrong) = wrong_target(rt, source.path, assembly.rope) {
         return refuse_arguments(rt, wrong.of_an_assembly());
     }
-    let mut text = Std::new(fs::open(rt, source.path).map_err(not_opened)?);
+    let mut file = Std::new(fs::open(rt, source.path).map_err(not_opened)?);
+    let text = read_text(rt.alloc(), &mut file, MOST_BYTES)?;
+    let mut rest = text.as_slice();
     let refused = Cell::new(false);
     let mut image = Std::new(ImageFile::new(rt, assembly.rope, &refused));
     let full = with_stdout(rt, |listing| {
         let outcome = asm_with_check_words(
             rt.alloc(),
             source.language,
-            &mut text,
+            &mut rest,
             &mut image,
             listing,
             assembly.version,
         );
-        ended(outcome, &refused)
+        let full = ended(outcome, &refused)?;
+        if full.is_none() {
+            tell_uses(rt, assembly, &text, listing)?;
+        }
+        Ok(full)
     })?;
     match full {
         Some(bank) => report_no_room(bank, &mut Std::new(rt.stderr())),
@@ -63,7 +86,7 @@ pub fn assemble_with_sums(rt: &HostRuntime, assembly: &Assembly<'_>) -> Result<u
     }
 }
 
-/// `agcws check [--flight] [--unused] SRC [FEED ..]`. All files are opened before anything is read. A file that can't be read is told by its name.
+/// `agcws check [--flight] [--unused] [--json] SRC [FEED ..]`. All files are opened before anything is read. A file that can't be read is told by its name.
 pub fn check(rt: &HostRuntime, asked: &Check<'_>) -> Result<u8, WorkshopFault> {
     let mut last = asked.source.path;
     match check_files(rt, asked, &mut last) {
@@ -91,19 +114,21 @@ fn check_files<'a>(
     with_stdout(rt, |out| {
         let told = check_source(
             rt.alloc(),
+            asked.notation,
             source.language,
             source.path.as_bytes(),
             asked.tells_unused,
             &mut text,
             out,
         )?;
-        check_feeds(rt, names, &mut feeds, last, told, out)
+        check_feeds(rt, asked.notation, names, &mut feeds, last, told, out)
     })
 }
 
 /// Tells what is wrong with some feeds, after what was told of a source, and then how much was told.
 fn check_feeds<'a, F: Read, W: Write>(
     rt: &HostRuntime,
+    notation: Notation,
     names: &[&'a str],
     feeds: &mut [F],
     last: &mut &'a str,
@@ -113,8 +138,9 @@ fn check_feeds<'a, F: Read, W: Write>(
     let mut told = told;
     for (name, feed) in names.iter().zip(feeds) {
         *last = *name;
-        told = told.with_errors(check_feed(rt.alloc(), name.as_bytes(), feed, out)?);
+        let count = check_feed(rt.alloc(), notation, name.as_bytes(), feed, out)?;
+        told = told.with_errors(count);
     }
-    write_tally(rt.alloc(), &told, out)?;
+    write_tally(rt.alloc(), notation, &told, out)?;
     Ok(told)
 }

@@ -12,10 +12,22 @@ pub enum Arguments<'a> {
     Trace(TraceArguments<'a>),
     /// A run is profiled.
     Cover(CoverArguments<'a>),
+    /// It is shown which words of a program are reached.
+    Reach(ReachArguments<'a>),
+    /// The reads and writes of a run are counted.
+    Access(AccessArguments<'a>),
+    /// How long the interrupts of a run waited is told.
+    Delays(DelaysArguments<'a>),
+    /// Inputs are tried, each of them alone.
+    WhatIf(WhatIfArguments<'a>),
+    /// It is told where two runs part.
+    Differ(DifferArguments<'a>),
     /// A program is debugged.
     Debug(DebugArguments<'a>),
     /// All faults of a source and of feeds are told.
     Check(CheckArguments<'a>),
+    /// Runs are judged by texts of tests, which are files.
+    Expect(Vec<&'a str>, VerdictArguments),
     /// A refusal or a warning is explained, or all are listed.
     Explain(Option<&'a str>),
     /// An image is upgraded.
@@ -24,10 +36,16 @@ pub enum Arguments<'a> {
     Words(WordsArguments<'a>),
     /// Two images are compared, or a source with an image.
     Compare(CompareArguments<'a>),
+    /// Two images are aligned.
+    Align(AlignArguments<'a>),
+    /// A passage of a source is found in an image.
+    Find(FindArguments<'a>),
     /// The banks of an image are summed.
     Sums(SumsArguments<'a>),
     /// The words of an image whose parity is wrong are shown.
     Parity(ImageArguments<'a>),
+    /// What is damaged in an image is told.
+    Damages(DamagesArguments<'a>),
 }
 
 /// A version of rope images.
@@ -50,6 +68,19 @@ pub struct ImageArguments<'a> {
     pub is_parity_ignored: bool,
     /// `--form hardware`: whether the parity stands below the highest bit.
     pub is_hardware: bool,
+    /// What else `--form` names.
+    pub layout: ImageLayout,
+}
+
+/// How the bytes of an image stand otherwise than as written.
+#[derive(Clone, Copy)]
+pub struct ImageLayout {
+    /// `--form swapped`: whether the second of each two stands first.
+    pub is_swapped: bool,
+    /// `--form complemented`: whether each bit is the other one.
+    pub is_complemented: bool,
+    /// `--form numbered`: whether the banks stand by their numbers.
+    pub is_numbered: bool,
 }
 
 /// A program to be run, with its feed.
@@ -67,7 +98,7 @@ pub struct ProgramArguments<'a> {
     pub feed: &'a str,
 }
 
-/// `agcws asm [--flight] [--sums] [--rope VERSION] SRC ROPE`.
+/// `agcws asm [--flight] [--sums] [--xref] [--rope VERSION] SRC ROPE`.
 #[derive(Clone, Copy)]
 pub struct AsmArguments<'a> {
     /// The file of the source.
@@ -80,9 +111,11 @@ pub struct AsmArguments<'a> {
     pub is_flight: bool,
     /// `--sums`: whether words are added that make the banks' sums.
     pub has_sums: bool,
+    /// `--xref`: whether it is told what lines do with each name.
+    pub has_xref: bool,
 }
 
-/// `agcws run [--end] [--progress] [--notes] .. SRC FEED N`.
+/// `agcws run [--end] [--progress] [--notes [--json]] .. SRC FEED N`.
 #[derive(Clone, Copy)]
 pub struct RunArguments<'a> {
     /// What is run.
@@ -95,9 +128,11 @@ pub struct RunArguments<'a> {
     pub tells_progress: bool,
     /// `--notes`: whether it is told what is seldom meant.
     pub tells_notes: bool,
+    /// `--json`: whether that is told as JSON.
+    pub is_json: bool,
 }
 
-/// `agcws trace [--progress] .. SRC FEED N [--from T] [--to T]`.
+/// `agcws trace [--progress] [--reads | --say] .. SRC FEED N [--from T] [--to T]`.
 #[derive(Clone, Copy)]
 pub struct TraceArguments<'a> {
     /// What is run.
@@ -108,11 +143,15 @@ pub struct TraceArguments<'a> {
     pub first: Option<u64>,
     /// `--to`: the last step that is shown.
     pub last: Option<u64>,
+    /// `--reads`: whether it is shown what each step has read.
+    pub shows_reads: bool,
+    /// `--say`: whether it is said in a sentence what each step did.
+    pub says: bool,
     /// `--progress`.
     pub tells_progress: bool,
 }
 
-/// `agcws cover [--progress] .. SRC FEED N`.
+/// `agcws cover [--progress] [--json] .. SRC FEED N`.
 #[derive(Clone, Copy)]
 pub struct CoverArguments<'a> {
     /// What is run.
@@ -121,6 +160,78 @@ pub struct CoverArguments<'a> {
     pub steps: u64,
     /// `--progress`.
     pub tells_progress: bool,
+    /// `--json`: whether the profile is JSON.
+    pub is_json: bool,
+}
+
+/// `agcws reach .. SRC [--feed FEED --steps N]`.
+#[derive(Clone, Copy)]
+pub struct ReachArguments<'a> {
+    /// The file of the program, and how it is to be taken where it is an image.
+    pub file: ImageArguments<'a>,
+    /// `--image`: whether it is an image in place of a source.
+    pub is_image: bool,
+    /// `--flight`: whether it is a source in the language of flight programs.
+    pub is_flight: bool,
+    /// `--symbols`: the file of a table of names.
+    pub symbols: Option<&'a str>,
+    /// `--feed` and `--steps`: the run that is made beside it.
+    pub run: Option<ReachRun<'a>>,
+}
+
+/// A run that is made beside what is reached.
+#[derive(Clone, Copy)]
+pub struct ReachRun<'a> {
+    /// The file of the feed.
+    pub feed: &'a str,
+    /// How many steps.
+    pub steps: u64,
+}
+
+/// `agcws access [--progress] .. SRC FEED N [PLACE]`.
+#[derive(Clone, Copy)]
+pub struct AccessArguments<'a> {
+    /// What is run.
+    pub program: ProgramArguments<'a>,
+    /// How many steps.
+    pub steps: u64,
+    /// The cell whose reads and writes are told by their places; all cells are told where none is given.
+    pub place: Option<&'a str>,
+    /// `--progress`.
+    pub tells_progress: bool,
+}
+
+/// `agcws delays [--progress] .. SRC FEED N`.
+#[derive(Clone, Copy)]
+pub struct DelaysArguments<'a> {
+    /// What is run.
+    pub program: ProgramArguments<'a>,
+    /// How many steps.
+    pub steps: u64,
+    /// `--progress`.
+    pub tells_progress: bool,
+}
+
+/// `agcws whatif .. SRC FEED N TRIALS`.
+#[derive(Clone, Copy)]
+pub struct WhatIfArguments<'a> {
+    /// What is run.
+    pub program: ProgramArguments<'a>,
+    /// How many steps.
+    pub steps: u64,
+    /// The inputs that are tried, a file.
+    pub trials: &'a str,
+}
+
+/// `agcws differ .. SRC FEED N --with SRC2 FEED2`.
+#[derive(Clone, Copy)]
+pub struct DifferArguments<'a> {
+    /// What is run.
+    pub program: ProgramArguments<'a>,
+    /// What is run beside it, and taken as the first is.
+    pub other: ProgramArguments<'a>,
+    /// How many steps of each.
+    pub steps: u64,
 }
 
 /// `agcws debug [--extended] .. SRC FEED`.
@@ -132,7 +243,7 @@ pub struct DebugArguments<'a> {
     pub is_extended: bool,
 }
 
-/// `agcws check [--flight] [--unused] SRC [FEED ..]`.
+/// `agcws check [--flight] [--unused] [--json] SRC [FEED ..]`.
 #[derive(Drop)]
 pub struct CheckArguments<'a> {
     /// The file of the source.
@@ -143,6 +254,17 @@ pub struct CheckArguments<'a> {
     pub is_flight: bool,
     /// `--unused`: whether labels that no operand names are told.
     pub tells_unused: bool,
+    /// `--json`: whether it is told as JSON.
+    pub is_json: bool,
+}
+
+/// How `agcws expect FILE ..` tells its verdicts.
+#[derive(Clone, Copy)]
+pub struct VerdictArguments {
+    /// Whether the verdicts are told as TAP.
+    pub is_tap: bool,
+    /// Whether they are told as JUnit does.
+    pub is_junit: bool,
 }
 
 /// `agcws upgrade OLD NEW`.
@@ -154,7 +276,7 @@ pub struct UpgradeArguments<'a> {
     pub new: &'a str,
 }
 
-/// `agcws words [--source | --symbols FILE] [--where] .. ROPE [BANK]`.
+/// `agcws words [--source | --octal | --symbols FILE] [--where] .. ROPE [BANK]`.
 #[derive(Clone, Copy)]
 pub struct WordsArguments<'a> {
     /// The image.
@@ -163,10 +285,21 @@ pub struct WordsArguments<'a> {
     pub bank: Option<u16>,
     /// `--source`: whether a source is written that gives the words.
     pub is_source: bool,
+    /// `--octal`: whether a text of octal words is written.
+    pub is_octal: bool,
     /// `--symbols`: the file of a table of names.
     pub symbols: Option<&'a str>,
     /// `--where`: whether it is told where the image is refused.
     pub tells_where: bool,
+}
+
+/// `agcws damages [--source] .. ROPE`.
+#[derive(Clone, Copy)]
+pub struct DamagesArguments<'a> {
+    /// The image.
+    pub image: ImageArguments<'a>,
+    /// `--source`: whether a source is written with the words that the sums want.
+    pub is_source: bool,
 }
 
 /// `agcws compare [--only] [--flight] .. OLD NEW`.
@@ -180,6 +313,28 @@ pub struct CompareArguments<'a> {
     pub is_source: bool,
     /// `--flight`.
     pub is_flight: bool,
+}
+
+/// `agcws align [--symbols FILE] .. OLD NEW`.
+#[derive(Clone, Copy)]
+pub struct AlignArguments<'a> {
+    /// The first image.
+    pub old: ImageArguments<'a>,
+    /// The second image.
+    pub new: ImageArguments<'a>,
+    /// `--symbols`: the file of a table of names of the first.
+    pub symbols: Option<&'a str>,
+}
+
+/// `agcws find [--flight] .. PASSAGE ROPE`.
+#[derive(Clone, Copy)]
+pub struct FindArguments<'a> {
+    /// The source of the passage.
+    pub passage: &'a str,
+    /// `--flight`.
+    pub is_flight: bool,
+    /// The image.
+    pub image: ImageArguments<'a>,
 }
 
 /// `agcws sums [--forms] .. ROPE`.

@@ -1,10 +1,9 @@
 -- Check words make the sums of banks.
-use Rattle.std.proofs.Common.{◌≡◌, ◌≢◌, ℕ, zero, suc, ◌+◌, ◌-◌, ◌*◌, ◌%◌, ◌^◌, ◌<◌, ◌≤◌, ◌==◌, ◌||◌, ◌⊎◌, Bool, true, false, Option, Some, None, is_some, unwrap_or, if◌then◌else◌, refl, sym, ◌∙◌, ap, arith, add-one, inl, inr}
-use Rattle.std.specs.Prelude.{nat_lt, nat_le, nat_eq}
-use Rattle.std.proofs.lemmas.Bool.{cases_Bool, cases_eq, cases_lt, lt-ltb, le-ltb, lt-leb, le-leb, ne_eqb, eq-eqb}
+use Rattle.std.proofs.Common.{◌≡◌, ◌≢◌, ℕ, zero, suc, ◌+◌, ◌-◌, ◌^◌, ◌<◌, ◌≤◌, ◌==◌, ◌||◌, ◌⊎◌, true, false, Option, Some, None, is_some, unwrap_or, refl, sym, ◌∙◌, ap, arith, add-one, inl, inr}
+use Rattle.std.specs.Prelude.{nat_le}
+use Rattle.std.proofs.lemmas.Bool.{cases_eq, cases_lt, lt-ltb, le-ltb, lt-leb, le-leb, ne_eqb, eq-eqb}
 use Rattle.std.proofs.lemmas.Bool.Decides.{nat_tests}
 use Rattle.words.specs.Numbers.{sum, extend, correct, neg, neg_wide}
-use Rattle.words.specs.Products.{is_minus}
 use Rattle.words.specs.Signs.{over}
 use Rattle.words.specs.declared.wide.Overflow.TheVariants.{No, Plus, Minus}
 use Rattle.words.specs.declared.wide.Overflow.{Overflow}
@@ -13,7 +12,7 @@ use Rattle.space.specs.declared.place.Linear.TheVariants.{Fixed}
 use Rattle.rope.specs.Places.{banks, bank_words, Words, with_word, slot_at, stands, word_at}
 use Rattle.rope.proofs.PlaceLaws.{slot_at-with_word_same, slot_at-with_word_other}
 use Rattle.audit.specs.Sums.{carried, added, sum_before}
-use Rattle.audit.specs.CheckWords.{end_before, end_of, with_next, with_loop, wanted, check_word, with_sum, with_check_words, has_room, with_checks, HaveRoom, HoldsSum, Checks}
+use Rattle.audit.specs.CheckWords.{end_before, end_of, with_next, with_loop, check_word, with_sum, with_check_words, has_room, with_checks, HaveRoom, HoldsSum, Checks}
 use Rattle.audit.proofs.Ends.{end_next, none_at_end, none_past, other_stands}
 
 -- ## Adding

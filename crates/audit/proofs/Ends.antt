@@ -1,7 +1,7 @@
 -- Where the words of a bank end, and a word that is put there.
-use Rattle.std.proofs.Common.{◌≡◌, ◌≢◌, ℕ, zero, suc, ◌+◌, ◌<◌, ◌≤◌, Bool, true, false, is_some, Some, refl, sym, ◌∙◌, ◌-◌, ap, arith, add-one, inl, inr}
+use Rattle.std.proofs.Common.{◌≡◌, ◌≢◌, ℕ, zero, suc, ◌+◌, ◌<◌, ◌≤◌, true, false, is_some, refl, ◌-◌, ap, arith, add-one, inl, inr}
 use Rattle.std.proofs.lemmas.Bool.{cases_Bool, cases_eq}
-use Rattle.rope.specs.Places.{banks, bank_words, Words, with_word, slot_at, stands}
+use Rattle.rope.specs.Places.{banks, bank_words, Words, with_word, stands}
 use Rattle.rope.proofs.PlaceLaws.{slot_at-with_word_same, slot_at-with_word_other}
 use Rattle.audit.specs.CheckWords.{end_before, end_of, with_next}
 

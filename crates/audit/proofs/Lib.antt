@@ -1,5 +1,9 @@
 pub mod CheckSums
+pub mod DamageRows
 pub mod Ends
+pub mod Folds
+pub mod LayoutRows
+pub mod OrderSums
 pub mod PartTexts
 pub mod PlaceLines
 pub mod Places

@@ -27,6 +27,13 @@ front_split f (suc m) n whole e =
     ∙ append_assoc (front f n) (flat_map f (range_with_len n m)) (f (n + m))
     ∙ ap (λ items. front f n ++ items) (sym (flat_range_more f m n (suc m) (n + m) refl refl))
 
+-- what numbers before n give stands, and then what n gives
+pub items_more : {A : Type 0} (f : ℕ → List A) (n : ℕ) (a b c : List A) → b ≡ a ++ front f n → c ≡ b ++ f n → c ≡ a ++ front f (n + 1)
+items_more f n a b c p q = rw (front_more f n, q, p) (append_assoc a (front f n) (f n))
+
+pub items_end : {A : Type 0} (f : ℕ → List A) (n count : ℕ) (a b : List A) → n ≡ count → b ≡ a ++ front f n → b ≡ a ++ front f count
+items_end f n count a b e p = subst (λ (k : ℕ). b ≡ a ++ front f k) e p
+
 -- a front was written, and then the next part
 pub writes_more : (f : ℕ → List ℕ) (n : ℕ) (a b c : List ℕ) → b ≡ a ++ front f n → c ≡ b ++ f n → c ≡ a ++ front f (n + 1)
 writes_more f n a b c written next = rw (front_more f n) (append-then a b c (front f n) (f n) written next)

@@ -4,7 +4,8 @@ use Rattle.rope.specs.Places.{Words, word_at}
 use Rattle.cpu.specs.Next.{extracode_after}
 use Rattle.audit.specs.WordLines.{extracode_at}
 use Rattle.rope.specs.declared.spelling.Version.{Version}
-use Rattle.audit.specs.FormSums.{hardware_sum_before, hardware_word}
+use Rattle.audit.specs.declared.orders.Order.{Order}
+use Rattle.audit.specs.FormSums.{form_sum_before, form_word}
 use Rattle.audit.specs.Sums.{added, sum_before}
 
 -- no extracode is in force at the first word of a bank
@@ -35,16 +36,17 @@ pub sum_next : (words : Words) (bank n offset word total next : ℕ) → offset 
     → next ≡ added total word → next ≡ sum_before words bank (n + 1)
 sum_next words bank n offset word total next same now here e = rw (sum_more words bank n) (rw (here, same, now) at e)
 
--- the same of words with the parity bit below the highest one
-pub hardware_sum_first : (version : Version) (words : Words) (bank : ℕ) → hardware_sum_before version words bank 0 ≡ 0
-unfolding hardware_sum_before
-hardware_sum_first version words bank = refl
+-- the same of the words that their bytes are in an order
+pub form_sum_first : (order : Order) (version : Version) (words : Words) (bank : ℕ) → form_sum_before order version words bank 0 ≡ 0
+unfolding form_sum_before
+form_sum_first order version words bank = refl
 
-hardware_sum_more : (version : Version) (words : Words) (bank n : ℕ)
-    → hardware_sum_before version words bank (n + 1) ≡ added (hardware_sum_before version words bank n) (hardware_word version (word_at words bank n))
-unfolding hardware_sum_before
-hardware_sum_more version words bank n = rw (add-one n) refl
+form_sum_more : (order : Order) (version : Version) (words : Words) (bank n : ℕ)
+    → form_sum_before order version words bank (n + 1) ≡ added (form_sum_before order version words bank n) (form_word order version (word_at words bank n))
+unfolding form_sum_before
+form_sum_more order version words bank n = rw (add-one n) refl
 
-pub hardware_sum_next : (version : Version) (words : Words) (bank n offset word other total next : ℕ) → offset ≡ n → total ≡ hardware_sum_before version words bank n
-    → word ≡ word_at words bank offset → other ≡ hardware_word version word → next ≡ added total other → next ≡ hardware_sum_before version words bank (n + 1)
-hardware_sum_next version words bank n offset word other total next same now here is e = rw (hardware_sum_more version words bank n) (rw (is, here, same, now) at e)
+pub form_sum_next : (order : Order) (version : Version) (words : Words) (bank n offset word other total next : ℕ) → offset ≡ n
+    → total ≡ form_sum_before order version words bank n → word ≡ word_at words bank offset → other ≡ form_word order version word
+    → next ≡ added total other → next ≡ form_sum_before order version words bank (n + 1)
+form_sum_next order version words bank n offset word other total next same now here is e = rw (form_sum_more order version words bank n) (rw (is, here, same, now) at e)

@@ -10,7 +10,8 @@ use Rattle.cpu.specs.Codes.{basic_rows, extracode_rows, code_of}
 use Rattle.cpu.specs.Texts.{instruction_text}
 use Rattle.audit.specs.CheckWords.{check_word}
 use Rattle.audit.specs.Differences.{differing_at}
-use Rattle.audit.specs.FormSums.{hardware_word, line_of_sums}
+use Rattle.audit.specs.declared.orders.Order.TheVariants.{Exchanged, Hardware}
+use Rattle.audit.specs.FormSums.{form_word, line_of_sums}
 use Rattle.rope.specs.declared.spelling.Version.TheVariants.{One, Two}
 use Rattle.audit.specs.declared.differences.Extent.TheVariants.{All, Filled}
 use Rattle.audit.specs.Parities.{wrong_at, parity_line}
@@ -88,35 +89,49 @@ from_least = refl
 
 -- ## Sums in both orders
 -- 64005 with its parity bit is 1 10 1000 0000 01010 in binary, 150012: the highest bit, and without the one below it 10012
-both_bits : hardware_word Two 0o64005 ≡ 0o50012
+both_bits : form_word Hardware Two 0o64005 ≡ 0o50012
 unfolding ones
 both_bits = refl
 
 -- 00004 has one one bit, so its parity bit is 0; 00006 has two, so its bytes are 000015
-even_word : hardware_word Two 4 ≡ 0o10
+even_word : form_word Hardware Two 4 ≡ 0o10
 unfolding ones
 even_word = refl
 
-odd_word : hardware_word Two 6 ≡ 0o15
+odd_word : form_word Hardware Two 6 ≡ 0o15
 unfolding ones
 odd_word = refl
 
-no_parity : hardware_word One 6 ≡ 0o14
+no_parity : form_word Hardware One 6 ≡ 0o14
 no_parity = refl
 
+-- 000015 with the second byte first is 006400
+second_first : form_word Exchanged Two 6 ≡ 0o3200
+unfolding ones
+second_first = refl
+
 -- the sum of bank 02 is 2 or 77775
-holds_written : line_of_sums 2 2 0o16010 ≡ codes "02 00002 16010 written\n"
+holds_written : line_of_sums 2 2 0o16010 7 7 ≡ codes "02 00002 16010 written\n"
 unfolding octal_text
 holds_written = refl
 
-holds_hardware : line_of_sums 2 0o16010 0o77775 ≡ codes "02 16010 77775 hardware\n"
+holds_hardware : line_of_sums 2 0o16010 0o77775 7 7 ≡ codes "02 16010 77775 hardware\n"
 unfolding octal_text
 holds_hardware = refl
 
-holds_both : line_of_sums 0 0 0o77777 ≡ codes "00 00000 77777 written hardware\n"
+holds_both : line_of_sums 0 0 0o77777 7 7 ≡ codes "00 00000 77777 written hardware\n"
 unfolding octal_text
 holds_both = refl
 
-holds_none : line_of_sums 3 0 2 ≡ codes "03 00000 00002 -\n"
+holds_none : line_of_sums 3 0 2 7 7 ≡ codes "03 00000 00002 -\n"
 unfolding octal_text
 holds_none = refl
+
+holds_swapped : line_of_sums 5 7 2 0o77772 5 ≡ codes "05 00007 00002 swapped hardware,swapped\n"
+unfolding octal_text
+holds_swapped = refl
+
+-- bank 0 has the sum of bank 2
+holds_by_number : line_of_sums 0 0o77775 0o100 7 7 ≡ codes "00 77775 00100 numbered\n"
+unfolding octal_text
+holds_by_number = refl

@@ -1,7 +1,14 @@
+pub mod BankFacts
 pub mod CheckWords
+pub mod Damages
 pub mod Differences
 pub mod FormSums
+pub mod Layouts
+pub mod Mended
+pub mod Octals
+pub mod Orders
 pub mod Parities
 pub mod SourceLines
 pub mod Sums
 pub mod WordLines
+pub mod WordOrders

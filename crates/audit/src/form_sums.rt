@@ -1,21 +1,29 @@
-//! The sums of the banks in both orders of the bits.
+//! The sums of the banks in all orders of bits, bytes and banks.
 
-ghost use Rattle.std.specs.Prelude.{◌≡◌, ◌<◌, ◌≤◌, length, true};
+ghost use Rattle.std.specs.Prelude.{◌≡◌, ◌<◌, ◌≤◌, ◌+◌, ◌++◌, length, true};
+ghost use Rattle.arrayvec.specs.ArrayVec.{array_vec_len};
 ghost use Rattle.words.specs.Devices.{Writes, failures_after};
 ghost use Rattle.rope.specs.Image.{lowest_bit};
-ghost use Rattle.rope.specs.Places.{bank_words};
-ghost use Rattle.audit.specs.FormSums.{form_line, form_lines, hardware_sum_before, hardware_word, holds_sum, line_of_sums, orders_text};
+ghost use Rattle.rope.specs.Places.{banks, bank_words};
+ghost use Rattle.audit.specs.FormSums.{form_line, form_lines, form_sum, form_sum_before, form_word, holds_sum, is_by_number, line_of_sums, name_if, names_of};
 
-use crate::lines::{Line, bank_of, offset_of};
+use crate::lines::{bank_of, offset_of};
+use crate::orders::{Order, partner, word_in};
 use crate::sums::{added, bank_sum};
 use arrayvec::ArrayVec;
 use rope::{Rope, Version};
 use space::{BANK_WORDS, Bank, FIXED_BANKS};
 use words::{Word, Write, WriteFailed, push_all, push_octal, write_all};
 
-/// Writes a line for each bank by its number, as `02 00002 16010 written`: the number, the sum of the bank's words as
-/// `write_sums` has it, the sum of the words that the same bytes are where the parity bit stands below the highest one, and in
-/// which of these orders the sum is the bank's number, or its complement: `written`, `hardware`, both, or `-`.
+/// The most bytes of a line: a number of 2 digits, two of 5, the names of the forms, and what stands between.
+const LINE: usize = 128;
+
+type Line = ArrayVec<u8, LINE>;
+
+/// Writes a line for each bank by its number, as `02 00002 16010 written`: the number, the sum of the bank's words as `write_sums` has it, the sum of
+/// the words that the same bytes are where the parity bit stands below the highest one, and in which forms the sum is the bank's number, or its
+/// complement: `written`, `hardware`, `swapped`, where the second of each two bytes stands first, `hardware,swapped`, `numbered`, where banks 0 and 1
+/// stand before 2 and 3, or `-`.
 ///
 /// After a failure a beginning of it was written.
 pub fn write_form_sums<W: Write>(
@@ -40,13 +48,15 @@ fn form_line(rope: &Rope, version: Version, bank: Bank) -> Line
     line_of_sums(
         bank,
         bank_sum(rope, bank),
-        hardware_sum(rope, version, bank),
+        form_sum(Order::Hardware, rope, version, bank),
+        form_sum(Order::Exchanged, rope, version, bank),
+        form_sum(Order::ExchangedHardware, rope, version, bank),
     )
 }
 
-/// The line of two sums of a bank.
-fn line_of_sums(bank: Bank, written: Word, hardware: Word) -> Line
-    ensures { result.items ≡ line_of_sums bank written hardware }
+/// The line of the sums of a bank.
+fn line_of_sums(bank: Bank, written: Word, hardware: Word, swapped: Word, both: Word) -> Line
+    ensures { result.items ≡ line_of_sums bank written hardware swapped both }
 {
     let mut line = ArrayVec::new();
     push_octal(&mut line, 2, bank.number());
@@ -54,57 +64,76 @@ fn line_of_sums(bank: Bank, written: Word, hardware: Word) -> Line
     push_octal(&mut line, 5, written.to_u16());
     push_all(&mut line, b" ");
     push_octal(&mut line, 5, hardware.to_u16());
-    push_all(
-        &mut line,
-        orders_text(holds_sum(bank, written), holds_sum(bank, hardware)),
-    );
+    push_names(&mut line, bank, written, hardware, swapped, both);
     push_all(&mut line, b"\n");
     line
 }
 
-/// The names of the orders in which a sum holds.
-fn orders_text(written: bool, hardware: bool) -> &'static [u8]
-    ensures text { result.now ≡ orders_text written hardware }
+/// Appends the names of the forms in which the sums of a bank hold.
+fn push_names(line: &mut Line, bank: Bank, written: Word, hardware: Word, swapped: Word, both: Word)
+    requires { array_vec_len line.old ≤ 14 }
+    ensures items { line.new.items ≡ line.old.items ++ names_of bank written hardware swapped both }
+    ensures len { array_vec_len line.new ≤ array_vec_len line.old + 102 }
+{
+    let is_written = holds_sum(bank, written);
+    let is_hardware = holds_sum(bank, hardware);
+    let is_swapped = holds_sum(bank, swapped);
+    let is_both = holds_sum(bank, both);
+    let is_numbered = is_by_number(bank, written);
+    let is_none = !(is_written || is_hardware || is_swapped || is_both || is_numbered);
+    push_all(line, name_if(is_written, b" written"));
+    push_all(line, name_if(is_hardware, b" hardware"));
+    push_all(line, name_if(is_swapped, b" swapped"));
+    push_all(line, name_if(is_both, b" hardware,swapped"));
+    push_all(line, name_if(is_numbered, b" numbered"));
+    push_all(line, name_if(is_none, b" -"));
+}
+
+/// A name, or nothing.
+fn name_if(is: bool, name: &'static [u8]) -> &'static [u8]
+    requires { length name.now ≤ 17 }
+    ensures text { result.now ≡ name_if is name.now }
     ensures short { length result.now ≤ 17 }
 {
-    match (written, hardware) {
-        (true, true) => b" written hardware",
-        (true, false) => b" written",
-        (false, true) => b" hardware",
-        (false, false) => b" -",
-    }
+    if is { name } else { b"" }
+}
+
+/// Whether a sum is that of the bank that stands in place of another where banks stand by their numbers.
+fn is_by_number(bank: Bank, total: Word) -> bool
+    ensures { result ≡ is_by_number bank total }
+{
+    bank.number() < 4 && holds_sum(partner(bank), total)
 }
 
 /// Whether a sum is the number of its bank, or the complement of it.
-fn holds_sum(bank: Bank, total: Word) -> bool
+pub fn holds_sum(bank: Bank, total: Word) -> bool
     ensures { result ≡ holds_sum bank total }
 {
     let number = Word::of_low_bits(bank.number());
     total == number || total == number.neg()
 }
 
-/// The sum of a bank's words, where the parity bit stands below the highest bit of their bytes.
-fn hardware_sum(rope: &Rope, version: Version, bank: Bank) -> Word
-    ensures { result ≡ hardware_sum_before version rope.now bank bank_words }
+/// The sum of the words that the bytes of a bank are in an order.
+fn form_sum(order: Order, rope: &Rope, version: Version, bank: Bank) -> Word
+    ensures { result ≡ form_sum order version rope.now bank }
 {
     let mut total = Word::ZERO;
     for number in 0..BANK_WORDS {
         let word = rope.word(bank, offset_of(number));
-        total = added(total, hardware_word(version, word));
+        total = added(total, form_word(order, version, word));
     }
     total
 }
 
-/// The word that the two bytes of a word are, where the parity bit stands below their highest one.
-fn hardware_word(version: Version, word: Word) -> Word
-    ensures { result ≡ hardware_word version word }
+/// The word that the two bytes of a word are in an order.
+fn form_word(order: Order, version: Version, word: Word) -> Word
+    ensures { result ≡ form_word order version word }
 {
-    let bytes = 2 * word.to_u16() + lowest_bit(version, word);
-    Word::of_low_bits(bytes / 0o100000 * 0o40000 + bytes % 0o40000)
+    word_in(order, 2 * word.to_u16() + lowest_bit(version, word))
 }
 
 /// The lowest bit of a word's two bytes.
-fn lowest_bit(version: Version, word: Word) -> u16
+pub(crate) fn lowest_bit(version: Version, word: Word) -> u16
     ensures bit { result ≡ lowest_bit version word }
     ensures range { result ≤ 1 }
 {

@@ -1,18 +1,30 @@
 //! Fixed memory as text: its words, a source that gives them, its differences from another, and the sums of its banks, with the words that make them.
 #![tactic(auto)]
 
+mod bank_facts;
 mod check_words;
+mod damages;
 mod differences;
 mod form_sums;
+mod layout;
 mod lines;
+mod mended;
+mod octals;
+mod orders;
 mod parities;
 mod source;
 mod sums;
+mod wrong_words;
 
 pub use check_words::{NoRoom, add_check_words, check_words_hold};
+pub use damages::{Finding, write_damages};
 pub use differences::{Extent, write_differences};
-pub use form_sums::write_form_sums;
+pub use form_sums::{holds_sum, write_form_sums};
+pub use layout::{Layout, arranged};
 pub use lines::{bank_of, offset_of, word_line, write_words};
+pub use mended::write_mended;
+pub use octals::write_octals;
+pub use orders::Order;
 pub use parities::write_parities;
 pub use source::write_source;
-pub use sums::write_sums;
+pub use sums::{bank_sum, write_sums};

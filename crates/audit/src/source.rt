@@ -67,7 +67,7 @@ fn write_octals<W: Write>(rope: &Rope, bank: Bank, out: &mut W) -> Result<(), Wr
 
 /// The line that leads to the first word of a bank.
 #[tactic(auto, unfolding(crate::specs::SourceLines::bank_line))]
-fn bank_line(bank: Bank) -> Line
+pub(crate) fn bank_line(bank: Bank) -> Line
     ensures { result.items ≡ bank_line bank }
 {
     let mut line = ArrayVec::new();

@@ -39,7 +39,7 @@ fn sum_line(rope: &Rope, bank: Bank) -> Line
 }
 
 /// The sum of a bank's words.
-pub(crate) fn bank_sum(rope: &Rope, bank: Bank) -> Word
+pub fn bank_sum(rope: &Rope, bank: Bank) -> Word
     ensures { result ≡ sum_before rope.now bank bank_words }
 {
     let mut total = Word::ZERO;

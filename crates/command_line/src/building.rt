@@ -14,7 +14,10 @@ pub fn command<'a>(alloc: Global, words: &[String]) -> Result<Command<'a>, Alloc
     let command = Command::new(alloc, "agcws")
         .about("Assembles, runs and debugs programs for the Apollo Guidance Computer")
         .version(PROGRAM_VERSION)
-        .after_help("See the --help of each for its files, its output and its exit statuses.")
+        .after_help(
+            "See the --help of each for its files, its output and its exit statuses.
+To begin: views/new NAME writes a program and its tests.",
+        )
         .subcommand_required(true);
     let table = subcommands();
     match table.iter().find(|it| is_named(words, it)) {
@@ -77,6 +80,8 @@ fn with_value<'a>(arg: Arg<'a>, value: Value) -> Arg<'a> {
         Value::Nothing => arg.action(ArgAction::SetTrue),
         Value::Text => arg,
         Value::Texts => arg.num_args(0..),
+        Value::TwoTexts => arg.num_args(2..=2),
+        Value::SomeTexts => arg.num_args(1..),
         Value::OneOf(names) => arg.value_parser(names),
         Value::OneOfMany(names) => arg.value_parser(names).hide_possible_values(true),
         Value::Step => arg.value_parser(value_parser!(u64).range(0..=MOST_STEPS as i64)),

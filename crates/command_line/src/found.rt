@@ -1,16 +1,20 @@
 //! The values of the arguments that a call gives.
 
 use crate::names::{
-    AS_SOURCE, ASM, BANK, BANK_COUNT, BANKS, BOTH_FORMS, CHECK, COMPARE, COVER, DEBUG, END,
-    EXPLAIN, EXTENDED, FEED, FEEDS, FLIGHT, FORM, FROM, IGNORED_PARITY, IMAGE, NEW, NEW_FORM,
-    NEW_VERSION, NOTES, NUMBER, OLD, OLD_FORM, OLD_VERSION, ONLY, PARITY, PROGRESS, ROPE, RUN,
-    SOURCE, STEPS, SUMS, SYMBOLS, TO, TRACE, UNUSED, UPGRADE, VERSION, VERSION_ONE, WHERE,
-    WITH_SUMS, WORDS,
+    ACCESS, ALIGN, AS_OCTAL, AS_SOURCE, ASM, BANK, BANK_COUNT, BANKS, BOTH_FORMS, CHECK, COMPARE,
+    COVER, DAMAGES, DEBUG, DELAYS, DIFFER, END, EXPECT, EXPLAIN, EXTENDED, FEED, FEEDS, FILES,
+    FIND, FLIGHT, FORM, FORMS, FROM, IGNORED_PARITY, IMAGE, JSON, JUNIT, NEW, NEW_FORM,
+    NEW_VERSION, NOTES, NUMBER, OLD, OLD_FORM, OLD_VERSION, ONLY, PARITY, PASSAGE, PLACE, PROGRESS,
+    REACH, READS, ROPE, RUN, RUN_FEED, RUN_STEPS, SAY, SOURCE, STEPS, SUMS, SYMBOLS, TAP, TO,
+    TRACE, TRIALS, UNUSED, UPGRADE, VERSION, VERSION_ONE, WHATIF, WHERE, WITH, WITH_SUMS,
+    WITH_XREF, WORDS,
 };
 use arguments::{
-    Arguments, AsmArguments, CheckArguments, CompareArguments, CoverArguments, DebugArguments,
-    ImageArguments, ImageVersion, ProgramArguments, RunArguments, SumsArguments, TraceArguments,
-    UpgradeArguments, WordsArguments,
+    AccessArguments, AlignArguments, Arguments, AsmArguments, CheckArguments, CompareArguments,
+    CoverArguments, DamagesArguments, DebugArguments, DelaysArguments, DifferArguments,
+    FindArguments, ImageArguments, ImageLayout, ImageVersion, ProgramArguments, ReachArguments,
+    ReachRun, RunArguments, SumsArguments, TraceArguments, UpgradeArguments, VerdictArguments,
+    WhatIfArguments, WordsArguments,
 };
 use clap::ArgMatches;
 use std::alloc::{AllocError, Global};
@@ -28,14 +32,23 @@ pub fn arguments<'a>(
         RUN => run(matches).map(Arguments::Run),
         TRACE => trace(matches).map(Arguments::Trace),
         COVER => cover(matches).map(Arguments::Cover),
+        REACH => reach(matches).map(Arguments::Reach),
+        ACCESS => access(matches).map(Arguments::Access),
+        DELAYS => delays(matches).map(Arguments::Delays),
+        WHATIF => whatif(matches).map(Arguments::WhatIf),
+        DIFFER => differ(matches).map(Arguments::Differ),
         DEBUG => debug(matches).map(Arguments::Debug),
         CHECK => check(alloc, matches)?.map(Arguments::Check),
+        EXPECT => Some(Arguments::Expect(files(alloc, matches)?, verdicts(matches))),
         EXPLAIN => Some(Arguments::Explain(matches.get_str(NUMBER))),
         UPGRADE => upgrade(matches).map(Arguments::Upgrade),
         WORDS => words(matches).map(Arguments::Words),
         COMPARE => compare(matches).map(Arguments::Compare),
+        ALIGN => align(matches).map(Arguments::Align),
+        FIND => find(matches).map(Arguments::Find),
         SUMS => sums(matches).map(Arguments::Sums),
         PARITY => parity(matches).map(Arguments::Parity),
+        DAMAGES => damages(matches).map(Arguments::Damages),
         _ => None,
     })
 }
@@ -47,6 +60,7 @@ fn asm<'a>(matches: &ArgMatches<'a>) -> Option<AsmArguments<'a>> {
         version: version(matches, VERSION),
         is_flight: matches.get_flag(FLIGHT),
         has_sums: matches.get_flag(WITH_SUMS),
+        has_xref: matches.get_flag(WITH_XREF),
     })
 }
 
@@ -57,6 +71,7 @@ fn run<'a>(matches: &ArgMatches<'a>) -> Option<RunArguments<'a>> {
         tells_end: matches.get_flag(END),
         tells_progress: matches.get_flag(PROGRESS),
         tells_notes: matches.get_flag(NOTES),
+        is_json: matches.get_flag(JSON),
     })
 }
 
@@ -66,6 +81,8 @@ fn trace<'a>(matches: &ArgMatches<'a>) -> Option<TraceArguments<'a>> {
         steps: matches.get_one(STEPS)?,
         first: matches.get_one(FROM),
         last: matches.get_one(TO),
+        shows_reads: matches.get_flag(READS),
+        says: matches.get_flag(SAY),
         tells_progress: matches.get_flag(PROGRESS),
     })
 }
@@ -75,6 +92,67 @@ fn cover<'a>(matches: &ArgMatches<'a>) -> Option<CoverArguments<'a>> {
         program: program(matches)?,
         steps: matches.get_one(STEPS)?,
         tells_progress: matches.get_flag(PROGRESS),
+        is_json: matches.get_flag(JSON),
+    })
+}
+
+fn reach<'a>(matches: &ArgMatches<'a>) -> Option<ReachArguments<'a>> {
+    Some(ReachArguments {
+        file: image(matches, SOURCE, VERSION, FORM)?,
+        is_image: matches.get_flag(IMAGE),
+        is_flight: matches.get_flag(FLIGHT),
+        symbols: matches.get_str(SYMBOLS),
+        run: reach_run(matches),
+    })
+}
+
+/// The run that is made beside what is reached; each of its options needs the other.
+fn reach_run<'a>(matches: &ArgMatches<'a>) -> Option<ReachRun<'a>> {
+    Some(ReachRun {
+        feed: matches.get_str(RUN_FEED)?,
+        steps: matches.get_one(RUN_STEPS)?,
+    })
+}
+
+fn access<'a>(matches: &ArgMatches<'a>) -> Option<AccessArguments<'a>> {
+    Some(AccessArguments {
+        program: program(matches)?,
+        steps: matches.get_one(STEPS)?,
+        place: matches.get_str(PLACE),
+        tells_progress: matches.get_flag(PROGRESS),
+    })
+}
+
+fn delays<'a>(matches: &ArgMatches<'a>) -> Option<DelaysArguments<'a>> {
+    Some(DelaysArguments {
+        program: program(matches)?,
+        steps: matches.get_one(STEPS)?,
+        tells_progress: matches.get_flag(PROGRESS),
+    })
+}
+
+fn whatif<'a>(matches: &ArgMatches<'a>) -> Option<WhatIfArguments<'a>> {
+    Some(WhatIfArguments {
+        program: program(matches)?,
+        steps: matches.get_one(STEPS)?,
+        trials: matches.get_str(TRIALS)?,
+    })
+}
+
+fn differ<'a>(matches: &ArgMatches<'a>) -> Option<DifferArguments<'a>> {
+    let program = program(matches)?;
+    let with = matches.get_strs(WITH)?;
+    Some(DifferArguments {
+        program,
+        other: ProgramArguments {
+            file: ImageArguments {
+                path: with.get(0)?,
+                ..program.file
+            },
+            feed: with.get(1)?,
+            ..program
+        },
+        steps: matches.get_one(STEPS)?,
     })
 }
 
@@ -97,7 +175,19 @@ fn check<'a>(
         feeds: Vec::from_slice(alloc, matches.get_strs(FEEDS).unwrap_or(&[]))?,
         is_flight: matches.get_flag(FLIGHT),
         tells_unused: matches.get_flag(UNUSED),
+        is_json: matches.get_flag(JSON),
     }))
+}
+
+fn files<'a>(alloc: Global, matches: &ArgMatches<'a>) -> Result<Vec<&'a str>, AllocError> {
+    Vec::from_slice(alloc, matches.get_strs(FILES).unwrap_or(&[]))
+}
+
+fn verdicts(matches: &ArgMatches<'_>) -> VerdictArguments {
+    VerdictArguments {
+        is_tap: matches.get_flag(TAP),
+        is_junit: matches.get_flag(JUNIT),
+    }
 }
 
 fn upgrade<'a>(matches: &ArgMatches<'a>) -> Option<UpgradeArguments<'a>> {
@@ -112,6 +202,7 @@ fn words<'a>(matches: &ArgMatches<'a>) -> Option<WordsArguments<'a>> {
         image: image(matches, ROPE, VERSION, FORM)?,
         bank: matches.get_str(BANK).and_then(bank_named),
         is_source: matches.get_flag(AS_SOURCE),
+        is_octal: matches.get_flag(AS_OCTAL),
         symbols: matches.get_str(SYMBOLS),
         tells_where: matches.get_flag(WHERE),
     })
@@ -126,6 +217,22 @@ fn compare<'a>(matches: &ArgMatches<'a>) -> Option<CompareArguments<'a>> {
     })
 }
 
+fn align<'a>(matches: &ArgMatches<'a>) -> Option<AlignArguments<'a>> {
+    Some(AlignArguments {
+        old: image(matches, OLD, OLD_VERSION, OLD_FORM)?,
+        new: image(matches, NEW, NEW_VERSION, NEW_FORM)?,
+        symbols: matches.get_str(SYMBOLS),
+    })
+}
+
+fn find<'a>(matches: &ArgMatches<'a>) -> Option<FindArguments<'a>> {
+    Some(FindArguments {
+        passage: matches.get_str(PASSAGE)?,
+        is_flight: matches.get_flag(FLIGHT),
+        image: image(matches, ROPE, VERSION, FORM)?,
+    })
+}
+
 fn sums<'a>(matches: &ArgMatches<'a>) -> Option<SumsArguments<'a>> {
     Some(SumsArguments {
         image: image(matches, ROPE, VERSION, FORM)?,
@@ -135,6 +242,13 @@ fn sums<'a>(matches: &ArgMatches<'a>) -> Option<SumsArguments<'a>> {
 
 fn parity<'a>(matches: &ArgMatches<'a>) -> Option<ImageArguments<'a>> {
     image(matches, ROPE, VERSION, FORM)
+}
+
+fn damages<'a>(matches: &ArgMatches<'a>) -> Option<DamagesArguments<'a>> {
+    Some(DamagesArguments {
+        image: image(matches, ROPE, VERSION, FORM)?,
+        is_source: matches.get_flag(AS_SOURCE),
+    })
 }
 
 /// A program with its feed.
@@ -155,12 +269,28 @@ fn image<'a>(
     version_option: &str,
     form_option: &str,
 ) -> Option<ImageArguments<'a>> {
+    let form = matches.get_str(form_option).map_or(0, form_named);
     Some(ImageArguments {
         path: matches.get_str(file)?,
         version: version(matches, version_option),
         is_parity_ignored: matches.get_str(IGNORED_PARITY).is_some(),
-        is_hardware: matches.get_str(form_option).is_some(),
+        is_hardware: form % 2 == 1,
+        layout: ImageLayout {
+            is_swapped: form / 2 % 2 == 1,
+            is_complemented: form / 4 % 2 == 1,
+            is_numbered: form / 8 % 2 == 1,
+        },
     })
+}
+
+/// The number of a form by its name; 0 where it has none.
+fn form_named(name: &str) -> usize {
+    for (number, form) in FORMS.iter().enumerate() {
+        if *form == name {
+            return number.saturating_add(1);
+        }
+    }
+    0
 }
 
 /// The version of an image that an option names.

@@ -3,10 +3,16 @@
 
 mod building;
 mod found;
-mod help;
 mod names;
+mod rope_help;
+mod rope_rows;
 mod row;
+mod rows;
+mod run_help;
+mod run_rows;
 mod said;
+mod source_help;
+mod source_rows;
 mod table;
 
 use arguments::Arguments;

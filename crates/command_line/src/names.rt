@@ -12,11 +12,38 @@ pub const TRACE: &str = "trace";
 /// The subcommand that profiles a run.
 pub const COVER: &str = "cover";
 
+/// The subcommand that shows what is reached.
+pub const REACH: &str = "reach";
+
+/// The feed of a run that is made beside it.
+pub const RUN_FEED: &str = "feed-of-run";
+
+/// How many steps that run makes.
+pub const RUN_STEPS: &str = "steps-of-run";
+
+/// The subcommand that counts the reads and writes of a run.
+pub const ACCESS: &str = "access";
+
+/// The subcommand that tells how long the interrupts of a run waited.
+pub const DELAYS: &str = "delays";
+
+/// The subcommand that tells where two runs part.
+pub const DIFFER: &str = "differ";
+
+/// The program and the feed of the other run.
+pub const WITH: &str = "with";
+
+/// The subcommand that tries inputs.
+pub const WHATIF: &str = "whatif";
+
 /// The subcommand that debugs a program.
 pub const DEBUG: &str = "debug";
 
 /// The subcommand that tells all faults of a source.
 pub const CHECK: &str = "check";
+
+/// The subcommand that judges runs by texts of tests.
+pub const EXPECT: &str = "expect";
 
 /// The subcommand that tells what a number of a refusal means.
 pub const EXPLAIN: &str = "explain";
@@ -30,17 +57,29 @@ pub const WORDS: &str = "words";
 /// The subcommand that compares two images.
 pub const COMPARE: &str = "compare";
 
+/// The subcommand that aligns two images.
+pub const ALIGN: &str = "align";
+
+/// The subcommand that finds a passage of a source in an image.
+pub const FIND: &str = "find";
+
 /// The subcommand that sums the banks of an image.
 pub const SUMS: &str = "sums";
 
 /// The subcommand that tells which words of an image have a wrong parity.
 pub const PARITY: &str = "parity";
 
+/// The subcommand that tells what is damaged in an image.
+pub const DAMAGES: &str = "damages";
+
 /// The source.
 pub const SOURCE: &str = "SRC";
 
 /// The feed.
 pub const FEED: &str = "FEED";
+
+/// The texts of tests.
+pub const FILES: &str = "FILES";
 
 /// The feeds of a check.
 pub const FEEDS: &str = "FEEDS";
@@ -57,8 +96,17 @@ pub const OLD: &str = "OLD";
 /// The second of two images.
 pub const NEW: &str = "NEW";
 
+/// The source of a passage.
+pub const PASSAGE: &str = "PASSAGE";
+
 /// The bank that is shown.
 pub const BANK: &str = "BANK";
+
+/// The inputs that are tried.
+pub const TRIALS: &str = "TRIALS";
+
+/// The cell whose reads and writes are told.
+pub const PLACE: &str = "PLACE";
 
 /// The number of a refusal.
 pub const NUMBER: &str = "NUMBER";
@@ -102,6 +150,9 @@ pub const SYMBOLS: &str = "SYMBOLS";
 /// That an image gets check words.
 pub const WITH_SUMS: &str = "WITH_SUMS";
 
+/// That it is told what lines do with each name.
+pub const WITH_XREF: &str = "WITH_XREF";
+
 /// That it is told how a run has ended.
 pub const END: &str = "END";
 
@@ -111,11 +162,26 @@ pub const PROGRESS: &str = "PROGRESS";
 /// That notes of a run are told.
 pub const NOTES: &str = "NOTES";
 
+/// The option that tells verdicts as TAP.
+pub const TAP: &str = "TAP";
+
+/// The option that tells verdicts as JUnit does.
+pub const JUNIT: &str = "JUNIT";
+
+/// The option that tells rows as JSON.
+pub const JSON: &str = "JSON";
+
 /// The first step of which a line is written.
 pub const FROM: &str = "FROM";
 
 /// The last step of which a line is written.
 pub const TO: &str = "TO";
+
+/// That it is shown what each step has read.
+pub const READS: &str = "READS";
+
+/// That it is said what each step did.
+pub const SAY: &str = "SAY";
 
 /// That a session has more commands, and refusals in words.
 pub const EXTENDED: &str = "EXTENDED";
@@ -126,6 +192,9 @@ pub const UNUSED: &str = "UNUSED";
 /// That the words of an image are shown as a source that gives them.
 pub const AS_SOURCE: &str = "AS_SOURCE";
 
+/// That the words of an image are shown as a text of octal words.
+pub const AS_OCTAL: &str = "AS_OCTAL";
+
 /// That it is told where an image is refused.
 pub const WHERE: &str = "WHERE";
 
@@ -134,6 +203,25 @@ pub const ONLY: &str = "ONLY";
 
 /// That the sums of an image are told in both orders of the bits.
 pub const BOTH_FORMS: &str = "BOTH_FORMS";
+
+/// How an image may stand: the first names 1, and each that follows one more; 1 is hardware, 2 swapped, 4 complemented, 8 numbered.
+pub const FORMS: &[&str] = &[
+    "hardware",
+    "swapped",
+    "hardware,swapped",
+    "complemented",
+    "hardware,complemented",
+    "swapped,complemented",
+    "hardware,swapped,complemented",
+    "numbered",
+    "hardware,numbered",
+    "swapped,numbered",
+    "hardware,swapped,numbered",
+    "complemented,numbered",
+    "hardware,complemented,numbered",
+    "swapped,complemented,numbered",
+    "hardware,swapped,complemented,numbered",
+];
 
 /// How many banks there are.
 pub const BANK_COUNT: usize = 36;

@@ -48,6 +48,10 @@ pub enum Value {
     Text,
     /// Any number of texts.
     Texts,
+    /// Two texts.
+    TwoTexts,
+    /// One text or more.
+    SomeTexts,
     /// One of these names.
     OneOf(&'static [&'static str]),
     /// One of these names, which help does not list.

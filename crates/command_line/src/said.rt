@@ -1,7 +1,7 @@
 //! What is said where the words of a call ask for help, or are wrong.
 
 use crate::Parsed;
-use crate::names::{COVER, DEBUG, RUN, TRACE};
+use crate::names::{ACCESS, COVER, DEBUG, RUN, TRACE};
 use clap::Error;
 use clap::error::ErrorKind;
 use std::alloc::{AllocError, Global};
@@ -18,6 +18,9 @@ const NO_FEED: &str =
 const NO_FEED_OF_SESSION: &str =
     "\nFEED is missing: where a program takes no inputs, it is /dev/null.\n";
 
+/// What is said of a program to begin with, which a view writes.
+const NO_NEW: &str = "\nviews/new NAME writes a program to begin with, and its tests.\n";
+
 /// What is said in place of doing something.
 pub fn said<'a>(alloc: Global, words: &[String], error: &Error) -> Result<Parsed<'a>, AllocError> {
     let kind = error.kind();
@@ -30,6 +33,7 @@ pub fn said<'a>(alloc: Global, words: &[String], error: &Error) -> Result<Parsed
         ErrorKind::UnknownArgument | ErrorKind::InvalidValue => {
             Parsed::Wrong(without_tip(alloc, text)?)
         }
+        ErrorKind::InvalidSubcommand => Parsed::Wrong(with_view(text, words)?),
         ErrorKind::MissingRequiredArgument => Parsed::Wrong(with_missing(text, words)?),
         _ => Parsed::Wrong(text),
     })
@@ -62,6 +66,14 @@ fn with_missing(mut text: String, words: &[String]) -> Result<String, AllocError
     Ok(text)
 }
 
+/// What is said of a subcommand that is none: more than `clap` says, where a view does it.
+fn with_view(mut text: String, words: &[String]) -> Result<String, AllocError> {
+    if words.get(1).is_some_and(|name| name.as_str() == "new") {
+        text.push_str(NO_NEW)?;
+    }
+    Ok(text)
+}
+
 /// What is said where arguments that lack some lack the feed: those of a session always do, and those of `agcws run`, of
 /// `agcws trace` and of `agcws cover` where they end with a number.
 fn said_of_feed(words: &[String]) -> &'static str {
@@ -72,7 +84,7 @@ fn said_of_feed(words: &[String]) -> &'static str {
     let is_number = last.as_str().parse::<u64>().is_ok();
     if name == DEBUG {
         NO_FEED_OF_SESSION
-    } else if is_number && (name == RUN || name == TRACE || name == COVER) {
+    } else if is_number && (name == RUN || name == TRACE || name == COVER || name == ACCESS) {
         NO_FEED
     } else {
         ""

@@ -4,8 +4,8 @@ use Rattle.std.specs.Prelude.{codes, replicate}
 use Rattle.agc_text.specs.Fields.{runs}
 use Rattle.feed.specs.Names.{counters, sequences}
 use Rattle.feed.specs.Statements.{parsed}
-use Rattle.feed.specs.declared.input.Counter.TheVariants.{Time1}
-use Rattle.feed.specs.declared.input.Input.TheVariants.{Count}
+use Rattle.feed.specs.declared.input.Counter.TheVariants.{Time1, Time3}
+use Rattle.feed.specs.declared.input.Input.TheVariants.{Count, Interrupt, Word}
 use Rattle.feed.specs.declared.input.Sequence.TheVariants.{Pinc}
 use Rattle.space.specs.declared.place.Linear.TheVariants.{Erasable, Fixed}
 use Rattle.symbols.specs.declared.values.Value.TheVariants as value
@@ -21,7 +21,7 @@ use Rattle.commands.specs.declared.command.Command.TheVariants.{Registers, Memor
 use Rattle.commands.specs.declared.command.ParsedLine.TheVariants.{Nothing, TooLong, WrongCounter}
 use Rattle.commands.specs.declared.extended.ExtendedLine.{ExtendedLine}
 use Rattle.commands.specs.declared.extended.IndexLines.TheVariants.{Omitted, Told}
-use Rattle.commands.specs.declared.extended.ExtendedLine.TheVariants.{Plain, Common, Says, Help, Breaks, ClearOne, On, AllRegisters, Until, WhyStep, Why, Words, Where, Find, Trace, Inputs, Over, Out, Listed, Values, Channels, Differs, WhySince, TailSteps}
+use Rattle.commands.specs.declared.extended.ExtendedLine.TheVariants.{Plain, Common, Says, Help, Breaks, ClearOne, On, AllRegisters, Until, WhyStep, Why, Words, Where, Find, Trace, Inputs, Over, Out, Listed, Values, Channels, Differs, WhySince, TailSteps, Survey, Say, WhatIf, Calls}
 use Rattle.commands.specs.declared.extended.LinkLines.{LinkLines}
 
 -- a place in fixed memory, and a number that is no place
@@ -225,6 +225,12 @@ last_steps : asked (codes "trace 5" ∷ codes "trace" ∷ codes "trace x" ∷ co
 unfolding extended_line extended_forms usages forms runs parsed counters sequences registers window
 last_steps = refl
 
+-- and in sentences
+said_steps : asked (codes "say 5" ∷ codes "say" ∷ codes "say x" ∷ codes "say 5 6" ∷ [])
+    ≡ Say 5 ∷ map (λ text. Says (codes "E50 COMMAND " ++ text)) (codes "say takes a number of steps\n" ∷ codes "say takes a number of steps\n" ∷ codes "say takes a number of steps\n" ∷ [])
+unfolding extended_line extended_forms usages forms runs parsed counters sequences registers window
+said_steps = refl
+
 -- the last outputs, with their steps
 outputs_with_steps : asked (codes "tail" ∷ codes "tail steps" ∷ codes "tail 5 steps" ∷ codes "tail 999 steps # all" ∷ codes "tail 0 steps" ∷ [])
     ≡ Common Tail ∷ TailSteps 32 ∷ TailSteps 5 ∷ TailSteps 999 ∷ TailSteps 0 ∷ []
@@ -346,3 +352,41 @@ states : asked (codes "chans" ∷ codes "differs 5" ∷ codes "differs 123456789
     ∷ []
 unfolding extended_line extended_forms usages forms runs parsed counters sequences registers window
 states = refl
+
+-- what is tried: an input as a line of a feed has it after its cycle, and how many steps
+trials : asked (codes "whatif TIME3 PINC" ∷ codes "whatif RUPT 4 20 # soon" ∷ codes "whatif CHAN 15 21" ∷ codes "whatif CHAN 015 00021 1099511627776" ∷ codes "whatif TIME3 MINC" ∷ codes "help whatif" ∷ [])
+    ≡ WhatIf (Count Time3 Pinc) 1000
+    ∷ WhatIf (Interrupt 4) 20
+    ∷ WhatIf (Word 0o15 0o21) 1000
+    ∷ WhatIf (Word 0o15 0o21) 1099511627776
+    ∷ Plain WrongCounter
+    ∷ Says (codes "HELP whatif takes an input as in a feed, or one and a count: so many steps with it, beside those without it\n") ∷ []
+unfolding extended_line extended_forms usages forms runs parsed counters sequences registers window
+trials = refl
+
+-- no input, one that no feed has, none on a channel that takes none, no count, and too many fields
+not_tried : asked (codes "whatif" ∷ codes "whatif RUPT" ∷ codes "whatif RUPT 11" ∷ codes "whatif 5 RUPT 4" ∷ codes "whatif CHAN 15" ∷ codes "whatif CHAN 1 21" ∷ codes "whatif RUPT 4 x" ∷ codes "whatif TIME3 PINC 5 6" ∷ codes "whatif CHAN 15 21 5 6" ∷ codes "whatif CHAN 15 21 1234567890123456" ∷ [])
+    ≡ replicate 10 (Says (codes "E50 COMMAND whatif takes an input as in a feed, or one and a count\n"))
+unfolding extended_line extended_forms usages forms runs parsed counters sequences registers window
+not_tried = refl
+
+-- what is surveyed: two steps, a number of buckets, and erasable places and channels
+surveys : asked (codes "survey 1 60 6" ∷ codes "survey 3 3 4096 SUM +1 CH013 A Q # four" ∷ codes "survey 1 9 1 A A A A A A A A" ∷ codes "help survey" ∷ [])
+    ≡ Survey (record { first = 1; last = 60; buckets = 6; subjects = [] })
+    ∷ Survey (record { first = 3; last = 3; buckets = 4096; subjects = subject.Place 0o102 ∷ subject.Channel 0o13 ∷ subject.Place 0 ∷ subject.Place 0o102 ∷ [] })
+    ∷ Survey (record { first = 1; last = 9; buckets = 1; subjects = replicate 8 (subject.Place 0) })
+    ∷ Says (codes "HELP survey takes FROM TO, 1 to 4096 buckets, at most 8 places: what happened in steps FROM to TO, by buckets\n") ∷ []
+unfolding extended_line extended_forms usages forms runs parsed counters sequences registers window
+surveys = refl
+
+-- no step before the first, none from a later one to an earlier, no bucket or too many, nine places, a place of fixed memory, and a symbol's name for a channel
+not_surveyed : asked (codes "survey" ∷ codes "survey 1 60" ∷ codes "survey 0 60 6" ∷ codes "survey 7 6 1" ∷ codes "survey 1 60 0" ∷ codes "survey 1 60 4097" ∷ codes "survey 1 x 6" ∷ codes "survey 1 9 1 A A A A A A A A A" ∷ codes "survey 1 60 6 FIVE" ∷ codes "survey 1 60 6 CH12" ∷ [])
+    ≡ replicate 10 (Says (codes "E50 COMMAND survey takes FROM TO, 1 to 4096 buckets, at most 8 places\n"))
+unfolding extended_line extended_forms usages forms runs parsed counters sequences registers window
+not_surveyed = refl
+
+-- the calls in progress, of which nothing is asked besides
+in_progress : asked (codes "calls" ∷ codes "calls # now" ∷ codes "calls 3" ∷ codes "help calls" ∷ [])
+    ≡ Calls ∷ Calls ∷ Says (codes "E50 COMMAND calls takes nothing\n") ∷ Says (codes "HELP calls takes nothing: the calls that are in progress, innermost first\n") ∷ []
+unfolding extended_line extended_forms usages forms runs parsed counters sequences registers window
+in_progress = refl

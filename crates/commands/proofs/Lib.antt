@@ -2,4 +2,5 @@ mod LineSteps
 mod ParsedLaws
 mod Rows
 mod ExtendedLaws
+pub mod SubjectLists
 mod ExtendedRows

@@ -11,6 +11,8 @@ use Rattle.commands.specs.Lines.{command_length}
 use Rattle.commands.specs.NamedPlaces.{place_first, after_place}
 use Rattle.commands.specs.Subjects.{channel_named, erasable_first, place_subject, channel_subject}
 use Rattle.commands.specs.Refusals.{refusal_line}
+use Rattle.commands.specs.Surveys.{survey_in}
+use Rattle.commands.specs.WhatIfs.{whatif_form}
 use Rattle.commands.specs.Usages.{usages, help_line}
 use Rattle.commands.specs.declared.subject.Subject.{Subject}
 use Rattle.commands.specs.declared.command.Breakpoint.{Breakpoint}
@@ -22,7 +24,7 @@ use Rattle.commands.specs.declared.extended.IndexLines.{IndexLines}
 use Rattle.commands.specs.declared.extended.IndexLines.TheVariants.{Omitted, Told}
 use Rattle.commands.specs.declared.extended.LinkLines.{LinkLines}
 use Rattle.commands.specs.declared.extended.ExtendedLine.{ExtendedLine}
-use Rattle.commands.specs.declared.extended.ExtendedLine.TheVariants.{Plain, Common, Says, Help, Breaks, ClearOne, On, AllRegisters, Until, WhyStep, Why, Words, Where, Find, Trace, Inputs, Over, Out, Listed, Values, Channels, Differs, WhySince, TailSteps}
+use Rattle.commands.specs.declared.extended.ExtendedLine.TheVariants.{Plain, Common, Says, Help, Breaks, ClearOne, On, AllRegisters, Until, WhyStep, Why, Words, Where, Find, Trace, Inputs, Over, Out, Listed, Values, Channels, Differs, WhySince, TailSteps, Survey, Say, Calls}
 
 -- the most steps that a command can name
 abbrev pub most_count : ℕ
@@ -262,6 +264,10 @@ extended_forms symbols =
     ∷ (codes "value", with_counted_place symbols 1 (λ place k. Values place k))
     ∷ (codes "chans", with_none Channels)
     ∷ (codes "differs", with_field count_in (λ t. Differs t))
+    ∷ (codes "survey", λ fields. option_map (λ surveyed. Survey surveyed) (survey_in symbols fields))
+    ∷ (codes "say", with_field count_in (λ k. Say k))
+    ∷ (codes "whatif", whatif_form)
+    ∷ (codes "calls", with_none Calls)
     ∷ []
 
 -- what any session is asked for, with words for what is no command

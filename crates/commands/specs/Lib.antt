@@ -4,4 +4,6 @@ pub mod NamedPlaces
 pub mod Subjects
 pub mod Usages
 pub mod Refusals
+pub mod Surveys
+pub mod WhatIfs
 pub mod Extended

@@ -18,9 +18,11 @@ use crate::phrase::Phrase;
 use crate::places::erasable_number;
 use crate::refusal::refusal_line;
 use crate::subject::{Subject, channel_named, channel_subject, erasable_first, place_subject};
+use crate::survey::{Surveyed, survey_in};
 use crate::usage::help_of;
+use crate::whatif::whatif_form;
 use agc_text::{before_comment, next_field, split_field};
-use feed::word_in;
+use feed::{Input, word_in};
 use space::Chan;
 use space::place::Linear;
 use symbols::Symbols;
@@ -107,6 +109,14 @@ pub enum ExtendedLine {
     Channels,
     /// The words that are other ones than after a step.
     Differs(u64),
+    /// What happened in some steps, bucket by bucket.
+    Survey(Surveyed),
+    /// `say K`: what each of the last so many steps did, in sentences.
+    Say(u64),
+    /// What an input would change in so many steps, that came at the position.
+    WhatIf(Input, u64),
+    /// The calls of routines that are in progress.
+    Calls,
 }
 
 /// What a line of an extended session asks for, where the symbols of a program stand.
@@ -245,6 +255,14 @@ fn state_command_in(symbols: &Symbols, name: &[u8], rest: &[u8]) -> Option<Exten
         with_none(ExtendedLine::Channels, rest)
     } else if is_word(name, "differs") {
         count_alone(rest).map(ExtendedLine::Differs)
+    } else if is_word(name, "survey") {
+        survey_in(symbols, rest).map(ExtendedLine::Survey)
+    } else if is_word(name, "say") {
+        count_alone(rest).map(ExtendedLine::Say)
+    } else if is_word(name, "whatif") {
+        whatif_form(rest)
+    } else if is_word(name, "calls") {
+        with_none(ExtendedLine::Calls, rest)
     } else {
         None
     }

@@ -58,8 +58,8 @@ pub(crate) fn after_place(rest: &[u8]) -> &[u8]
     }
 }
 
-// A place.
-pub(crate) fn named_place(symbols: &Symbols, field: &[u8]) -> Option<Linear>
+/// A place as any session takes it; where no symbol has the name, by a register's or a counter's, or as a listing has it.
+pub fn named_place(symbols: &Symbols, field: &[u8]) -> Option<Linear>
     ensures { result ≡ named_place symbols.now field.now }
 {
     if let Some(place) = place_in(symbols, field) {

@@ -16,7 +16,7 @@ use words::push_all;
 type Row = (&'static str, &'static str, &'static str);
 
 /// The rows of the help.
-const ROWS: [Row; 32] = [
+const ROWS: [Row; 36] = [
     (
         "step",
         "a number of steps",
@@ -89,9 +89,19 @@ const ROWS: [Row; 32] = [
         "the last so many steps, a line each",
     ),
     (
+        "say",
+        "a number of steps",
+        "the last so many steps, each in a sentence",
+    ),
+    (
         "where",
         "nothing",
         "the next instruction's place, and the interrupt",
+    ),
+    (
+        "calls",
+        "nothing",
+        "the calls that are in progress, innermost first",
     ),
     (
         "list",
@@ -118,6 +128,16 @@ const ROWS: [Row; 32] = [
         "differs",
         "a step",
         "the words that differ from those at the step",
+    ),
+    (
+        "survey",
+        "FROM TO, 1 to 4096 buckets, at most 8 places",
+        "what happened in steps FROM to TO, by buckets",
+    ),
+    (
+        "whatif",
+        "an input as in a feed, or one and a count",
+        "so many steps with it, beside those without it",
     ),
     (
         "tail",

@@ -1,8 +1,9 @@
-//! A run's profile as text: how often each word was executed, and the cycles that this took.
+//! A run's profile as text or JSON: how often each word was executed, and the cycles that this took.
 #![tactic(auto)]
 
 mod columns;
 mod image;
+mod objects;
 mod rest;
 mod shown;
 mod source;

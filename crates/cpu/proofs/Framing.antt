@@ -1,7 +1,6 @@
 -- An instruction leaves what is not of its row, and inputs and entries what is not theirs.
 use Rattle.std.proofs.Common.{◌≡◌, ◌≢◌, ℕ, ◌+◌, ◌*◌, Bool, true, false, cond, not, ◌==◌, ◌&&◌, List, [], ◌∷◌, ◌++◌, Option, None, refl, ap, ◌∙◌, sym, subst}
 use Rattle.std.specs.Prelude.{nat_le, is_some}
-use Rattle.std.specs.FinSet as set
 use Rattle.std.specs.List.{flat_map}
 use Rattle.words.specs.declared.wide.Overflow.{Overflow}
 use Rattle.rope.specs.Places.{Words}

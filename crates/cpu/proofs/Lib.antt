@@ -1,5 +1,6 @@
 pub mod RunLaws
 pub mod TakenLaws
+pub mod SilentLaws
 pub mod LateInputs
 mod Rows
 mod ChangeLaws
@@ -30,3 +31,5 @@ pub mod Framing
 pub mod Chaining
 pub mod CellSets
 pub mod Profiling
+mod ReadRows
+mod Bursts

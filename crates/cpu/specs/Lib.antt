@@ -7,12 +7,15 @@ pub mod Inputs
 pub mod Next
 pub mod Texts
 pub mod Run
+pub mod Silent
+pub mod Bursts
 pub mod Additions
 pub mod Laws
 pub mod Interrupts
 pub mod Frames
 pub mod ByValue
 pub mod Links
+pub mod Reads
 pub mod Trails
 pub mod NextStep
 pub mod Dependence

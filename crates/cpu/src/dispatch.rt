@@ -2,6 +2,7 @@
 
 ghost use Rattle.std.specs.Prelude.{◌≡◌, ◌<◌, ◌/◌, ◌^◌, true, false, get_or};
 ghost use Rattle.cpu.specs.Codes.{code_of, operand_of, is_apart};
+ghost use Rattle.cpu.specs.Bursts.{is_sure};
 ghost use Rattle.cpu.specs.declared.instruction.Instruction.{Instruction};
 
 use crate::instruction::Instruction;
@@ -64,15 +65,17 @@ fn basic(word: u16) -> Instruction
     }
 }
 
-/// What the table says of a word where extracode is not in force.
+/// What the table says of a word where extracode is not in force: what it is, but for words of TC and of INDEX.
 #[inline(always)]
-fn basic_entry(word: u16) -> Instruction
+pub(crate) fn basic_entry(word: u16) -> Instruction
     requires { word < 2 ^ 15 }
     ensures entry { is_apart word ≡ false → result ≡ (code_of false word).instruction }
     ensures relint { word ≡ 0o3 → result ≡ Instruction.Tc }
     ensures inhint { word ≡ 0o4 → result ≡ Instruction.Tc }
     ensures extend { word ≡ 0o6 → result ≡ Instruction.Tc }
     ensures resume { word ≡ 0o50017 → result ≡ Instruction.Index }
+    ensures sure { is_sure result ≡ true → result ≡ (code_of false word).instruction }
+    ensures operand { is_sure result ≡ true → operand_of result word ≡ (code_of false word).operand }
 {
     entry(&BASIC, word)
 }

@@ -25,7 +25,7 @@ impl Machine {
     /// The word at Z.
     #[inline(always)]
     #[tactic(auto, unfolding(crate::specs::Effects::place_in, crate::specs::Effects::value_at))]
-    fn word_at_z(&self, rope: &Rope) -> Word
+    pub(crate) fn word_at_z(&self, rope: &Rope) -> Word
         ensures { result ≡ word_at_z rope.now self.now }
     {
         let address = self.next_address();
@@ -61,7 +61,7 @@ impl Machine {
     }
 
     /// The address after Z.
-    fn following_address(&self) -> Wide
+    pub(crate) fn following_address(&self) -> Wide
         ensures { result ≡ following_address self.now }
     {
         Wide::of_u16((self.next_address().number() + 1) % 0o10000)
@@ -128,7 +128,7 @@ impl Machine {
     /// The effect of an instruction, with its operand in a word.
     #[inline(always)]
     #[tactic(auto, unfolding(crate::specs::Effects::after))]
-    fn perform(&mut self, rope: &Rope, instruction: Instruction, word: u16)
+    pub(crate) fn perform(&mut self, rope: &Rope, instruction: Instruction, word: u16)
         ensures { self.new ≡ after rope.now self.old instruction (operand_of instruction word) }
     {
         let short = Addr10::of_word(word);
@@ -178,7 +178,7 @@ impl Machine {
 
     /// The cycles that an instruction of a role takes, which takes so many where it does not jump.
     #[inline(always)]
-    fn cycles_by(&self, role: Role, cycles: u8) -> u8
+    pub(crate) fn cycles_by(&self, role: Role, cycles: u8) -> u8
         ensures { result ≡ (if jumps_by self.now role then jump_cycles else cycles) }
     {
         if self.jumps(role) {

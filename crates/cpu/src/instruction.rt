@@ -6,7 +6,7 @@ ghost use Rattle.cpu.specs.Texts.{operand_width};
 
 /// An instruction.
 #[derive(Clone, Copy)]
-pub(crate) enum Instruction {
+pub enum Instruction {
     /// Interrupts are no longer inhibited.
     Relint,
     /// Interrupts are inhibited.

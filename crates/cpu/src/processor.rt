@@ -1,14 +1,16 @@
 //! The processor: fixed memory, the inputs, and the count of steps.
 
-ghost use Rattle.std.specs.Prelude.{◌≡◌, ◌≢◌, true, false, ◌+◌, ◌-◌, ◌<◌, ◌≤◌, ◌^◌, min, ℕ, Some, None, Err, OnOk, OnErr, filter, map};
-ghost use Rattle.feed.specs.Added.{TakenBelow};
+ghost use Rattle.std.specs.Prelude.{◌≡◌, ◌≢◌, true, false, ◌+◌, ◌-◌, ◌<◌, ◌≤◌, ◌^◌, min, ℕ, Some, None, Err, IfOk, IfSome, OnOk, OnErr, filter, map};
+ghost use Rattle.feed.specs.Added.{AddsLast, TakenBelow};
 ghost use Rattle.feed.specs.CountsTaken.{is_from};
 ghost use Rattle.feed.specs.Merged.{due, plain_entry};
 ghost use Rattle.cpu.specs.State.{State, FitsRun};
 ghost use Rattle.cpu.specs.Additions.{AddsInput, AreAlikeUpTo, plain_inputs, most_plain_inputs};
-ghost use Rattle.cpu.specs.Run.{run};
+ghost use Rattle.cpu.specs.Run.{out, run};
+ghost use Rattle.cpu.specs.Silent.{IsSilent};
 ghost use Rattle.cpu.specs.declared.spot.Spot.{Spot};
 ghost use Rattle.cpu.specs.Links.{link, sources, targets, writes};
+ghost use Rattle.cpu.specs.Reads.{reads};
 ghost use Rattle.cpu.specs.Chains.{writes_some};
 ghost use Rattle.cpu.specs.NextStep.{next_step};
 ghost use Rattle.cpu.specs.Profiles.{account_of};
@@ -19,17 +21,22 @@ use crate::cell_set::CellSet;
 use crate::machine::Machine;
 use crate::next_step::{Fetched, NextStep};
 use crate::output::Output;
+use crate::reads::Reads;
 use crate::spot::{Cell, Spot, is_among};
 use crate::targets::Targets;
 use crate::trail::Trail;
 use arrayvec::ArrayVec;
 use feed::{AddFault, Feed, Input, Plain};
 use rope::Rope;
+use std::alloc::Global;
 use std::marker::Model;
 use words::Word;
 
 /// A machine with more cycles than this takes no input and enters no interrupt.
 const MOST_CYCLES: u64 = 1 << 62;
+
+/// No step takes more cycles than this.
+const MOST_STEP_CYCLES: u64 = 8;
 
 /// Fixed memory, the inputs, and a meter of the steps that were made.
 #[derive(Drop)]
@@ -68,7 +75,6 @@ impl Processor {
     /// more than 2^62 cycles, to which no run of fewer than 2^59 steps from the start leads, nor of one that does not fit what
     /// runs, as one from another processor.
     #[inline(always)]
-    #[tactic(auto, unfolding(crate::specs::Next::next))]
     pub fn step(&mut self, machine: &mut Machine) -> Option<Output>
         ensures meter { self.new ≡ record self.old { meter = min (self.old.meter + 1) (2 ^ 128 - 1) } }
         ensures growing { self.old.meter < 2 ^ 128 → self.old.meter ≤ self.new.meter }
@@ -76,7 +82,19 @@ impl Processor {
             (machine.new, result) ≡ next self.old.scenario machine.old }
         ensures fits { machine.old.cycles ≤ most_cycles → FitsRun self.old.scenario machine.old → FitsRun self.old.scenario machine.new }
     {
-        self.meter = self.meter.saturating_add(1);
+        self.count(1);
+        self.step_uncounted(machine)
+    }
+
+    /// Makes one step as `step` does, which the meter does not count.
+    #[inline(always)]
+    #[tactic(auto, unfolding(crate::specs::Next::next))]
+    fn step_uncounted(&mut self, machine: &mut Machine) -> Option<Output>
+        ensures same { self.new ≡ self.old }
+        ensures step { machine.old.cycles ≤ most_cycles → FitsRun self.old.scenario machine.old →
+            (machine.new, result) ≡ next self.old.scenario machine.old }
+        ensures fits { machine.old.cycles ≤ most_cycles → FitsRun self.old.scenario machine.old → FitsRun self.old.scenario machine.new }
+    {
         if self.take_input(machine) {
             return None;
         }
@@ -88,6 +106,139 @@ impl Processor {
             return None;
         }
         machine.execute(&self.rope)
+    }
+
+    /// Makes the steps of a run behind step `done`, up to step `stop` or to the first that puts something out: many at once, each as
+    /// `step` makes it. Answers how many the run has made then, and what the last one has put out. The meter counts each, but stays at
+    /// its greatest value.
+    pub fn run_on(&mut self, machine: &mut Machine, done: u64, stop: u64) -> (u64, Option<Output>)
+        requires order { done < stop }
+        requires few { stop ≤ 2 ^ 40 }
+        requires stands { machine.old ≡ run self.old.scenario done }
+        ensures past { done < result.0 }
+        ensures within { result.0 ≤ stop }
+        ensures all { result.1 ≡ None → result.0 ≡ stop }
+        ensures meter { self.new ≡ record self.old { meter = min (self.old.meter + (result.0 - done)) (2 ^ 128 - 1) } }
+        ensures state { machine.new ≡ run self.old.scenario result.0 }
+        ensures silent { IsSilent self.old.scenario done (result.0 - 1) }
+        ensures put { result.1 ≡ out self.old.scenario result.0 }
+    {
+        let mut at = done;
+        while at < stop {
+            let silent = self.feed.none_due_before(machine.taken());
+            let (to, put) = self.run_silent(machine, at, stop, silent);
+            if let Some(output) = put {
+                self.count(to - done);
+                return (to, Some(output));
+            }
+            at = to;
+            if at < stop {
+                at += 1;
+                if let Some(output) = self.step_uncounted(machine) {
+                    self.count(at - done);
+                    return (at, Some(output));
+                }
+            }
+        }
+        self.count(at - done);
+        (at, None)
+    }
+
+    /// Counts some steps.
+    #[inline(always)]
+    fn count(&mut self, steps: u64)
+        ensures { self.new ≡ record self.old { meter = min (self.old.meter + steps) (2 ^ 128 - 1) } }
+    {
+        self.meter = self.meter.saturating_add(u128::from(steps));
+    }
+
+    /// Makes the steps of a run behind step `done`, up to step `stop`, or to the first that puts something out, or to where the cycles
+    /// reach `silent`, before which no input is due. Answers as `run_on` does.
+    #[inline(always)]
+    fn run_silent(
+        &self,
+        machine: &mut Machine,
+        done: u64,
+        stop: u64,
+        silent: u64,
+    ) -> (u64, Option<Output>)
+        requires order { done ≤ stop }
+        requires few { stop ≤ 2 ^ 40 }
+        requires stands { machine.old ≡ run self.now.scenario done }
+        requires silent { (cycles : ℕ) → cycles < silent → due self.now.scenario.inputs machine.old.taken cycles ≡ None }
+        ensures past { done ≤ result.0 }
+        ensures within { result.0 ≤ stop }
+        ensures state { machine.new ≡ run self.now.scenario result.0 }
+        ensures none { result.1 ≡ None → IsSilent self.now.scenario done result.0 }
+        ensures put { IfSome result.1 (λ o. (done < result.0) × (IsSilent self.now.scenario done (result.0 - 1)) × (Some o ≡ out self.now.scenario result.0)) }
+    {
+        let mut at = done;
+        while at < stop && machine.cycles() < silent {
+            at += 1;
+            if let Some(output) = self.step_silent(machine) {
+                return (at, Some(output));
+            }
+            at = self.run_plain(machine, at, stop, silent);
+        }
+        (at, None)
+    }
+
+    /// Makes the steps of a run behind step `done`, up to step `stop`, or to where an input may be due, as long as each executes a plain
+    /// instruction. Answers how many the run has made then.
+    #[inline(always)]
+    fn run_plain(&self, machine: &mut Machine, done: u64, stop: u64, silent: u64) -> u64
+        requires order { done ≤ stop }
+        requires few { stop ≤ 2 ^ 40 }
+        requires stands { machine.old ≡ run self.now.scenario done }
+        requires silent { (cycles : ℕ) → cycles < silent → due self.now.scenario.inputs machine.old.taken cycles ≡ None }
+        ensures past { done ≤ result }
+        ensures within { result ≤ stop }
+        ensures state { machine.new ≡ run self.now.scenario result }
+        ensures taken { machine.new.taken ≡ machine.old.taken }
+        ensures none { IsSilent self.now.scenario done result }
+    {
+        let mut at = done;
+        if !machine.is_still() || machine.extra() {
+            return at;
+        }
+        let rope = self.rope();
+        let room = silent.saturating_sub(machine.cycles()) / MOST_STEP_CYCLES;
+        let end = done + room.min(stop - done);
+        while at < end {
+            match machine.execute_basic(rope) {
+                None => return at,
+                Some(extra) => {
+                    at += 1;
+                    if extra {
+                        if at == end {
+                            return at;
+                        }
+                        if !machine.execute_extracode(rope) {
+                            return at;
+                        }
+                        at += 1;
+                    }
+                }
+            }
+        }
+        at
+    }
+
+    /// Makes one step where no input is due.
+    #[inline(always)]
+    #[tactic(auto, unfolding(crate::specs::Next::next))]
+    fn step_silent(&self, machine: &mut Machine) -> Option<Output>
+        requires few { machine.old.cycles ≤ most_cycles }
+        requires none { due self.now.scenario.inputs machine.old.taken machine.old.cycles ≡ None }
+        ensures { (machine.new, result) ≡ next self.now.scenario machine.old }
+    {
+        match machine.entry() {
+            Some(request) => {
+                machine.enter(&self.rope, request);
+                None
+            }
+            None => machine.execute(&self.rope),
+        }
     }
 
     /// Takes the next input where it is due, and tells whether it was.
@@ -136,6 +287,30 @@ impl Processor {
         ensures full { result ≡ Err AddFault.TooMany → most_plain_inputs ≤ plain_inputs self.old.scenario }
     {
         self.feed.add(cycle, input)
+    }
+
+    /// What runs, once more, with a meter of its own.
+    pub fn copied(&self, alloc: Global) -> Result<Processor, AddFault>
+        ensures { IfOk result (λ copy. copy ≡ record { scenario = self.now.scenario; meter = 0 }) }
+    {
+        let Ok(rope) = self.rope.copied(alloc) else {
+            return Err(AddFault::NoMemory);
+        };
+        Ok(Processor::new(rope, self.feed.copied(alloc)?))
+    }
+
+    /// What runs, once more, with one input more at a cycle, after all inputs of that cycle. Below the cycle the inputs are the same.
+    pub fn with_input(&self, alloc: Global, cycle: u64, input: Input) -> Result<Processor, AddFault>
+        ensures rope { IfOk result (λ fork. fork.scenario.rope ≡ self.now.scenario.rope) }
+        ensures inputs { IfOk result (λ fork. AddsLast self.now.scenario.inputs cycle input fork.scenario.inputs) }
+        ensures later { IfOk result (λ fork. (k now : ℕ) → now < cycle → due fork.scenario.inputs k now ≡ due self.now.scenario.inputs k now) }
+        ensures meter { IfOk result (λ fork. fork.meter ≡ 0) }
+    {
+        let mut fork = self.copied(alloc)?;
+        match fork.feed.add(cycle, input) {
+            Ok(()) => Ok(fork),
+            Err(fault) => Err(fault),
+        }
     }
 
     /// The inputs that are from no series, in order.
@@ -210,6 +385,22 @@ impl Processor {
             targets.execute(machine, &self.rope);
         }
         targets.into_cells()
+    }
+
+    /// What the next step reads, in order; what is read twice stands twice.
+    #[tactic(auto, unfolding(crate::specs::Reads::reads, crate::specs::Links::link))]
+    pub fn reads(&self, machine: &Machine) -> ArrayVec<Spot, 8>
+        ensures { FitsRun self.now.scenario machine.now → result.items ≡ reads (link self.now.scenario machine.now) }
+    {
+        let mut reads = Reads::none();
+        if let Some((input, _)) = self.due(machine) {
+            reads.take(machine, input);
+        } else if machine.entry().is_some() {
+            reads.enter(machine);
+        } else {
+            reads.execute(machine, &self.rope);
+        }
+        reads.into_spots()
     }
 
     /// Whether the next step writes a cell.

@@ -9,7 +9,7 @@ use Rattle.agc_text.specs.Tables.{same_name, value_in}
 use Rattle.space.specs.declared.place.Linear.{Linear}
 use Rattle.symbols.specs.Values.{SymbolTable}
 use Rattle.feed.specs.Given.{CanBeGivenAt}
-use Rattle.feed.specs.Statements.{parsed, word_in}
+use Rattle.feed.specs.Statements.{long_input, parsed, short_input, word_in}
 use Rattle.feed.specs.declared.fault.LineFault.{LineFault}
 use Rattle.feed.specs.declared.fault.LineFault.TheVariants as fault
 use Rattle.feed.specs.declared.input.Input.{Input}
@@ -26,9 +26,12 @@ use Rattle.commands.specs.declared.command.Command.TheVariants.{Step, Run, Back,
 use Rattle.commands.specs.declared.command.ParsedLine.{ParsedLine}
 use Rattle.commands.specs.declared.command.ParsedLine.TheVariants.{Nothing, TooLong, Unknown, WrongCounter, Known}
 use Rattle.commands.specs.declared.subject.Subject.{Subject}
+use Rattle.commands.specs.declared.survey.Surveyed.{Surveyed}
+use Rattle.commands.specs.Surveys.{survey_in}
+use Rattle.commands.specs.WhatIfs.{tried_in, usual_steps, whatif_form}
 use Rattle.commands.specs.declared.extended.LinkLines.{LinkLines}
 use Rattle.commands.specs.declared.extended.ExtendedLine.{ExtendedLine}
-use Rattle.commands.specs.declared.extended.ExtendedLine.TheVariants.{Plain, Common, Says, Help, Breaks, ClearOne, On, AllRegisters, Until, WhyStep, Why, Words, Where, Find, Trace, Inputs, Over, Out, Listed, Values, Channels, Differs, WhySince, TailSteps}
+use Rattle.commands.specs.declared.extended.ExtendedLine.TheVariants.{Plain, Common, Says, Help, Breaks, ClearOne, On, AllRegisters, Until, WhyStep, Why, Words, Where, Find, Trace, Inputs, Over, Out, Listed, Values, Channels, Differs, WhySince, TailSteps, Survey, Say, WhatIf, Calls}
 
 -- what is asked for adds nothing, or an input that a line can give
 abbrev pub AddsGivable : Command → Type 0
@@ -238,6 +241,21 @@ break_adds symbols (kind ∷ fs) =
     (chosen AskedGivable (same_name kind (codes "exec")) _ _ (mapped AskedGivable (λ p. broken_at (breakpoint.Executed p)) (λ p. tt) (place_alone symbols fs))
     (chosen AskedGivable (same_name kind (codes "change")) _ _ (mapped AskedGivable (λ s. broken_at (breakpoint.Changed s)) (λ s. tt) (subject_alone symbols fs)) tt))))
 
+tried_adds : (input : Result Input LineFault) (steps : Option ℕ) → IfSome (tried_in input steps) AskedGivable
+tried_adds input None = tt
+tried_adds (Ok input) (Some steps) = tt
+tried_adds (Err fault.BadLine) (Some steps) = tt
+tried_adds (Err fault.WrongCounter) (Some steps) = tt
+
+whatif_adds : (fs : List (List ℕ)) → IfSome (whatif_form fs) AskedGivable
+whatif_adds [] = tt
+whatif_adds (name ∷ []) = tt
+whatif_adds (name ∷ first ∷ []) = tried_adds (short_input name first) (Some usual_steps)
+whatif_adds (name ∷ first ∷ second ∷ []) =
+    chosen AskedGivable (same_name name (codes "CHAN")) _ _ (tried_adds (long_input name first second) (Some usual_steps)) (tried_adds (short_input name first) (count_in second))
+whatif_adds (name ∷ first ∷ second ∷ steps ∷ []) = tried_adds (long_input name first second) (count_in steps)
+whatif_adds (name ∷ first ∷ second ∷ steps ∷ next ∷ more) = tt
+
 abbrev AskedAdds : ExtendedForm → Type 0
 AskedAdds form = (fs : List (List ℕ)) → IfSome (form fs) AskedGivable
 
@@ -285,7 +303,16 @@ asked_adds symbols name = All-lookup AskedAdds (same_name name) (extended_forms 
                                         with_none_adds Channels tt,
                                         (
                                           (λ fs. mapped AskedGivable (λ t. Differs t) (λ t. tt) (option_and_then count_in (sole fs))),
-                                          tt,
+                                          (
+                                            (λ fs. mapped AskedGivable (λ (asked : Surveyed). Survey asked) (λ asked. tt) (survey_in symbols fs)),
+                                            (
+                                              (λ fs. mapped AskedGivable (λ k. Say k) (λ k. tt) (option_and_then count_in (sole fs))),
+                                              (
+                                                whatif_adds,
+                                                (with_none_adds Calls tt, tt),
+                                              ),
+                                            ),
+                                          ),
                                         ),
                                       ),
                                     ),

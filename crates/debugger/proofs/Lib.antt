@@ -13,6 +13,8 @@ pub mod PartByPart
 pub mod Standings
 pub mod Based
 pub mod Filtered
+pub mod Surveyed
+pub mod SurveyLines
 pub mod WholeReplies
 pub mod InputsAdded
 pub mod LineByLine
@@ -28,6 +30,7 @@ mod ClockRows
 mod ExtendedRows
 mod WhyRows
 mod TailRows
+mod SurveyRows
 pub mod RequestNumbers
 pub mod FirstHit
 mod Retraced
@@ -44,4 +47,6 @@ pub mod OutputsOnce
 pub mod Serving
 pub mod WhyEnds
 pub mod Calling
+pub mod LastFirst
 pub mod ValueTold
+mod TriedReplies

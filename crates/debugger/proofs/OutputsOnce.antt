@@ -28,7 +28,7 @@ use Rattle.commands.specs.declared.command.Command.TheVariants.{Step, Run, Back,
 use Rattle.commands.specs.declared.command.ParsedLine.{ParsedLine}
 use Rattle.commands.specs.declared.command.ParsedLine.TheVariants.{Nothing, TooLong, Unknown, WrongCounter, Known}
 use Rattle.commands.specs.declared.extended.ExtendedLine.{ExtendedLine}
-use Rattle.commands.specs.declared.extended.ExtendedLine.TheVariants.{Plain, Common, ClearOne, On, Until, Over, Out, Words, Listed, Values}
+use Rattle.commands.specs.declared.extended.ExtendedLine.TheVariants.{Plain, Common, ClearOne, On, Until, Over, Out, Words, Listed, Values, WhatIf}
 use Rattle.commands.specs.declared.command.Breakpoint.TheVariants.{Cycles}
 use Rattle.commands.specs.Extended.{most_count}
 use Rattle.debugger.specs.Additions.{line_after, with_added}
@@ -51,6 +51,8 @@ use Rattle.yayul.specs.Listing.{place_text}
 use Rattle.yayul.specs.PlaceRows.{line_of, place_row}
 use Rattle.std.specs.Option.{option_map_or}
 use Rattle.debugger.specs.OutputsOnce.{OutputsAreToldOnce, Part, outs_after, part_of, part_text, parts, silent}
+use Rattle.debugger.specs.WhatIfs.{tries}
+use Rattle.debugger.proofs.TriedReplies.{keeps_scenario, keeps_steps}
 use Rattle.debugger.specs.Replies.{Desk, Reply, added_on, addition_to_come, adds, after_growth, after_text, answer, ending_line, here, last_stop, line, memory_word, refuses, reply, says, sought, stands}
 use Rattle.debugger.specs.Routines.{arrival_text, goes_on, goes_out_to, next_end, took}
 use Rattle.debugger.specs.Terms.{Terms, terms_of}
@@ -303,6 +305,7 @@ after_asked terms h d s o (Listed place k) =
 after_asked terms h d s o (Values place k) =
     says_same d (rows_text Number terms.symbols terms.source d.scenario.rope h (here h d) place k) (rows_text Number terms.symbols terms.source d.scenario.rope (silent h) (here h d) place k)
     (same_rows Number terms.symbols terms.source d.scenario.rope h (here h d) place k)
+after_asked terms h d s o (WhatIf input k) = quiet d (tries input k d) (keeps_scenario input k d) (keeps_steps input k d)
 after_asked terms h d s o request = quiet d (extended_reply terms h d request) refl refl
 
 history_shows : (scenario : Scenario) → Shows (history scenario) scenario

@@ -3,8 +3,9 @@ use Rattle.std.proofs.Common.{◌≡◌, ℕ, zero, suc, ◌+◌, ◌-◌, ◌<�
 use Rattle.std.proofs.lemmas.Bool.Decides.{nat_tests}
 use Rattle.cpu.specs.State.{Scenario}
 use Rattle.symbols.specs.Values.{SymbolTable}
-use Rattle.trace.specs.TraceLines.{trace_line, trace_lines}
-use Rattle.trace.proofs.Lines.{lines_more}
+use Rattle.say.specs.declared.form.LineForm.{LineForm}
+use Rattle.say.specs.Said.{told_line, told_lines}
+use Rattle.say.proofs.Lines.{lines_more}
 use Rattle.replay.specs.Retraced.{texts_after}
 use Rattle.debugger.specs.Retracing.{traced_text}
 
@@ -15,23 +16,23 @@ late : (first number : ℕ) → first ≤ number → leb first number ≡ true
 late first number h = grind (arith, nat_tests)
 
 -- before the first of them there is no line
-none_before : (symbols : SymbolTable) (scenario : Scenario) (first n : ℕ) → n < first → trace_lines symbols scenario first n ≡ []
-unfolding trace_lines
-none_before symbols scenario first zero h = refl
-none_before symbols scenario first (suc n) h = rw (none_before symbols scenario first n (omega (arith, h)), early first (suc n) h) refl
+none_before : (f : LineForm) (symbols : SymbolTable) (scenario : Scenario) (first n : ℕ) → n < first → told_lines f symbols scenario first n ≡ []
+unfolding told_lines
+none_before f symbols scenario first zero h = refl
+none_before f symbols scenario first (suc n) h = rw (none_before f symbols scenario first n (omega (arith, h)), early first (suc n) h) refl
 
 -- the lines of m steps after step low
-lines_after : (symbols : SymbolTable) (scenario : Scenario) (low m : ℕ) → texts_after (λ number s. trace_line symbols scenario number s) scenario low m ≡ trace_lines symbols scenario (low + 1) (low + m)
-lines_after symbols scenario low zero =
+lines_after : (f : LineForm) (symbols : SymbolTable) (scenario : Scenario) (low m : ℕ) → texts_after (λ number s. told_line f symbols scenario number s) scenario low m ≡ told_lines f symbols scenario (low + 1) (low + m)
+lines_after f symbols scenario low zero =
     let here : low + 0 ≡ low = omega arith in
-    rw here (sym (none_before symbols scenario (low + 1) low (omega arith)))
-lines_after symbols scenario low (suc m) =
+    rw here (sym (none_before f symbols scenario (low + 1) low (omega arith)))
+lines_after f symbols scenario low (suc m) =
     let next : low + suc m ≡ low + m + 1 = omega arith in
     let shown : leb (low + 1) (low + m + 1) ≡ true = late (low + 1) (low + m + 1) (omega arith) in
-    rw (next, lines_more symbols scenario (low + 1) (low + m), shown, lines_after symbols scenario low m) refl
+    rw (next, lines_more f symbols scenario (low + 1) (low + m), shown, lines_after f symbols scenario low m) refl
 
-pub traced : (symbols : SymbolTable) (scenario : Scenario) (p k count low : ℕ) → count ≡ min k p → low ≡ p - count → texts_after (λ number s. trace_line symbols scenario number s) scenario low count ≡ traced_text symbols scenario p k
-traced symbols scenario p k count low is at =
+pub traced : (f : LineForm) (symbols : SymbolTable) (scenario : Scenario) (p k count low : ℕ) → count ≡ min k p → low ≡ p - count → texts_after (λ number s. told_line f symbols scenario number s) scenario low count ≡ traced_text f symbols scenario p k
+traced f symbols scenario p k count low is at =
     let end : low + count ≡ p = omega (arith, is, at) in
     let first : low + 1 ≡ p - k + 1 = omega (arith, is, at) in
-    lines_after symbols scenario low count ∙ rw (end, first) refl
+    lines_after f symbols scenario low count ∙ rw (end, first) refl

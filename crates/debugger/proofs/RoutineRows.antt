@@ -8,6 +8,7 @@ use Rattle.space.specs.declared.place.Linear.{Linear}
 use Rattle.space.specs.declared.place.Linear.TheVariants.{Erasable, Fixed}
 use Rattle.space.specs.Places.{place, window}
 use Rattle.yayul.specs.Listing.{place_text}
+use Rattle.trace.specs.TraceLines.{symbol_at}
 use Rattle.cpu.specs.ChannelLines.{channel_lines}
 use Rattle.cpu.specs.Codes.{code_of, basic_rows, extracode_rows}
 use Rattle.cpu.specs.State.{State}
@@ -24,7 +25,10 @@ use Rattle.debugger.specs.Growth.{grow, lowest_hit}
 use Rattle.debugger.specs.Replies.{Desk, at_line}
 use Rattle.debugger.specs.Transcript.{first_desk}
 use Rattle.debugger.specs.ExtendedReplies.{further}
-use Rattle.debugger.specs.Routines.{is_tc, leads_on, entered_by, without, with_routine, innermost, goes_to}
+use Rattle.debugger.specs.CallsTold.{call_lines}
+use Rattle.debugger.specs.Routines.{without, with_call, innermost, goes_to}
+use Rattle.debugger.specs.declared.routines.Call.{Call}
+use Rattle.calls.specs.Calls.{is_tc, leads_on, entered_by}
 use Rattle.debugger.proofs.Scripts.{ended}
 use Rattle.debugger.proofs.FiveRows.{history-five}
 
@@ -77,24 +81,32 @@ waited : by_waiting 0o4001 ∷ by_waiting 0o4002 ∷ by_waiting 0o4005 ∷ by_wa
 unfolding code_of basic_rows place window
 waited = (λ i. from_before 0o4001 i ∷ from_before 0o4002 i ∷ from_before 0o4005 i ∷ from_before 2 i ∷ []) ∙ refl
 
--- a routine that returns is over with all that it entered; one that is entered again is in progress once
-left : without (Fixed 2 0o20) (Fixed 2 0o10 ∷ Fixed 2 0o20 ∷ Erasable 0o101 ∷ []) ≡ Fixed 2 0o10 ∷ []
+-- a routine that returns is over with all that it entered; one that is entered again is in progress once, by the later call
+abbrev call : ℕ → ℕ → Call
+call step offset = record { step = step; from = Fixed 2 (offset + 1); routine = Fixed 3 offset; back = Fixed 2 offset }
+
+left : without (Fixed 2 0o20) (call 1 0o10 ∷ call 2 0o20 ∷ call 3 0o30 ∷ []) ≡ call 1 0o10 ∷ []
 left = refl
 
-stayed : without (Fixed 2 0o30) (Fixed 2 0o10 ∷ Fixed 2 0o20 ∷ []) ≡ Fixed 2 0o10 ∷ Fixed 2 0o20 ∷ []
+stayed : without (Fixed 2 0o30) (call 1 0o10 ∷ call 2 0o20 ∷ []) ≡ call 1 0o10 ∷ call 2 0o20 ∷ []
 stayed = refl
 
-entered : with_routine (Some (Fixed 2 0o30)) (Fixed 2 0o10 ∷ Fixed 2 0o20 ∷ []) ≡ Fixed 2 0o10 ∷ Fixed 2 0o20 ∷ Fixed 2 0o30 ∷ []
+entered : with_call (Some (call 3 0o30)) (call 1 0o10 ∷ call 2 0o20 ∷ []) ≡ call 1 0o10 ∷ call 2 0o20 ∷ call 3 0o30 ∷ []
 entered = refl
 
-entered_again : with_routine (Some (Fixed 2 0o10)) (Fixed 2 0o10 ∷ Fixed 2 0o20 ∷ []) ≡ Fixed 2 0o10 ∷ []
+entered_again : with_call (Some (call 3 0o10)) (call 1 0o10 ∷ call 2 0o20 ∷ []) ≡ call 3 0o10 ∷ []
 entered_again = refl
 
-inner : innermost (Fixed 2 0o10 ∷ Fixed 2 0o20 ∷ []) ≡ Some (Fixed 2 0o20)
+inner : innermost (call 1 0o10 ∷ call 2 0o20 ∷ []) ≡ Some (Fixed 2 0o20)
 inner = refl
 
 none : innermost [] ≡ None
 none = refl
+
+-- their lines, the innermost first
+told : call_lines [] (call 1 0o10 ∷ call 123 0o20 ∷ []) ≡ ended (codes "CALL 123 02,4021 TO 03,6020" ∷ codes "CALL 1 02,4011 TO 03,6010" ∷ [])
+unfolding digits octal_text place_text window symbol_at
+told = refl
 
 -- where so many steps were made, and one of them is looked at
 abbrev at_step : ℕ → ℕ → Desk

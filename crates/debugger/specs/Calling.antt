@@ -1,50 +1,34 @@
--- What a step does that enters a routine.
-use Rattle.std.specs.Prelude.{◌≡◌, ◌<◌, ◌≤◌, ◌↔◌, ℕ, ◌+◌, ◌%◌, true, false, List, [], ◌∷◌, Some, length, codes}
-use Rattle.agc_text.specs.Tables.{same_name}
+-- Which routines are in progress.
+use Rattle.std.specs.Prelude.{◌≡◌, ◌≤◌, ℕ, ◌+◌, ◌-◌, false, List, [], ◌∷◌, Some, length}
 use Rattle.space.specs.Places.{same_place}
-use Rattle.space.specs.declared.place.Linear.{Linear}
-use Rattle.cpu.specs.Codes.{code_of, row_of}
 use Rattle.cpu.specs.State.{State, Scenario}
 use Rattle.cpu.specs.Effects.{next_address, place_in}
-use Rattle.cpu.specs.Laws.{ExecutesCode}
-use Rattle.cpu.specs.Next.{instruction_word}
 use Rattle.cpu.specs.Run.{run}
-use Rattle.debugger.specs.Routines.{is_fixed, enters, most_routines, routines}
-use Rattle.debugger.specs.Waiting.{standing_address}
+use Rattle.calls.specs.Calls.{enters}
+use Rattle.calls.specs.Calling.{place_led_to}
+use Rattle.calls.specs.Waiting.{standing_place}
+use Rattle.debugger.specs.Routines.{most_routines, routines}
+use Rattle.debugger.specs.declared.routines.Call.{Call}
 
--- the word that the next instruction is, and the place to which its low 12 bits lead, the operand of TC
-abbrev pub word_executed : Scenario → State → ℕ
-word_executed scenario s = instruction_word scenario.rope s
+-- the state before the step of a call
+abbrev pub calling_state : Scenario → Call → State
+calling_state scenario call = run scenario (call.step - 1)
 
-abbrev pub place_led_to : Scenario → State → Linear
-place_led_to scenario s = place_in s (word_executed scenario s % 0o10000)
+-- A call of a routine that is in progress after p steps: its step entered the routine from its place while no interrupt was served, and since then Z has led to the
+-- place to which the routine returns nowhere but while one was.
+pub record IsInProgress (scenario : Scenario) (p : ℕ) (call : Call) : Type 0 where
+  pub first : 1 ≤ call.step
+  pub made : call.step ≤ p
+  pub outside : (calling_state scenario call).inside ≡ false
+  pub enters : enters scenario (calling_state scenario call) ≡ Some call.back
+  pub from : call.from ≡ standing_place (calling_state scenario call)
+  pub routine : call.routine ≡ place_led_to scenario (calling_state scenario call)
+  pub not_back : (u : ℕ) → call.step ≤ u → u ≤ p → (run scenario u).inside ≡ false → same_place (place_in (run scenario u) (next_address (run scenario u))) call.back ≡ false
 
--- The next step executes TC, which stands at an address of fixed memory and leads to another place there; the routine returns to the place of the address after that
--- at which TC stands.
-pub record Calls (scenario : Scenario) (s : State) (back : Linear) : Type 0 where
-  pub executes : ExecutesCode scenario s (code_of s.extra (word_executed scenario s))
-  pub tc : same_name (row_of (code_of s.extra (word_executed scenario s)).instruction).name (codes "TC") ≡ true
-  pub from : is_fixed (place_in s (standing_address s)) ≡ true
-  pub to : is_fixed (place_led_to scenario s) ≡ true
-  pub away : same_place (place_led_to scenario s) (place_in s (standing_address s)) ≡ false
-  pub returns : back ≡ place_in s ((standing_address s + 1) % 0o10000)
-
--- From a state whose Z is an address a step enters a routine, as it is told, exactly where it does so.
-abbrev pub EntersByCalling : Scenario → State → Type 0
-EntersByCalling scenario s = next_address s < 0o10000 → (back : Linear) → (enters scenario s ≡ Some back) ↔ Calls scenario s back
-
--- A routine in progress after p steps, by the place to which it returns: this step entered it while no interrupt was served, and since then Z has led to that place
--- nowhere but while one was.
-pub record IsInProgress (scenario : Scenario) (p step : ℕ) (back : Linear) : Type 0 where
-  pub earlier : step < p
-  pub outside : (run scenario step).inside ≡ false
-  pub enters : enters scenario (run scenario step) ≡ Some back
-  pub not_back : (u : ℕ) → step < u → u ≤ p → (run scenario u).inside ≡ false → same_place (place_in (run scenario u) (next_address (run scenario u))) back ≡ false
-
--- of each of some places something holds with a step, from a first one on, each later than the one before
-abbrev pub OneAfterAnother : (ℕ → Linear → Type 0) → ℕ → List Linear → Type 0
+-- of each of some calls something holds, each by a later step than the one before, from a first one on
+abbrev pub OneAfterAnother : (Call → Type 0) → ℕ → List Call → Type 0
 OneAfterAnother holds first [] = Unit {0}
-OneAfterAnother holds first (x ∷ xs) = (step : ℕ) × (first ≤ step) × holds step x × OneAfterAnother holds (step + 1) xs
+OneAfterAnother holds first (x ∷ xs) = (first ≤ x.step) × holds x × OneAfterAnother holds (x.step + 1) xs
 
 -- Each that is told is in progress, in the order in which they were entered, so that the last is the innermost; and no more are told than may be.
 pub record RoutinesAreInProgress (scenario : Scenario) (p : ℕ) : Type 0 where

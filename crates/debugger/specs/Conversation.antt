@@ -11,7 +11,7 @@ use Rattle.commands.specs.declared.extended.IndexLines.{IndexLines}
 use Rattle.commands.specs.declared.extended.IndexLines.TheVariants.{Omitted, Told}
 use Rattle.commands.specs.declared.extended.LinkLines.{LinkLines}
 use Rattle.commands.specs.declared.extended.ExtendedLine.{ExtendedLine}
-use Rattle.commands.specs.declared.extended.ExtendedLine.TheVariants.{Plain, Common, Says, Help, Breaks, ClearOne, On, AllRegisters, Until, WhyStep, Why, Words, Where, Find, Trace, Inputs, Over, Out, Listed, Values, Channels, Differs, WhySince, TailSteps}
+use Rattle.commands.specs.declared.extended.ExtendedLine.TheVariants.{Plain, Common, Says, Help, Breaks, ClearOne, On, AllRegisters, Until, WhyStep, Why, Words, Where, Find, Trace, Inputs, Over, Out, Listed, Values, Channels, Differs, WhySince, TailSteps, Survey, Say, WhatIf, Calls}
 use Rattle.commands.specs.declared.command.ParsedLine.TheVariants.{Known}
 use Rattle.debugger.specs.declared.manner.Manner.{Manner}
 use Rattle.debugger.specs.declared.manner.Manner.TheVariants as manner
@@ -72,6 +72,10 @@ is_end (Listed place k) = false
 is_end (Values place k) = false
 is_end Channels = false
 is_end (Differs t) = false
+is_end (Survey asked) = false
+is_end (Say k) = false
+is_end (WhatIf input k) = false
+is_end Calls = false
 
 -- what a request brings, in terms and over the reference run of what runs now
 abbrev pub to_asked : Terms → ExtendedLine → Desk → Reply
@@ -109,7 +113,7 @@ index_effort Told = 9
 abbrev pub link_effort : LinkLines → ℕ
 link_effort lines = index_effort lines.index
 
--- how many times a request does, besides new ones: of `why` each link, and its last search once, or twice where it ends at a step; of the last outputs each, and all steps twice; of `where` and `out` four times
+-- how many times a request does, besides new ones: of `why` each link, and its last search once, or twice where it ends at a step; of the last outputs each, and all steps twice; of `where` and `out` four times, of `calls` five
 abbrev pub effort : ExtendedLine → ℕ
 effort (WhyStep lines) = link_effort lines
 effort (Why subject k lines) = link_effort lines * k + 1
@@ -117,6 +121,7 @@ effort (WhySince subject k lines since) = link_effort lines * k + 2
 effort (TailSteps k) = 2 * (k + 1)
 effort Where = 4
 effort (Out k) = 4
+effort Calls = 5
 effort request = 3
 
 abbrev pub efforts : Reading → List (List ℕ) → ℕ

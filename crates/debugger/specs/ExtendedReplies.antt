@@ -10,19 +10,23 @@ use Rattle.commands.specs.declared.command.Breakpoint.TheVariants.{Place, Word, 
 use Rattle.commands.specs.declared.subject.Subject.{Subject}
 use Rattle.commands.specs.declared.subject.Subject.TheVariants as subject
 use Rattle.commands.specs.declared.extended.ExtendedLine.{ExtendedLine}
-use Rattle.commands.specs.declared.extended.ExtendedLine.TheVariants.{Plain, Common, Says, Help, Breaks, ClearOne, On, AllRegisters, Until, WhyStep, Why, Words, Where, Find, Trace, Inputs, Over, Out, Listed, Values, Channels, Differs, WhySince, TailSteps}
+use Rattle.commands.specs.declared.extended.ExtendedLine.TheVariants.{Plain, Common, Says, Help, Breaks, ClearOne, On, AllRegisters, Until, WhyStep, Why, Words, Where, Find, Trace, Inputs, Over, Out, Listed, Values, Channels, Differs, WhySince, TailSteps, Survey, Say, WhatIf, Calls}
 use Rattle.cpu.specs.Run.{run}
 use Rattle.debugger.specs.History.{History, in_manner}
 use Rattle.debugger.specs.declared.manner.Manner.TheVariants as manner
 use Rattle.debugger.specs.AllRegisters.{all_registers}
 use Rattle.debugger.specs.Channels.{channels_text}
+use Rattle.debugger.specs.CallsTold.{calls_text}
 use Rattle.debugger.specs.Differs.{differs_text}
 use Rattle.debugger.specs.Whys.{subject_spots, why_text, last_text}
 use Rattle.debugger.specs.WhysSince.{since_text}
 use Rattle.debugger.specs.Standing.{where_text, found_text, words_text, rows_text}
 use Rattle.debugger.specs.declared.rows.RowKind.TheVariants.{Instruction, Number}
 use Rattle.debugger.specs.Retracing.{traced_text}
+use Rattle.say.specs.declared.form.LineForm.TheVariants.{Steps, Sentences}
 use Rattle.debugger.specs.SteppedTail.{stepped_tail}
+use Rattle.debugger.specs.Surveys.{survey_text}
+use Rattle.debugger.specs.WhatIfs.{tries}
 use Rattle.debugger.specs.Terms.{Terms}
 use Rattle.debugger.specs.Inputs.{inputs_text}
 use Rattle.debugger.specs.Routines.{goes_over, goes_out}
@@ -116,7 +120,7 @@ extended_reply terms h d (WhySince subject k lines since) = says (since_text ter
 extended_reply terms h d (Words place k) = says (words_text h (here h d) place k) d
 extended_reply terms h d Where = says (where_text terms.symbols terms.source d.scenario d.position) d
 extended_reply terms h d (Find text) = says (found_text terms.symbols text) d
-extended_reply terms h d (Trace k) = says (traced_text terms.symbols d.scenario d.position k) d
+extended_reply terms h d (Trace k) = says (traced_text Steps terms.symbols d.scenario d.position k) d
 extended_reply terms h d (TailSteps k) = says (stepped_tail d.scenario d.steps k) d
 extended_reply terms h d Inputs = says (inputs_text terms.first d.scenario) d
 extended_reply terms h d (Over k) = goes_over (further h) d k
@@ -125,3 +129,7 @@ extended_reply terms h d (Listed place k) = says (rows_text Instruction terms.sy
 extended_reply terms h d (Values place k) = says (rows_text Number terms.symbols terms.source d.scenario.rope h (here h d) place k) d
 extended_reply terms h d Channels = says (channels_text (run d.scenario d.position).cells) d
 extended_reply terms h d (Differs t) = says (differs_text d.scenario d.steps d.position t) d
+extended_reply terms h d (Survey asked) = says (survey_text d.scenario d.steps asked) d
+extended_reply terms h d (Say k) = says (traced_text Sentences terms.symbols d.scenario d.position k) d
+extended_reply terms h d (WhatIf input k) = tries input k d
+extended_reply terms h d Calls = says (calls_text terms.symbols d.scenario d.position) d

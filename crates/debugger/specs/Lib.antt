@@ -5,7 +5,6 @@ pub mod Stopping
 pub mod Marks
 pub mod Replies
 pub mod Positions
-pub mod Waiting
 pub mod Whys
 pub mod WhysSince
 pub mod ToldLinks
@@ -23,12 +22,17 @@ pub mod OutputsOnce
 pub mod Serving
 pub mod WhyEnds
 pub mod Calling
+pub mod CallsTold
+pub mod Followed
 pub mod ValueTold
 pub mod Routines
+pub mod Surveys
+pub mod Surveying
 pub mod ExtendedReplies
 pub mod AllRegisters
 pub mod Channels
 pub mod Differs
+pub mod WhatIfs
 pub mod Transcript
 pub mod Sessions
 pub mod Conversation

@@ -29,14 +29,14 @@ use Rattle.debugger.specs.declared.ending.Ending.TheVariants.{Reached, Hit, NoMe
 use Rattle.commands.specs.declared.command.ParsedLine.{ParsedLine}
 use Rattle.commands.specs.declared.command.ParsedLine.TheVariants.{Nothing, TooLong, Unknown, WrongCounter, Known}
 
--- the answers of calls that add inputs, one after another: the line that the first comes to stand on, or none where memory
--- ran out; where no answer is left it may be any line
+-- the answers of calls that add inputs or try them, one after another: the line that the first comes to stand on, or none where
+-- memory ran out; where no answer is left it may be any line
 abbrev pub addition_to_come : List (Option ℕ) → Option ℕ
 addition_to_come [] = Some 0
 addition_to_come (addition ∷ more) = addition
 
 -- where a session stands: what runs, the steps made, the step that is looked at, the breakpoints, and the answers to come of
--- the calls that take memory: those that make steps, and those that add inputs
+-- the calls that take memory: those that make steps, and those that add or try inputs
 pub record Desk : Type 0 where
   pub scenario : Scenario
   pub steps : ℕ

@@ -1,94 +1,86 @@
 -- Routines, which TC enters, and steps that go on to where they return to.
-use Rattle.std.specs.Prelude.{ℕ, zero, suc, ◌+◌, ◌-◌, ◌%◌, ◌&&◌, not, min, Bool, true, false, Option, None, Some, is_some, List, [], ◌∷◌, ◌++◌, length, take, slice_get, codes, decimal, if◌then◌else◌}
+use Rattle.std.specs.Prelude.{ℕ, zero, suc, ◌+◌, ◌-◌, min, Bool, false, Option, None, Some, List, [], ◌∷◌, ◌++◌, length, take, slice_get, codes, decimal, if◌then◌else◌}
 use Rattle.std.specs.List.{position_or_len}
 use Rattle.std.specs.Option.{option_map}
-use Rattle.agc_text.specs.Tables.{same_name}
 use Rattle.space.specs.Places.{same_place}
 use Rattle.space.specs.declared.place.Linear.{Linear}
-use Rattle.space.specs.declared.place.Linear.TheVariants.{Erasable, Fixed}
-use Rattle.cpu.specs.Codes.{code_of, row_of}
 use Rattle.cpu.specs.State.{State, Scenario}
 use Rattle.cpu.specs.Effects.{next_address, place_in}
-use Rattle.cpu.specs.Next.{following_address}
 use Rattle.cpu.specs.NextStep.{next_step}
 use Rattle.cpu.specs.Run.{run}
-use Rattle.cpu.specs.declared.next_step.Fetched.{Fetched}
 use Rattle.cpu.specs.declared.next_step.NextStep.{NextStep}
 use Rattle.cpu.specs.declared.next_step.NextStep.TheVariants.{Takes, Enters, Executes}
+use Rattle.calls.specs.Calls.{called_place, enters, is_call, return_place}
+use Rattle.calls.specs.Waiting.{standing_place}
 use Rattle.commands.specs.declared.command.Breakpoint.{Breakpoint}
 use Rattle.commands.specs.declared.command.Breakpoint.TheVariants.{Cycles, Returned, Outside}
 use Rattle.replay.specs.LastHit.{first_hit}
 use Rattle.debugger.specs.History.{History}
 use Rattle.debugger.specs.Growth.{grow, holds}
-use Rattle.debugger.specs.Waiting.{standing_place}
 use Rattle.debugger.specs.Replies.{Desk, Reply, line, here, stands, refuses, last_of, after_text, after_growth}
 use Rattle.debugger.specs.declared.ending.Ending.{Ending}
 use Rattle.debugger.specs.declared.ending.Ending.TheVariants.{Reached, Hit, NoMemory, Limit}
-
--- an instruction is TC
-abbrev pub is_tc : Fetched → Bool
-is_tc f = same_name (row_of (code_of f.extra f.word).instruction).name (codes "TC")
-
--- a place in fixed memory
-abbrev pub is_fixed : Linear → Bool
-is_fixed (Erasable p) = false
-is_fixed (Fixed bank offset) = true
-
--- TC leads from a place of fixed memory to another. Where it leads to an erasable place, as TC Q does, the word there, which Q held,
--- is executed as TC, and leads back
-abbrev pub leads_on : Linear → Linear → Bool
-leads_on from to = is_fixed from && is_fixed to && not (same_place to from)
-
-abbrev pub is_call : State → Fetched → Bool
-is_call s f = is_tc f && leads_on (standing_place s) (place_in s (f.word % 0o10000))
-
--- where Z leads once an instruction is fetched: a routine that it enters returns there
-abbrev pub address_after : State → ℕ
-address_after s = if is_some s.waiting_word then next_address s else following_address s
-
-abbrev pub return_place : State → Linear
-return_place s = place_in s (address_after s)
-
--- a step enters a routine, which returns to this place
-abbrev pub entered_by : State → NextStep → Option Linear
-entered_by s (Takes input) = None
-entered_by s (Enters k) = None
-entered_by s (Executes f) = if is_call s f then Some (return_place s) else None
-
-abbrev pub enters : Scenario → State → Option Linear
-enters scenario s = entered_by s (next_step scenario s)
+use Rattle.debugger.specs.declared.routines.Call.{Call}
 
 -- the most routines that are known to be in progress
 abbrev pub most_routines : ℕ
 most_routines = 32
 
--- of routines in progress, each by the place that it returns to, the outer ones first: those that are left where a place is come
--- to, for the one that returns there is over, and all that it entered
-abbrev pub without : Linear → List Linear → List Linear
-without place routines = take (position_or_len (same_place place) routines) routines
+-- the call that the step of a number is: from where, of which routine, and where this returns to
+abbrev pub call_by : ℕ → State → NextStep → Option Call
+call_by k s (Takes input) = None
+call_by k s (Enters interrupt) = None
+call_by k s (Executes f) =
+    if is_call s f then Some (record { step = k; from = standing_place s; routine = called_place s f; back = return_place s }) else None
 
-abbrev pub arrived : State → List Linear → List Linear
-arrived s routines = if s.inside then routines else without (place_in s (next_address s)) routines
+abbrev pub call_made : Scenario → ℕ → State → Option Call
+call_made scenario k s = call_by k s (next_step scenario s)
+
+-- of the calls of routines in progress, the outer ones first: those that are left where a place is come to, for the routine that
+-- returns there is over, and all that it entered
+abbrev pub without : Linear → List Call → List Call
+without place calls = take (position_or_len (λ c. same_place place c.back) calls) calls
+
+abbrev pub left_at : State → List Call → List Call
+left_at s calls = without (place_in s (next_address s)) calls
 
 -- and one more
-abbrev pub with_routine : Option Linear → List Linear → List Linear
-with_routine None routines = routines
-with_routine (Some place) routines = last_of most_routines (without place routines ++ place ∷ [])
+abbrev pub with_call : Option Call → List Call → List Call
+with_call None calls = calls
+with_call (Some call) calls = last_of most_routines (without call.back calls ++ call ∷ [])
 
--- those after a step, by those before it; what is done while an interrupt is served does not matter
-abbrev pub entered_from : Scenario → State → List Linear → List Linear
-entered_from scenario s routines = if s.inside then routines else with_routine (enters scenario s) routines
+-- those after the step of a number, by those before it
+abbrev pub followed : Scenario → ℕ → State → List Call → List Call
+followed scenario k s calls = with_call (call_made scenario k s) (left_at s calls)
 
-abbrev pub stepped : Scenario → State → List Linear → List Linear
-stepped scenario s routines = entered_from scenario s (arrived s routines)
+-- what is done while an interrupt is served does not matter
+abbrev pub arrived : State → List Call → List Call
+arrived s calls = if s.inside then calls else left_at s calls
 
-abbrev pub routines_by : Scenario → ℕ → List Linear
+abbrev pub stepped : Scenario → ℕ → State → List Call → List Call
+stepped scenario k s calls = if s.inside then calls else followed scenario k s calls
+
+abbrev pub routines_by : Scenario → ℕ → List Call
 routines_by scenario zero = []
-routines_by scenario (suc t) = stepped scenario (run scenario t) (routines_by scenario t)
+routines_by scenario (suc t) = stepped scenario (t + 1) (run scenario t) (routines_by scenario t)
 
 -- the routines in progress after p steps
-unfoldable pub routines : Scenario → ℕ → List Linear
+unfoldable pub routines : Scenario → ℕ → List Call
 routines scenario p = arrived (run scenario p) (routines_by scenario p)
+
+-- the same of those that the interrupt entered that is served: only what is done while it is counts
+abbrev pub arrived_inside : State → List Call → List Call
+arrived_inside s calls = if s.inside then left_at s calls else []
+
+abbrev pub stepped_inside : Scenario → ℕ → State → List Call → List Call
+stepped_inside scenario k s calls = if s.inside then followed scenario k s calls else []
+
+abbrev pub inside_by : Scenario → ℕ → List Call
+inside_by scenario zero = []
+inside_by scenario (suc t) = stepped_inside scenario (t + 1) (run scenario t) (inside_by scenario t)
+
+unfoldable pub routines_inside : Scenario → ℕ → List Call
+routines_inside scenario p = arrived_inside (run scenario p) (inside_by scenario p)
 
 -- where `over` ends: where Z leads to the place that a routine returns to, and no interrupt is served unless one was; after one
 -- step where no routine is entered
@@ -101,10 +93,10 @@ over_end scenario s = end_of s.inside (enters scenario s)
 
 -- where `out` ends: where the interrupt is served no more; else where Z leads to the place that the innermost routine returns to,
 -- and no interrupt is served
-abbrev pub innermost : List Linear → Option Linear
-innermost routines = slice_get routines (length routines - 1)
+abbrev pub innermost : List Call → Option Linear
+innermost routines = option_map (λ c. c.back) (slice_get routines (length routines - 1))
 
-abbrev pub out_end : State → List Linear → Option Breakpoint
+abbrev pub out_end : State → List Call → Option Breakpoint
 out_end s routines = if s.inside then Some Outside else option_map (λ place. Returned place false) (innermost routines)
 
 -- the line of the cycles that steps took: from the position to a step

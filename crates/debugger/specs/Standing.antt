@@ -19,7 +19,7 @@ use Rattle.debugger.specs.declared.rows.RowKind.{RowKind}
 use Rattle.debugger.specs.History.{Sight, History, history, sight}
 use Rattle.debugger.specs.Replies.{line, memory_word}
 use Rattle.debugger.specs.Rows.{list_row, row_text}
-use Rattle.debugger.specs.Waiting.{standing_place}
+use Rattle.calls.specs.Waiting.{standing_place}
 use Rattle.debugger.specs.Whys.{kind_part, last_outside}
 
 -- how many places stand before a place, in its bank or in erasable memory; and the place so many before it

@@ -27,12 +27,15 @@ use crate::rows::RowKind;
 use crate::standing::find;
 use crate::stepped_tail::tail_steps;
 use crate::stops::{Stops, led_to};
+use crate::survey::survey;
 use crate::texts::{Text, hit_and_at_line, number_line, text_line};
 use arrayvec::ArrayVec;
 use commands::{Breakpoint, Breakpoints, ExtendedLine, Subject, help_text};
 use replay::{Keeper, Session};
+use say::LineForm;
 use space::Chan;
 use space::place::Linear;
+use std::alloc::Global;
 use symbols::Symbols;
 use trace::place_text;
 use words::{Word, Write, WriteFailed, push_all, push_decimal, push_octal, write_all};
@@ -43,6 +46,7 @@ impl Desk {
     #[tactic(auto, unfolding(crate::specs::ExtendedReplies::extended_reply))]
     pub(crate) fn answer_asked<K: Keeper, W: Write>(
         &mut self,
+        alloc: Global,
         session: &mut Session<K>,
         symbols: &Symbols,
         rows: &SourceRows,
@@ -83,7 +87,9 @@ impl Desk {
             }
             ExtendedLine::Where => self.tell_where(session, symbols, rows, out),
             ExtendedLine::Find(beginning) => find(symbols, beginning.as_slice(), out),
-            ExtendedLine::Trace(steps) => self.trace(session, symbols, *steps, out),
+            ExtendedLine::Trace(steps) => {
+                self.trace(session, symbols, LineForm::Steps, *steps, out)
+            }
             ExtendedLine::TailSteps(count) => tail_steps(session, *count, out),
             ExtendedLine::Inputs => tell_inputs(session, first_added, out),
             ExtendedLine::Over(steps) => self.go_over(session, *steps, out),
@@ -104,6 +110,14 @@ impl Desk {
             }
             ExtendedLine::Channels => write_all(out, self.channels(session).as_slice()),
             ExtendedLine::Differs(step) => self.differs(session, *step, out),
+            ExtendedLine::Survey(asked) => survey(session, asked, out),
+            ExtendedLine::Say(steps) => {
+                self.trace(session, symbols, LineForm::Sentences, *steps, out)
+            }
+            ExtendedLine::WhatIf(input, steps) => {
+                self.what_if(alloc, session, *input, *steps, out)
+            }
+            ExtendedLine::Calls => write_all(out, self.calls(session, symbols).as_slice()),
         }
     }
 

@@ -15,8 +15,8 @@ use crate::ending::Ending;
 use crate::marks::{Breaks, Marks, NoBreaks};
 use crate::tail::Tail;
 use commands::Breakpoints;
-use cpu::{Machine, Output, Processor, write_channel_line};
-use replay::{Keeper, Refusal, Session, Stepper, Stop, make_step};
+use cpu::{Machine, Output, Processor, make_step, write_channel_line};
+use replay::{Keeper, Refusal, Session, Stepper, Stop};
 use space::Chan;
 use words::{Word, Write, WriteFailed};
 

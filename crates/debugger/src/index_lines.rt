@@ -14,8 +14,8 @@ ghost use Rattle.debugger.specs.Whys.{added_by, last_executed, operand_spots, op
 use crate::link_texts::{Part, Piece, kind_part, reads_part};
 use arrayvec::ArrayVec;
 use commands::IndexLines;
-use cpu::{Cell, Machine, NextStep, Processor, Spot, named_address};
-use replay::{Keeper, Session, StepTest, make_step};
+use cpu::{Cell, Machine, NextStep, Processor, Spot, make_step, named_address};
+use replay::{Keeper, Session, StepTest};
 use space::resolve::resolve;
 use space::{Eras, Linear};
 use symbols::Symbols;

@@ -1,19 +1,20 @@
 //! Laws of sessions. Each is the contract of a call that does nothing.
 
-ghost use Rattle.std.specs.Prelude.{◌≡◌, ◌≤◌, ℕ, Bool, List, Option};
+ghost use Rattle.std.specs.Prelude.{◌≡◌, ◌+◌, ◌-◌, ◌≤◌, ℕ, Bool, List, Option};
 ghost use Rattle.cpu.specs.State.{Scenario};
 ghost use Rattle.symbols.specs.Values.{SymbolTable};
 ghost use Rattle.yayul.specs.Program.{Source};
-ghost use Rattle.cpu.specs.State.{State};
 ghost use Rattle.cpu.specs.declared.spot.Spot.{Spot};
 ghost use Rattle.commands.specs.declared.extended.LinkLines.{LinkLines};
+ghost use Rattle.commands.specs.declared.subject.Subject.{Subject};
 ghost use Rattle.debugger.specs.declared.manner.Manner.{Manner};
-ghost use Rattle.debugger.specs.Calling.{EntersByCalling, RoutinesAreInProgress};
+ghost use Rattle.debugger.specs.Calling.{RoutinesAreInProgress};
 ghost use Rattle.debugger.specs.Moved.{IndexIsTold};
 ghost use Rattle.debugger.specs.OutputsOnce.{OutputsAreToldOnce};
 ghost use Rattle.debugger.specs.ReadBack.{NoneAtFirst, SessionReadsBack};
 ghost use Rattle.debugger.specs.Serving.{EntryIsTold};
 ghost use Rattle.debugger.specs.SteppedTail.{HaveTheirSteps};
+ghost use Rattle.debugger.specs.Surveys.{bucket_lines, width_of};
 ghost use Rattle.debugger.specs.ValueTold.{ValueIsTold};
 ghost use Rattle.debugger.specs.WhyEnds.{WhyEnds};
 ghost use Rattle.debugger.specs.Whys.{why_text};
@@ -60,12 +61,14 @@ pub fn since_start_is_why()
         since_text symbols scenario lines since k p xs ≡ why_text symbols scenario lines k p xs }
 {}
 
-/// A step enters a routine exactly where it executes TC that stands in fixed memory and leads to another place there; the routine returns to the place after it.
-pub fn routine_is_called()
-    ensures { (scenario : Scenario) (s : State) → EntersByCalling scenario s }
+/// The buckets of a survey leave no step out: with any more of them nothing more would be told.
+pub fn surveys_leave_no_step_out()
+    ensures { (scenario : Scenario) (subjects : List Subject) (from last buckets more : ℕ) → 1 ≤ buckets →
+        bucket_lines scenario subjects (width_of (last - from) buckets) last (buckets + more) 0 from ≡ bucket_lines scenario subjects (width_of (last - from) buckets) last buckets 0 from }
 {}
 
-/// Each routine that is told to be in progress was entered while no interrupt was served, one after another, and has not returned since.
+/// Each routine that is told to be in progress was entered by the step and from the place that are told, while no interrupt was served, one after another, and has
+/// not returned since.
 pub fn routines_are_in_progress()
     ensures { (scenario : Scenario) (p : ℕ) → RoutinesAreInProgress scenario p }
 {}

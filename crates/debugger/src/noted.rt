@@ -99,7 +99,7 @@ fn watched_word(breakpoint: &Breakpoint, machine: &Machine) -> Option<Word>
 }
 
 /// The word of an erasable place or of a channel.
-fn word_of(subject: Subject, machine: &Machine) -> Word
+pub(crate) fn word_of(subject: Subject, machine: &Machine) -> Word
     ensures { result ≡ word_of machine.now subject }
 {
     match subject {

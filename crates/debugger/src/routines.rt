@@ -1,202 +1,219 @@
-//! The routines that are in progress, each by where it returns to.
+//! The routines that are in progress, each by its call.
 
-ghost use Rattle.std.specs.Prelude.{◌≡◌, [], Some};
+ghost use Rattle.std.specs.Prelude.{◌≡◌, ◌≤◌, [], Some};
 ghost use Rattle.std.specs.List.{position_or_len};
 ghost use Rattle.space.specs.Places.{same_place};
 ghost use Rattle.cpu.specs.State.{FitsRun};
-ghost use Rattle.cpu.specs.Effects.{place_in};
-ghost use Rattle.debugger.specs.Waiting.{standing_place};
-ghost use Rattle.debugger.specs.Routines.{is_tc, is_fixed, leads_on, is_call, return_place, entered_by, enters, without, with_routine, innermost, stepped};
+ghost use Rattle.debugger.specs.Routines.{call_made, without, left_at, with_call, followed, innermost, arrived, arrived_inside, routines_by, inside_by};
+ghost use Rattle.debugger.specs.Executions.{HasLooked};
 
+use crate::desk::Desk;
 use arrayvec::ArrayVec;
-use cpu::{Fetched, Machine, NextStep, Processor, instruction_name};
-use replay::Onlooker;
-use space::resolve::resolve;
-use space::{Addr12, Eras, Linear};
-use std::marker::Model;
+use calls::{called_place, is_call, return_place, standing_place};
+use cpu::{Machine, NextStep, Processor};
+use replay::{Keeper, Onlooker, Session};
+use space::{Eras, Linear};
 
 /// The most routines that are known.
-const MOST_ROUTINES: usize = 32;
+pub(crate) const MOST_ROUTINES: usize = 32;
 
-/// A place that a routine returns to.
+/// A call of a routine.
 #[derive(Clone, Copy)]
-pub(crate) struct Return {
-    place: Linear,
+pub(crate) struct Call {
+    /// The number of its step.
+    pub(crate) step: u64,
+    /// Where it stands.
+    pub(crate) from: Linear,
+    /// The routine that it enters.
+    pub(crate) routine: Linear,
+    /// Where this returns to.
+    pub(crate) back: Linear,
 }
 
-impl Model for Return {
-    ghost use Rattle.space.specs.declared.place.Linear.{Linear};
-
-    ghost Value = { Linear };
-
-    ghost view = { λ r. r.place };
-
-    ghost inverse = { λ place. record { place = place } };
-}
-
-impl Default for Return {
-    fn default() -> Return {
-        Return {
-            place: Linear::Erasable(Eras::ZERO),
+impl Default for Call {
+    fn default() -> Call {
+        Call {
+            step: 0,
+            from: Linear::Erasable(Eras::ZERO),
+            routine: Linear::Erasable(Eras::ZERO),
+            back: Linear::Erasable(Eras::ZERO),
         }
     }
 }
 
-/// Routines in progress, the outer ones first.
+/// Calls of routines that are in progress, the outer ones first.
 #[derive(Drop)]
-pub(crate) struct Routines {
-    returns: ArrayVec<Return, MOST_ROUTINES>,
+pub(crate) struct Calls {
+    pub(crate) list: ArrayVec<Call, MOST_ROUTINES>,
 }
 
-impl Routines {
-    /// No routine.
-    pub(crate) fn none() -> Routines
-        ensures { result.returns.items ≡ [] }
+impl Calls {
+    /// No call.
+    fn none() -> Calls
+        ensures { result.list.items ≡ [] }
     {
-        Routines {
-            returns: ArrayVec::new(),
+        Calls {
+            list: ArrayVec::new(),
         }
     }
 
-    /// Ends the one that returns to a place, and all that it entered.
-    pub(crate) fn leave(&mut self, place: &Linear)
-        ensures { self.new.returns.items ≡ without place.now self.old.returns.items }
+    /// Ends the routine that returns to a place, and all that it entered.
+    fn leave(&mut self, place: &Linear)
+        ensures { self.new.list.items ≡ without place.now self.old.list.items }
     {
-        let count = position_or_len(self.returns.as_slice(), place);
-        self.returns.truncate(count);
+        let count = position_or_len(self.list.as_slice(), place);
+        self.list.truncate(count);
     }
 
-    /// One more, which returns to a place.
-    fn enter(&mut self, place: Linear)
-        ensures { self.new.returns.items ≡ with_routine (Some place) self.old.returns.items }
+    /// Ends the routine that returns to where a machine stands.
+    pub(crate) fn arrive(&mut self, machine: &Machine)
+        ensures { self.new.list.items ≡ left_at machine.now self.old.list.items }
     {
-        self.leave(&place);
-        if self.returns.is_full() {
-            self.returns.remove(0);
+        self.leave(&machine.next_place());
+    }
+
+    /// One more.
+    fn enter(&mut self, call: Call)
+        ensures { self.new.list.items ≡ with_call (Some call) self.old.list.items }
+    {
+        self.leave(&call.back);
+        if self.list.is_full() {
+            self.list.remove(0);
         }
-        self.returns.push(Return { place });
+        self.list.push(call);
+    }
+
+    /// The next step, which has this number.
+    fn follow(&mut self, processor: &Processor, machine: &Machine, step: u64)
+        requires { FitsRun processor.now.scenario machine.now }
+        ensures { self.new.list.items ≡ followed processor.now.scenario step machine.now self.old.list.items }
+    {
+        self.arrive(machine);
+        if let Some(call) = call_made(processor, machine, step) {
+            self.enter(call);
+        }
     }
 
     /// Where the innermost one returns to.
     pub(crate) fn innermost(&self) -> Option<Linear>
-        ensures { result ≡ innermost self.now.returns.items }
+        ensures { result ≡ innermost self.now.list.items }
     {
-        match self.returns.as_slice().last() {
-            Some(it) => Some(it.place),
+        match self.list.as_slice().last() {
+            Some(call) => Some(call.back),
             None => None,
         }
     }
 }
 
-impl Onlooker for Routines {
-    ghost sees = { λ old scenario s new. new.returns.items ≡ stepped scenario s old.returns.items };
+/// The routines that are in progress before a step.
+#[derive(Drop)]
+pub(crate) struct Routines {
+    /// How many steps were looked at.
+    steps: u64,
+    /// Those that no interrupt entered.
+    pub(crate) outside: Calls,
+    /// Those that the interrupt entered that is served.
+    pub(crate) inside: Calls,
+}
 
-    fn look(&mut self, processor: &Processor, machine: &Machine) {
-        if machine.inside() {
-            return;
-        }
-        self.leave(&machine.next_place());
-        if let Some(place) = entered(processor, machine) {
-            self.enter(place);
+impl Routines {
+    /// No routine.
+    pub(crate) fn none() -> Routines
+        ensures steps { result.steps ≡ 0 }
+        ensures outside { result.outside.list.items ≡ [] }
+        ensures inside { result.inside.list.items ≡ [] }
+    {
+        Routines {
+            steps: 0,
+            outside: Calls::none(),
+            inside: Calls::none(),
         }
     }
 }
 
-/// The position of a place among some, or how many there are.
-fn position_or_len(places: &[Return], place: &Linear) -> usize
-    ensures { result ≡ position_or_len (same_place place.now) places.now }
+impl Routines {
+    /// Ends those that return to where a machine stands.
+    pub(crate) fn arrive(&mut self, machine: &Machine)
+        ensures outside { self.new.outside.list.items ≡ arrived machine.now self.old.outside.list.items }
+        ensures inside { self.new.inside.list.items ≡ arrived_inside machine.now self.old.inside.list.items }
+    {
+        if machine.inside() {
+            self.inside.arrive(machine);
+        } else {
+            self.outside.arrive(machine);
+            self.inside = Calls::none();
+        }
+    }
+}
+
+impl Desk {
+    /// The routines that are in progress before the step to the position.
+    pub(crate) fn routines_before<K: Keeper>(&self, session: &mut Session<K>) -> Routines
+        requires { self.now.position ≤ session.old.n }
+        ensures outside { result.outside.list.items ≡ routines_by session.old.scenario self.now.position }
+        ensures inside { result.inside.list.items ≡ inside_by session.old.scenario self.now.position }
+        ensures looked { HasLooked session.old session.new session.old.n }
+    {
+        let _limited = session.steps();
+        let mut routines = Routines::none();
+        session.look_over(self.position, &mut routines);
+        routines
+    }
+}
+
+impl Onlooker for Routines {
+    ghost use Rattle.debugger.specs.Followed.{HasFollowed};
+
+    ghost sees = { λ old scenario s new. HasFollowed scenario s (record { steps = old.steps; outer = old.outside.list.items; inner = old.inside.list.items }) (record { steps = new.steps; outer = new.outside.list.items; inner = new.inside.list.items }) };
+
+    fn look(&mut self, processor: &Processor, machine: &Machine) {
+        self.steps = self.steps.saturating_add(1);
+        if machine.inside() {
+            self.inside.follow(processor, machine, self.steps);
+        } else {
+            self.outside.follow(processor, machine, self.steps);
+            self.inside = Calls::none();
+        }
+    }
+}
+
+/// The position of the routine among some that returns to a place, or how many there are.
+fn position_or_len(calls: &[Call], place: &Linear) -> usize
+    ensures { result ≡ position_or_len (λ c. same_place place.now c.back) calls.now }
 {
-    for index in 0..places.len() {
-        if returns_to(&places[index], place) {
+    for index in 0..calls.len() {
+        if returns_to(&calls[index], place) {
             return index;
         }
     }
-    places.len()
+    calls.len()
 }
 
 /// Whether a routine returns to a place.
-fn returns_to(routine: &Return, place: &Linear) -> bool
-    ensures { result ≡ same_place place.now routine.now }
+fn returns_to(call: &Call, place: &Linear) -> bool
+    ensures { result ≡ same_place place.now call.now.back }
 {
-    *place == routine.place
+    *place == call.back
 }
 
-/// Where the routine returns to that the next step enters, if it enters one.
-pub(crate) fn entered(processor: &Processor, machine: &Machine) -> Option<Linear>
+/// The call that the next step is, which has this number, if it is one.
+fn call_made(processor: &Processor, machine: &Machine, step: u64) -> Option<Call>
     requires { FitsRun processor.now.scenario machine.now }
-    ensures { result ≡ enters processor.now.scenario machine.now }
+    ensures { result ≡ call_made processor.now.scenario step machine.now }
 {
     match processor.next_step(machine) {
         NextStep::Takes(_) => None,
         NextStep::Enters(_) => None,
         NextStep::Executes(fetched) => {
-            if is_call(machine, &fetched) {
-                Some(return_place(machine))
-            } else {
-                None
+            if !is_call(machine, &fetched) {
+                return None;
             }
+            Some(Call {
+                step,
+                from: standing_place(machine),
+                routine: called_place(machine, &fetched),
+                back: return_place(machine),
+            })
         }
     }
-}
-
-/// Whether an instruction is TC that leads on.
-fn is_call(machine: &Machine, fetched: &Fetched) -> bool
-    ensures { result ≡ is_call machine.now fetched.now }
-{
-    let to = place_at(machine, Addr12::of_low_bits(fetched.word.to_u16()));
-    is_tc(fetched) && leads_on(&standing_place(machine), &to)
-}
-
-/// Whether an instruction is TC.
-fn is_tc(fetched: &Fetched) -> bool
-    ensures { result ≡ is_tc fetched.now }
-{
-    instruction_name(fetched.word, fetched.extra) == b"TC".as_slice()
-}
-
-/// Whether TC leads from a place of fixed memory to another.
-fn leads_on(from: &Linear, to: &Linear) -> bool
-    ensures { result ≡ leads_on from.now to.now }
-{
-    is_fixed(from) && is_fixed(to) && to != from
-}
-
-/// Whether a place is in fixed memory.
-fn is_fixed(place: &Linear) -> bool
-    ensures { result ≡ is_fixed place.now }
-{
-    match place {
-        Linear::Erasable(_) => false,
-        Linear::Fixed(..) => true,
-    }
-}
-
-/// Where the next instruction stands, or stood before it waited.
-pub(crate) fn standing_place(machine: &Machine) -> Linear
-    ensures { result ≡ standing_place machine.now }
-{
-    let next = machine.store().next_address();
-    match machine.waiting_word() {
-        Some(_) => place_at(machine, Addr12::of_low_bits(next.number() + 0o7777)),
-        None => place_at(machine, next),
-    }
-}
-
-/// Where Z leads once an instruction is fetched.
-fn return_place(machine: &Machine) -> Linear
-    ensures { result ≡ return_place machine.now }
-{
-    let next = machine.store().next_address();
-    match machine.waiting_word() {
-        Some(_) => place_at(machine, next),
-        None => place_at(machine, Addr12::of_low_bits(next.number() + 1)),
-    }
-}
-
-/// The place to which an address leads.
-#[tactic(auto, unfolding(cpu::specs::Effects::place_in))]
-fn place_at(machine: &Machine, address: Addr12) -> Linear
-    ensures { result ≡ place_in machine.now address }
-{
-    resolve(address, machine.store().banks())
 }

@@ -137,7 +137,7 @@ fn converse<K: Keeper, R: Read, W: Write>(
         if is_end(&request) {
             return Ok(());
         }
-        match desk.answer_asked(session, symbols, rows, first, &request, out) {
+        match desk.answer_asked(alloc, session, symbols, rows, first, &request, out) {
             Ok(()) => {}
             Err(_) => return Err(DebugFault::WriteFailed),
         }

@@ -14,11 +14,11 @@ ghost use Rattle.debugger.specs.Executions.{HasLooked};
 
 use crate::desk::Desk;
 use crate::link_texts::{Piece, kind_part};
-use crate::routines::standing_place;
 use crate::rows::{RowKind, write_list_row, write_row};
 use crate::short::word_at;
 use crate::texts::{Text, number_line};
 use arrayvec::ArrayVec;
+use calls::standing_place;
 use cpu::{Fetched, Machine, Processor};
 use replay::{Keeper, Session};
 use space::place::Linear;
@@ -80,7 +80,11 @@ impl Desk {
     }
 
     /// The line of the interrupt that is served.
-    fn entered_text<K: Keeper>(&self, session: &mut Session<K>, symbols: &Symbols) -> Text
+    pub(crate) fn entered_text<K: Keeper>(
+        &self,
+        session: &mut Session<K>,
+        symbols: &Symbols,
+    ) -> Text
         requires { self.now.position ≤ session.old.n }
         ensures text { result.items ≡ entered_text symbols.now session.old.scenario (last_outside session.old.scenario self.now.position) }
         ensures short { array_vec_len result ≤ 76 }
@@ -259,7 +263,7 @@ fn place_line(symbols: &Symbols, place: &Linear) -> Text
 }
 
 /// Appends the symbol that stands nearest before a place, and how far before.
-fn push_nearest(text: &mut Text, symbols: &Symbols, place: &Linear)
+pub(crate) fn push_nearest(text: &mut Text, symbols: &Symbols, place: &Linear)
     requires { array_vec_len text.old ≤ 20 }
     ensures items { text.new.items ≡ text.old.items ++ nearest_text (nearest_symbol symbols.now place.now) }
     ensures short { array_vec_len text.new ≤ array_vec_len text.old + 16 }

@@ -7,8 +7,8 @@ ghost use Rattle.debugger.specs.SteppedTail.{outputs_by_step, stepped_line, step
 
 use crate::texts::number_line;
 use arrayvec::ArrayVec;
-use cpu::{Machine, Output, Processor, channel_line};
-use replay::{Keeper, Session, StepTest, StepWriter, make_step};
+use cpu::{Machine, Output, Processor, channel_line, make_step};
+use replay::{Keeper, Session, StepTest, StepWriter};
 use words::{Write, WriteFailed, push_all, push_decimal, write_all};
 
 /// The lines of the last so many outputs, each with its step, and how many they are.

@@ -10,8 +10,8 @@ ghost use Rattle.debugger.specs.Stopping.{HoldsAlike, asks, looked, may_matter};
 use crate::breakpoints::{lowest_hit, stands_at};
 use crate::noted::Noted;
 use commands::{Breakpoint, Breakpoints};
-use cpu::{Machine, Processor};
-use replay::{StepTest, make_step};
+use cpu::{Machine, Processor, make_step};
+use replay::StepTest;
 
 /// Where steps are to stop: at the first after which one of some breakpoints holds.
 #[derive(Clone, Copy, Drop)]

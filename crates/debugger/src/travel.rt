@@ -18,10 +18,11 @@ use crate::desk::Desk;
 use crate::ending::Ending;
 use crate::growing::grow;
 use crate::manner::Manner;
-use crate::routines::{Routines, entered};
+use crate::routines::Calls;
 use crate::stops::{Stops, led_to, step_of};
 use crate::texts::{Text, number_line, push_at_line, text_line};
 use arrayvec::ArrayVec;
+use calls::entered;
 use commands::{Breakpoint, Breakpoints};
 use cpu::{Machine, Processor};
 use replay::{Keeper, Session};
@@ -89,10 +90,9 @@ impl Desk {
         ensures cycles { result.1 ≡ (run session.old.scenario self.now.position).cycles }
         ensures looked { HasLooked session.old session.new (2 * session.old.n) }
     {
-        let mut routines = Routines::none();
-        session.look_over(self.position, &mut routines);
+        let mut routines = self.routines_before(session);
         match session.show(self.position) {
-            Ok(machine) => (out_end(machine, routines), machine.cycles()),
+            Ok(machine) => (out_end(machine, &mut routines.outside), machine.cycles()),
             Err(_) => unreachable!(),
         }
     }
@@ -205,15 +205,14 @@ fn over_end(processor: &Processor, machine: &Machine) -> Breakpoint
 }
 
 /// Where `out` ends, by the routines that were in progress before the machine came to where it stands.
-fn out_end(machine: &Machine, routines: Routines) -> Option<Breakpoint>
-    ensures { result ≡ out_end machine.now (arrived machine.now routines.returns.items) }
+fn out_end(machine: &Machine, calls: &mut Calls) -> Option<Breakpoint>
+    ensures { result ≡ out_end machine.now (arrived machine.now calls.old.list.items) }
 {
     if machine.inside() {
         return Some(Breakpoint::Outside);
     }
-    let mut routines = routines;
-    routines.leave(&machine.next_place());
-    let place = routines.innermost()?;
+    calls.arrive(machine);
+    let place = calls.innermost()?;
     Some(Breakpoint::Returned(place, false))
 }
 

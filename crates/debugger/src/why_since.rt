@@ -24,8 +24,8 @@ use crate::stops::step_of;
 use crate::why::{LinkText, begun_at, cells_after, subject_cells, together};
 use arrayvec::ArrayVec;
 use commands::{IndexLines, LinkLines, Subject};
-use cpu::{CellSet, Machine, Processor};
-use replay::{Keeper, Session, StepTest, make_step};
+use cpu::{CellSet, Machine, Processor, make_step};
+use replay::{Keeper, Session, StepTest};
 use symbols::Symbols;
 use words::{Wide, Write, WriteFailed, push_all, push_decimal, write_all};
 

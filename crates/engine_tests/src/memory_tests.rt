@@ -4,14 +4,15 @@ use crate::sources::FIVE_PLUS_FIVE;
 use cpu::{Input, Machine, Output, Processor};
 use debugger::debug_session;
 use feed::{Counter, Sequence, read};
+use json_text::Notation;
 use replay::{Call, Keeper, Observer, Refusal, Session, SlotKeeper, Stop, VecKeeper, Watcher};
 use std::alloc::Global;
 use std::process::Abort;
 use std::test::Fail;
 use words::Buffer;
 use workshop::{
-    Origin, Unheard, Version, asm_engine, cover_program, debug_engine, follow_source, open_session,
-    run_engine, run_with_notes, trace_program, upgrade_engine,
+    LineForm, Origin, Unheard, Version, asm_engine, cover_program, debug_engine, follow_source,
+    open_session, run_engine, run_with_notes, trace_program, upgrade_engine,
 };
 use yayul::{Language, assemble};
 
@@ -107,14 +108,40 @@ fn told_runs_always_out_of_memory(rt: HostRuntime) -> Result<(), Fail> {
     let mut out = Buffer::new(alloc);
     let origin = || Origin::Source(Language::Standard);
     let (mut source, mut feed) = (FIVE_PLUS_FIVE, b"".as_slice());
-    assert!(rt; trace_program(alloc, origin(), &mut source, &mut feed, 1, 4, &mut out).is_ok());
+    assert!(rt;
+        trace_program(
+            alloc,
+            origin(),
+            &mut source,
+            &mut feed,
+            LineForm::StepsAndReads,
+            1,
+            4,
+            &mut out,
+            &mut Unheard
+        )
+        .is_ok()
+    );
     let (mut source, mut feed) = (FIVE_PLUS_FIVE, b"".as_slice());
-    assert!(rt; cover_program(alloc, origin(), &mut source, &mut feed, 4, &mut out).is_ok());
+    assert!(rt;
+        cover_program(
+            alloc,
+            Notation::Json,
+            origin(),
+            &mut source,
+            &mut feed,
+            4,
+            &mut out,
+            &mut Unheard
+        )
+        .is_ok()
+    );
     let (mut source, mut feed) = (FIVE_PLUS_FIVE, b"".as_slice());
     let mut notes = Buffer::new(alloc);
     assert!(rt;
         run_with_notes(
             alloc,
+            Notation::Json,
             origin(),
             &mut source,
             &mut feed,

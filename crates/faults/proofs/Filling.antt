@@ -2,8 +2,8 @@
 use Rattle.std.proofs.Common.{◌≡◌, ◌∙◌, ◌+◌, ℕ, false, cond, not, suc, arith, List, [], ◌∷◌, ◌++◌, take, drop, append_assoc, append-nil, ap, refl, sym, inl, inr}
 use Rattle.std.specs.List.{position_or_len}
 use Rattle.std.proofs.lemmas.Bool.{cases_Bool}
+use Rattle.yayul.specs.Readings.{Parts}
 use Rattle.faults.specs.Causes.{filled, filled_byte, is_mark}
-use Rattle.faults.specs.Warnings.{Parts}
 
 -- a byte that is no mark stands for itself
 plain_byte : (parts : Parts) (other beside : List ℕ) (byte : ℕ) → is_mark byte ≡ false → filled_byte parts other beside byte ≡ byte ∷ []

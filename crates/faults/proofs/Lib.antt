@@ -3,9 +3,9 @@ mod Around
 mod Filling
 mod GrowingTexts
 mod NearNames
-mod OfLength
 mod WarningRows
 mod CauseRows
 mod Walked
 mod FeedRows
 mod FlightRows
+mod ObjectRows

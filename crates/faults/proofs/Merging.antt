@@ -3,38 +3,37 @@ use Rattle.std.proofs.Common.{◌≡◌, ◌∙◌, ℕ, ◌+◌, ◌≤◌, len
 use Rattle.std.specs.Prelude.{flat_map, if◌then◌else◌}
 use Rattle.std.proofs.lemmas.Bool.{cases_Bool}
 use Rattle.std.proofs.lemmas.Bool.Decides.{nat_tests}
-use Rattle.std.proofs.lemmas.Grind.{flat_map-append}
 use Rattle.std.proofs.lemmas.List.{map-append}
 use Rattle.std.proofs.lemmas.Map.Made.{is_some-lookup}
 use Rattle.agc_text.specs.Tables.{same_name, value_in}
 use Rattle.symbols.specs.declared.values.Value.{Value}
 use Rattle.yayul.specs.declared.finding.Finding.{Finding}
 use Rattle.yayul.specs.declared.language.Language.{Language}
-use Rattle.faults.specs.declared.findings.Severity.{Severity}
 use Rattle.faults.specs.declared.flow.Before.{Before}
 use Rattle.faults.specs.declared.mistakes.Names.{Names}
-use Rattle.faults.specs.Report.{count_before, as_error, as_warning, merged}
-use Rattle.agc_text.specs.declared.fields.Line.{Line}
-use Rattle.faults.specs.Warnings.{Parts, parts_for, parts_in, is_short, is_among, with_name, before_next, line_warnings, warned_lines}
+use Rattle.faults.specs.declared.told.Warning.{Warning}
+use Rattle.yayul.specs.Readings.{Parts, parts_for, parts_in}
+use Rattle.faults.specs.Report.{count_before, merged}
+use Rattle.yayul.specs.declared.reading.Reading.{Reading}
+use Rattle.faults.specs.Warnings.{is_short, is_among, with_name, before_next, line_warnings, warned_lines}
 
 -- a fault, after the warnings of earlier lines
 pub merged_step :
-    (g : Severity × Finding → List ℕ) (faults rest warnings : List Finding) (f : Finding) (o0 o1 o2 : List ℕ) → faults ≡ f ∷ rest
-    → o1 ≡ o0 ++ flat_map g (map as_warning (take (count_before f.line warnings) warnings)) → o2 ≡ o1 ++ g (as_error f)
-    → o2 ++ flat_map g (merged rest (drop (count_before f.line warnings) warnings)) ≡ o0 ++ flat_map g (merged faults warnings)
-merged_step g faults rest warnings f o0 o1 o2 next e1 e2 =
+    (error : Finding → List ℕ) (warning : Warning → List ℕ) (faults rest : List Finding) (warnings : List Warning) (f : Finding) (o0 o1 o2 : List ℕ) → faults ≡ f ∷ rest
+    → o1 ≡ o0 ++ flat_map warning (take (count_before f.line warnings) warnings) → o2 ≡ o1 ++ error f
+    → o2 ++ merged error warning rest (drop (count_before f.line warnings) warnings) ≡ o0 ++ merged error warning faults warnings
+merged_step error warning faults rest warnings f o0 o1 o2 next e1 e2 =
     let n = count_before f.line warnings in
-    let early = map as_warning (take n warnings) in
-    let later = merged rest (drop n warnings) in
-    ap (λ o. o ++ flat_map g later) (e2 ∙ ap (λ o. o ++ g (as_error f)) e1)
-    ∙ append_assoc (o0 ++ flat_map g early) (g (as_error f)) (flat_map g later)
-    ∙ append_assoc o0 (flat_map g early) (g (as_error f) ++ flat_map g later)
-    ∙ ap (λ t. o0 ++ t) (sym (flat_map-append g early (as_error f ∷ later)))
-    ∙ ap (λ fs. o0 ++ flat_map g (merged fs warnings)) (sym next)
+    let early = flat_map warning (take n warnings) in
+    let later = merged error warning rest (drop n warnings) in
+    let whole : o0 ++ (early ++ error f ++ later) ≡ o0 ++ merged error warning faults warnings = ap (λ (fs : List Finding). o0 ++ merged error warning fs warnings) (sym next) in
+    ap (λ o. o ++ later) (e2 ∙ ap (λ o. o ++ error f) e1 ∙ append_assoc o0 early (error f))
+    ∙ append_assoc o0 (early ++ error f) later
+    ∙ whole
 
 -- the warnings of a line, and of those after it
 pub warned_step :
-    (language : Language) (unused : Bool) (names : Names) (before : Before) (line : ℕ) (lines rest : List Parts) (parts : Parts) (o0 o1 : List Finding)
+    (language : Language) (unused : Bool) (names : Names) (before : Before) (line : ℕ) (lines rest : List Parts) (parts : Parts) (o0 o1 : List Warning)
     → lines ≡ parts ∷ rest → o1 ≡ o0 ++ line_warnings language unused names before rest line parts
     → o1 ++ warned_lines language unused names (before_next before parts) (line + 1) rest ≡ o0 ++ warned_lines language unused names before line lines
 warned_step language unused names before line lines rest parts o0 o1 next e =
@@ -50,11 +49,11 @@ take_first n m here after text count lines =
 
 -- one line more that is taken apart
 pub apart_step :
-    (language : Language) (made now : List Line) (parts : Line) (n m : ℕ) (here after : List (List ℕ)) (text : List ℕ) → n ≡ m + 1 → here ≡ text ∷ after
+    (language : Language) (made now : List Reading) (parts : Reading) (n m : ℕ) (here after : List (List ℕ)) (text : List ℕ) → n ≡ m + 1 → here ≡ text ∷ after
     → now ≡ made ++ parts ∷ [] → parts_in parts ≡ parts_for language text
     → map parts_in now ++ map (parts_for language) (take m after) ≡ map parts_in made ++ map (parts_for language) (take n here)
 apart_step language made now parts n m here after text count lines grows same =
-    ap (λ (ls : List Line). map parts_in ls ++ map (parts_for language) (take m after)) grows
+    ap (λ (ls : List Reading). map parts_in ls ++ map (parts_for language) (take m after)) grows
     ∙ ap (λ (ps : List Parts). ps ++ map (parts_for language) (take m after)) (map-append parts_in made (parts ∷ []))
     ∙ append_assoc (map parts_in made) (parts_in parts ∷ []) (map (parts_for language) (take m after))
     ∙ ap (λ (p : Parts). map parts_in made ++ p ∷ map (parts_for language) (take m after)) same

@@ -6,20 +6,25 @@ use Rattle.agc_text.specs.Fields.{runs}
 use Rattle.agc_text.specs.Lines.{lines}
 use Rattle.feed.specs.Statements.{parsed}
 use Rattle.yayul.specs.Operators.{operators}
+use Rattle.yayul.specs.Roles.{roles}
+use Rattle.yayul.specs.declared.faults.FaultKind.{FaultKind}
+use Rattle.yayul.specs.declared.faults.FaultKind.TheVariants.{PlaceTaken, TwiceDefined, Undefined, UsedTooEarly, WrongKindOfAddress}
 use Rattle.yayul.specs.declared.finding.Finding.{Finding}
+use Rattle.json_text.specs.declared.notation.Notation.TheVariants.{Text}
 use Rattle.yayul.specs.declared.language.Language.TheVariants.{Standard}
-use Rattle.faults.specs.Causes.{fault_cause}
+use Rattle.faults.specs.Causes.{cause_of_kind}
 use Rattle.faults.specs.Kinds.{kind_of_source}
 use Rattle.faults.specs.Warnings.{warnings}
-use Rattle.faults.specs.Report.{as_error, beside_text, count_text, report, shown_finding, shown_line, told_text}
+use Rattle.faults.specs.Report.{beside_text, count_text, report, shown_error, shown_line, told_text, warning_text}
+use Rattle.faults.specs.declared.told.Warning.{Warning}
 
 -- a source of lines, each but the last followed by a semicolon here
 abbrev source : List ℕ → List ℕ
 source text = map (λ byte. if byte == 0o73 then 0o12 else byte) text
 
 -- the line of a warning, its column from 1, how many bytes it marks, and its number
-abbrev row : Finding → ℕ × ℕ × ℕ × ℕ
-row f = (f.line, f.span.start + 1, f.span.width, f.number)
+abbrev row : Warning → ℕ × ℕ × ℕ × ℕ
+row w = (w.line, w.span.start + 1, w.span.width, w.number)
 
 -- sources with their warnings
 abbrev warned_rows : List (List ℕ × List (ℕ × ℕ × ℕ × ℕ))
@@ -49,6 +54,8 @@ warned_rows =
     ∷ (codes " SETLOC 2000;V ERASE; SETLOC 4000; TS V;D TCF D", (4, 5, 1, 6) ∷ [])
     ∷ (codes " SETLOC 2000;V ERASE; SETLOC 4000; TS 3; TS V;D TCF D", [])
     ∷ (codes "EB EQUALS 3; SETLOC 2000;V ERASE; SETLOC 4000; TS EB; TS V;D TCF D", [])
+    -- channels that are registers, by number and by name, and others
+    ∷ (codes " WRITE 1; WAND 2; WOR 02; WRITE 10; WRITE 3; WRITE 0; READ 1; ROR 2; WRITE L;L EQUALS 1;D TCF D", (1, 8, 1, 10) ∷ (2, 7, 1, 10) ∷ (3, 6, 2, 10) ∷ [])
     -- names of registers
     ∷ (codes " SETLOC 100;Q ERASE; SETLOC 4000; TS Q;D TCF D", (2, 1, 1, 7) ∷ [])
     ∷ (codes " SETLOC 0;A ERASE;Q ERASE; SETLOC 4000; TC A; TC Q", (3, 1, 1, 7) ∷ [])
@@ -56,63 +63,66 @@ warned_rows =
     ∷ []
 
 each_warned : map {B = List (ℕ × ℕ × ℕ × ℕ)} (λ r. map row (warnings Standard true (source r.0))) warned_rows ≡ map {B = List (ℕ × ℕ × ℕ × ℕ)} (λ r. r.1) warned_rows
-unfolding warnings runs operators lines
+unfolding warnings runs operators lines roles
 each_warned = refl
 
--- a finding of a line
-abbrev placed : ℕ → ℕ → Finding
-placed line number = record { line = line; number = number; span = record { start = 1; width = 2 }; taken_by = None }
+-- a fault of a line, and a warning
+abbrev placed : ℕ → FaultKind → Finding
+placed line kind = record { line = line; kind = kind; span = record { start = 1; width = 2 }; taken_by = None }
+
+abbrev warned : ℕ → ℕ → Warning
+warned line number = record { line = line; number = number; span = record { start = 1; width = 2 } }
 
 -- the faults of a line stand before its warnings, and the warnings of earlier lines before both
-shown_in_order : report Standard (codes "a") (source (codes " CA 5; TS FIV;Z")) (placed 2 17 ∷ placed 2 25 ∷ []) (placed 1 2 ∷ placed 2 3 ∷ placed 3 8 ∷ [])
-    ≡ source (codes "a:1:2: warning W2: 5 is the register or the counter of that number, and not the number;    1 |  CA 5;      |  ^^;"
-    ++ codes "      = a number has a line of its own: NAME OCT 5, and CA NAME;"
-    ++ codes "a:2:2: error E17: no line defines FIV;    2 |  TS FIV;      |  ^^;"
+shown_in_order : report Text Standard (codes "a") (source (codes " CA 5; TS FIV;Z")) (placed 2 Undefined ∷ placed 2 WrongKindOfAddress ∷ []) (warned 1 2 ∷ warned 2 3 ∷ warned 3 8 ∷ [])
+    ≡ source (codes "a:1:2: warning W2: an operand is an address: 5 is the register or the counter at place 5, and not the number;    1 |  CA 5;      |  ^^;"
+    ++ codes "      = the number has a line of its own, behind the last jump: NAME OCT 5 (or DEC and decimal digits), and here CA NAME;"
+    ++ codes "a:2:2: error E17: no line defines FIV;    2 |  TS FIV;      |  ^^;      = FIV ERASE, among lines after SETLOC 100, reserves a word of this name;"
     ++ codes "a:2:2: error E25: TS writes to erasable memory, and FIV is not there;    2 |  TS FIV;      |  ^^;"
     ++ codes "      = reserve the word there: SETLOC and a place below 4000, and ERASE;"
     ++ codes "a:2:2: warning W3: TS takes two words, and ERASE reserves one for FIV;    2 |  TS FIV;      |  ^^;      = FIV ERASE +1 reserves two;"
     ++ codes "a:3:2: warning W8: no operand names Z;    3 | Z;      |  ^;")
-unfolding report told_text fault_cause shown_line beside_text kind_of_source lines digits runs operators parsed
+unfolding report told_text cause_of_kind shown_line beside_text warning_text kind_of_source lines digits runs operators parsed roles
 shown_in_order = refl
 
 -- a symbol of the wrong kind is told with its line, and one that a later line defines is not taken for another
-told_with_lines : report Standard (codes "a") (source (codes " TS SUM;SUM OCT 0; SETLOC SUX;SUX OCT 1")) (placed 1 25 ∷ placed 3 18 ∷ []) []
+told_with_lines : report Text Standard (codes "a") (source (codes " TS SUM;SUM OCT 0; SETLOC SUX;SUX OCT 1")) (placed 1 WrongKindOfAddress ∷ placed 3 UsedTooEarly ∷ []) []
     ≡ source (codes "a:1:2: error E25: TS writes to erasable memory, and SUM, of line 2, is not there;    1 |  TS SUM;      |  ^^;"
     ++ codes "      = reserve the word there: SETLOC and a place below 4000, and ERASE;"
     ++ codes "a:3:2: error E18: SETLOC needs the value of SUX here, and line 4 defines it, which is below;    3 |  SETLOC SUX;      |  ^^;")
-unfolding report told_text fault_cause shown_line beside_text kind_of_source lines digits runs operators parsed
+unfolding report told_text cause_of_kind shown_line beside_text warning_text kind_of_source lines digits runs operators parsed roles
 told_with_lines = refl
 
 -- an E18 names the first of two lines below that define its symbol; one that its own line defines names none
-told_below : report Standard (codes "a") (source (codes " SETLOC SUX; OCT 1;SUX OCT 1;SUX OCT 2;P EQUALS P")) (placed 1 18 ∷ placed 5 18 ∷ []) []
+told_below : report Text Standard (codes "a") (source (codes " SETLOC SUX; OCT 1;SUX OCT 1;SUX OCT 2;P EQUALS P")) (placed 1 UsedTooEarly ∷ placed 5 UsedTooEarly ∷ []) []
     ≡ source (codes "a:1:2: error E18: SETLOC needs the value of SUX here, and line 3 defines it, which is below;    1 |  SETLOC SUX;      |  ^^;"
     ++ codes "a:5:2: error E18: EQUALS needs the value of P here, and no earlier line defines it;    5 | P EQUALS P;      |  ^^;")
-unfolding report told_text fault_cause shown_line beside_text kind_of_source lines digits runs operators parsed
+unfolding report told_text cause_of_kind shown_line beside_text warning_text kind_of_source lines digits runs operators parsed roles
 told_below = refl
 
 -- a label of a line that takes none defines nothing: neither above the line that does, nor below
-told_without_bare : report Standard (codes "a") (source (codes "SUM SETLOC 4000;SUM OCT 0; TS SUM; EBANK= P;P BANK 5")) (placed 3 25 ∷ placed 4 18 ∷ []) []
+told_without_bare : report Text Standard (codes "a") (source (codes "SUM SETLOC 4000;SUM OCT 0; TS SUM; EBANK= P;P BANK 5")) (placed 3 WrongKindOfAddress ∷ placed 4 UsedTooEarly ∷ []) []
     ≡ source (codes "a:3:2: error E25: TS writes to erasable memory, and SUM, of line 2, is not there;    3 |  TS SUM;      |  ^^;"
     ++ codes "      = reserve the word there: SETLOC and a place below 4000, and ERASE;"
     ++ codes "a:4:2: error E18: EBANK= needs the value of P here, and no earlier line defines it;    4 |  EBANK= P;      |  ^^;")
-unfolding report told_text fault_cause shown_line beside_text kind_of_source lines digits runs operators parsed
+unfolding report told_text cause_of_kind shown_line beside_text warning_text kind_of_source lines digits runs operators parsed roles
 told_without_bare = refl
 
 -- of a place that is taken the line is told whose word stands there, and where none is known what the fault is
-told_taken : report Standard (codes "a") (source (codes " OCT 1;X OCT 2; SETLOC 4000;X OCT 3")) (record (placed 4 21) { taken_by = Some 1 } ∷ placed 4 14 ∷ placed 4 21 ∷ []) []
+told_taken : report Text Standard (codes "a") (source (codes " OCT 1;X OCT 2; SETLOC 4000;X OCT 3")) (record (placed 4 PlaceTaken) { taken_by = Some 1 } ∷ placed 4 TwiceDefined ∷ placed 4 PlaceTaken ∷ []) []
     ≡ source (codes "a:4:2: error E21: line 1 has a word at this place already;    4 | X OCT 3;      |  ^^;"
     ++ codes "a:4:2: error E14: line 2 has the label X already;    4 | X OCT 3;      |  ^^;"
     ++ codes "a:4:2: error E21: a word stands at this place already;    4 | X OCT 3;      |  ^^;")
-unfolding report told_text fault_cause shown_line beside_text kind_of_source lines digits runs operators parsed
+unfolding report told_text cause_of_kind shown_line beside_text warning_text kind_of_source lines digits runs operators parsed roles
 told_taken = refl
 
 -- however many faults there are: without the labels of other lines too
-taken_alone : shown_finding Standard (codes "a") [] (lines (source (codes " 2CADR 4000; SETLOC 4001; OCT 2"))) (as_error (record (placed 3 21) { taken_by = Some 1 }))
+taken_alone : shown_error Text Standard (codes "a") [] (lines (source (codes " 2CADR 4000; SETLOC 4001; OCT 2"))) (record (placed 3 PlaceTaken) { taken_by = Some 1 })
     ≡ source (codes "a:3:2: error E21: line 1 has a word at this place already;    3 |  OCT 2;      |  ^^;")
-unfolding fault_cause shown_line beside_text lines digits runs
+unfolding cause_of_kind shown_line beside_text lines digits runs roles
 taken_alone = refl
 
 -- how many there are
-count_shown : count_text 2 3 ++ count_text 1 0 ≡ source (codes "2 errors, 3 warnings;1 error, 0 warnings;")
+count_shown : count_text Text 2 3 ++ count_text Text 1 0 ≡ source (codes "2 errors, 3 warnings;1 error, 0 warnings;")
 unfolding digits
 count_shown = refl

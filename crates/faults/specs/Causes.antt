@@ -1,5 +1,5 @@
 -- What a fault is in words, by its cause: a text with marks for the fields of its line, and its cure where one is sure.
-use Rattle.std.specs.Prelude.{ℕ, ◌+◌, ◌-◌, ◌==◌, ◌&&◌, ◌||◌, not, Bool, false, nat_lt, nat_le, List, [], ◌∷◌, ◌++◌, length, map, take, drop, Option, None, is_some, unwrap_or, codes, flat_map, slice_get, if◌then◌else◌}
+use Rattle.std.specs.Prelude.{ℕ, ◌+◌, ◌-◌, ◌==◌, ◌&&◌, ◌||◌, not, Bool, true, false, nat_lt, nat_le, List, [], ◌∷◌, ◌++◌, length, map, take, drop, Option, None, is_some, unwrap_or, codes, flat_map, slice_get, if◌then◌else◌}
 use Rattle.std.specs.List.{find, list_any}
 use Rattle.std.specs.Option.{option_map_or, option_or}
 use Rattle.agc_text.specs.Bytes.{line_length}
@@ -7,13 +7,19 @@ use Rattle.agc_text.specs.Digits.{digits_value}
 use Rattle.agc_text.specs.Fields.{Piece}
 use Rattle.agc_text.specs.Tables.{same_name, value_in}
 use Rattle.yayul.specs.Forms.{is_digits}
+use Rattle.yayul.specs.declared.faults.FaultKind.{FaultKind}
+use Rattle.yayul.specs.declared.faults.FaultKind.TheVariants.{BadBank, BadLabel, BadOperand, BankFull, CodeInErasable, LongLine, NeedsExtend, NoMemory, NotAscii, NotExtracode, OutOfRange, PlaceTaken, TooManyLines, TwiceDefined, Undefined, UnknownOperator, UsedTooEarly, WrongKindOfAddress}
 use Rattle.yayul.specs.declared.finding.Finding.{Finding}
+use Rattle.yayul.specs.declared.language.Language.TheVariants.{Standard}
+use Rattle.faults.specs.Roles.{is_block, is_decimal, is_erase, is_octal, leads_on_to, leads_to_fixed, names_bank, reads, reads_erasable, refuses_label, subtracts, takes_channel, takes_erasable_place, takes_fixed_place, takes_nothing, writes_erasable}
+use Rattle.yayul.specs.Readings.{Parts}
+use Rattle.yayul.specs.Roles.{is_operator_of, names_of_length}
 use Rattle.faults.specs.Refusals.{meaning}
 use Rattle.faults.specs.Registers.{registers}
 use Rattle.faults.specs.declared.nearness.Closeness.{Closeness}
 use Rattle.faults.specs.declared.nearness.Closeness.TheVariants.{AsLong, InCapitals, Near}
 use Rattle.faults.specs.Shown.{shown_byte}
-use Rattle.faults.specs.Warnings.{Parts, bank_operators, erase_operators, has_operator, is_among, is_short, operator_names}
+use Rattle.faults.specs.Warnings.{is_among, is_short}
 
 -- what is wrong, how it is mended or nothing, and a text that stands in either; and whether `--flight` takes what stands there
 pub record Cause : Type 0 where
@@ -80,10 +86,6 @@ is_signed text = begins 0o53 text || begins 0o55 text
 abbrev pub is_foreign_comment : List ℕ → Bool
 is_foreign_comment text = begins 0o73 text || begins 0o57 text
 
--- an operator's name
-abbrev pub is_operator : List ℕ → Bool
-is_operator text = is_among operator_names text
-
 -- decimal digits, one of them 8 or 9
 abbrev pub is_beyond_octal : List ℕ → Bool
 is_beyond_octal text = is_some (digits_value 10 text) && not (is_some (digits_value 8 text))
@@ -125,6 +127,12 @@ near_name names text =
     option_or (find (is_close InCapitals text) names)
     (if nat_le 3 (length text) then option_or (find (is_close AsLong text) names) (find (is_close Near text) names) else None)
 
+-- the operator's name that is near to a text: one as long, else one longer, else one shorter
+abbrev pub near_operator : List ℕ → Option (List ℕ)
+near_operator text =
+    option_or (near_name (names_of_length (length text)) text)
+    (option_or (near_name (names_of_length (length text + 1)) text) (near_name (names_of_length (length text - 1)) text))
+
 -- operators of other machines, and what stands for them
 abbrev pub foreign_operators : List (List ℕ × List ℕ)
 foreign_operators =
@@ -157,64 +165,6 @@ foreign_operators =
     ∷ (codes "2OCT", codes "two words: an OCT for each")
     ∷ []
 
--- ## Classes of operators
--- operators that take no label
-abbrev pub label_refusers : List (List ℕ)
-label_refusers =
-    codes "SETLOC" ∷ codes "BANK" ∷ codes "BLOCK" ∷ codes "EBANK=" ∷ []
-
--- OCT
-abbrev pub octal_operators : List (List ℕ)
-octal_operators =
-    codes "OCT" ∷ []
-
--- DEC
-abbrev pub decimal_operators : List (List ℕ)
-decimal_operators =
-    codes "DEC" ∷ []
-
--- BLOCK
-abbrev pub block_operators : List (List ℕ)
-block_operators =
-    codes "BLOCK" ∷ []
-
--- those that take no operand
-abbrev pub plain_operators : List (List ℕ)
-plain_operators =
-    codes "RELINT" ∷ codes "INHINT" ∷ codes "EXTEND" ∷ codes "RESUME" ∷ codes "XXALQ" ∷ codes "XLQ" ∷ codes "RETURN" ∷ codes "DDOUBL" ∷ codes "ZL" ∷
-    codes "COM" ∷ codes "DTCF" ∷ codes "DTCB" ∷ codes "OVSK" ∷ codes "TCAA" ∷ codes "DOUBLE" ∷ codes "ZQ" ∷ codes "DCOM" ∷ codes "SQUARE" ∷
-    codes "NOOP" ∷ []
-
--- those that take a channel
-abbrev pub channel_operators : List (List ℕ)
-channel_operators =
-    codes "READ" ∷ codes "WRITE" ∷ codes "RAND" ∷ codes "WAND" ∷ codes "ROR" ∷ codes "WOR" ∷ codes "RXOR" ∷ []
-
--- those that take an erasable place
-abbrev pub erasable_operators : List (List ℕ)
-erasable_operators =
-    codes "EBANK=" ∷ codes "ECADR" ∷ []
-
--- those that take a fixed place
-abbrev pub fixed_operators : List (List ℕ)
-fixed_operators =
-    codes "CADR" ∷ codes "FCADR" ∷ codes "2CADR" ∷ codes "CAF" ∷ []
-
--- those that take an address of fixed memory
-abbrev pub jump_operators : List (List ℕ)
-jump_operators =
-    codes "TCF" ∷ codes "BZF" ∷ codes "BZMF" ∷ []
-
--- those that write a word of erasable memory
-abbrev pub writers : List (List ℕ)
-writers =
-    codes "TS" ∷ codes "XCH" ∷ codes "LXCH" ∷ codes "QXCH" ∷ codes "DXCH" ∷ codes "INCR" ∷ codes "ADS" ∷ codes "DAS" ∷ codes "AUG" ∷ codes "DIM" ∷ []
-
--- those that read a word of erasable memory alone
-abbrev pub erasable_readers : List (List ℕ)
-erasable_readers =
-    codes "CCS" ∷ codes "INDEX" ∷ codes "NDX" ∷ codes "CAE" ∷ codes "SU" ∷ codes "DV" ∷ codes "MSU" ∷ []
-
 -- a text has the form of a label
 abbrev pub is_label : List ℕ → Bool
 is_label text = is_short text && not (holds 0o44 text) && not (is_signed text) && not (is_digits text)
@@ -229,6 +179,10 @@ is_decimal_bank parts = option_map_or (λ n. nat_lt n 0o44) (digits_value 10 (te
 -- the offset is a sign, behind which a field stands
 abbrev pub has_parted_offset : Parts → Bool
 has_parted_offset parts = parts.more && (same_name (text_of parts.offset) (codes "+") || same_name (text_of parts.offset) (codes "-"))
+
+-- several numbers stand for one: with a comma behind the first, or with blanks between them
+abbrev pub lists_numbers : Parts → Bool
+lists_numbers parts = (is_octal parts.role || is_decimal parts.role) && (holds 0o54 (text_of parts.operand) || is_digits (text_of parts.offset))
 
 -- ## Causes
 -- E11: a line that is too long; a comment that begins where a line may still go on can be parted
@@ -254,7 +208,7 @@ byte_cause text place =
 abbrev pub label_cause : Parts → Cause
 label_cause parts =
     if not (is_some parts.label) then cured (codes "% gives a name its value, and no name stands in the first column") (codes "NAME % @")
-    else if has_operator label_refusers parts then (if is_label (text_of parts.label) then cured (codes "% takes no label") (codes "put & on the next line") else said (codes "% takes no label"))
+    else if refuses_label parts.role then (if is_label (text_of parts.label) then cured (codes "% takes no label") (codes "put & on the next line") else said (codes "% takes no label"))
     else if holds 0o44 (text_of parts.label) then said (codes "& has a $, which no label may have")
     else if is_signed (text_of parts.label) then said (codes "& begins with a sign, as no label may")
     else if is_short (text_of parts.label) then said (codes "& is a number, and no label")
@@ -263,22 +217,23 @@ label_cause parts =
 -- E15: what is no operator
 abbrev pub operator_cause : Parts → Cause
 operator_cause parts =
-    if is_operator (text_of parts.label) then cured (codes "& stands in the first column, so it is a label, and % is taken for the operator") (codes "put a blank before &")
+    if is_operator_of Standard (text_of parts.label) then cured (codes "& stands in the first column, so it is a label, and % is taken for the operator") (codes "put a blank before &")
     else if is_foreign_comment (text_of parts.operator) then cured (codes "% is no operator") (codes "a comment begins with #")
-    else if not (is_some parts.label) && is_operator (text_of parts.operand) then cured (codes "% is no operator") (codes "a label begins in the first column: no blank before %")
+    else if not (is_some parts.label) && is_operator_of Standard (text_of parts.operand) then cured (codes "% is no operator") (codes "a label begins in the first column: no blank before %")
     else if is_some (value_in foreign_operators (text_of parts.operator)) then cured_by (codes "% is no operator of this assembler") (codes "!") (unwrap_or (value_in foreign_operators (text_of parts.operator)) [])
-    else if is_some (near_name operator_names (text_of parts.operator)) then cured_by (codes "% is no operator") (codes "did you mean !?") (unwrap_or (near_name operator_names (text_of parts.operator)) [])
+    else if is_some (near_operator (text_of parts.operator)) then cured_by (codes "% is no operator") (codes "did you mean !?") (unwrap_or (near_operator (text_of parts.operator)) [])
     else said (codes "% is no operator")
 
 -- E16, of an operator that takes digits, or a bank
 abbrev pub digits_cause : Parts → Cause
 digits_cause parts =
-    if is_some parts.offset then cured (codes "% takes one number, and nothing after it") (codes "a comment begins with #")
-    else if has_operator octal_operators parts && is_signed (text_of parts.operand) then cured (codes "OCT takes no sign") (codes "DEC takes one; a minus complements the word")
-    else if has_operator octal_operators parts then cured (codes "OCT takes octal digits, 0 to 7, and @ is no such number") (codes "DEC takes decimal digits")
-    else if has_operator decimal_operators parts then said (codes "DEC takes a whole number, or a fraction of 1 to 9 decimals as .75, and @ is neither")
+    if lists_numbers parts then cured (codes "% takes one number, and nothing after it") (codes "a line for each number")
+    else if is_some parts.offset then cured (codes "% takes one number, and nothing after it") (codes "a comment begins with #")
+    else if is_octal parts.role && is_signed (text_of parts.operand) then cured (codes "OCT takes no sign") (codes "DEC takes one; a minus complements the word")
+    else if is_octal parts.role then cured (codes "OCT takes octal digits, 0 to 7, and @ is no such number") (codes "DEC takes decimal digits")
+    else if is_decimal parts.role then said (codes "DEC takes a whole number, or a fraction of 1 to 9 decimals as .75, and @ is neither")
     else if is_beyond_octal (text_of parts.operand) then
-    (if is_decimal_bank parts && not (has_operator block_operators parts) then cured (codes "banks are octal, and @ has a digit 8 or 9") (codes "% @D takes it as decimal") else said (codes "banks are octal, and @ has a digit 8 or 9"))
+    (if is_decimal_bank parts && not (is_block parts.role) then cured (codes "banks are octal, and @ has a digit 8 or 9") (codes "% @D takes it as decimal") else said (codes "banks are octal, and @ has a digit 8 or 9"))
     else said (codes "% takes a bank's number, and @ is none")
 
 -- E16, of an operator that takes a place or a value
@@ -296,10 +251,10 @@ place_cause parts =
 abbrev pub operand_cause : Parts → Cause
 operand_cause parts =
     if has_foreign_comment parts then cured (codes "the operand does not end where a comment was meant to begin") (codes "a comment begins with #")
-    else if has_operator plain_operators parts then cured (codes "% takes no operand") (codes "a comment begins with #")
-    else if has_operator erase_operators parts then cured (codes "ERASE takes nothing, or a plus sign and a number") (codes "ERASE reserves one word, ERASE +1 two")
+    else if takes_nothing parts.role then cured (codes "% takes no operand") (codes "a comment begins with #")
+    else if is_erase parts.role then cured (codes "ERASE takes nothing, or a plus sign and a number") (codes "ERASE reserves one word, ERASE +1 two")
     else if not (is_some parts.operand) then said (codes "% needs an operand")
-    else if has_operator octal_operators parts || has_operator decimal_operators parts || has_operator bank_operators parts then digits_cause parts
+    else if is_octal parts.role || is_decimal parts.role || names_bank parts.role then digits_cause parts
     else place_cause parts
 
 -- a plus or a minus sign stands behind the first byte, with which a name of a flight program may begin
@@ -314,10 +269,29 @@ symbol_cause words near parts =
     else if begins 0o75 (text_of parts.operand) then cured words (codes "a constant has a line of its own, whose label is the operand")
     else if holds_sign (text_of parts.operand) then cured words (codes "@ is one name; a blank stands before an offset")
     else if near then cured words (codes "did you mean ~?")
+    else if holds 0o72 (text_of parts.operand) then cured words (codes "@ is one name, its colon too; a label has no colon")
     else said words
 
+-- the cure of a symbol that a label with a colon is near to: not that name, where the symbol has no colon
+abbrev pub without_colon : List ℕ → Parts → Cause → Cause
+without_colon near parts c =
+    if holds 0o72 near && not (holds 0o72 (text_of parts.operand)) then cured c.words (codes "~ is one name, its colon too; a label has no colon") else c
+
+-- a register's name, or a text that is told by a byte in it to be meant otherwise
+abbrev pub is_another_form : Parts → Bool
+is_another_form parts = is_some (value_in registers (text_of parts.operand)) || holds 0o54 (text_of parts.operand) || begins 0o75 (text_of parts.operand) || holds_sign (text_of parts.operand) || holds 0o72 (text_of parts.operand)
+
+-- E17: how a symbol is defined, by the operator that takes it
+abbrev pub definition_cause : Parts → Cause
+definition_cause parts =
+    if writes_erasable parts.role || reads_erasable parts.role then cured (codes "no line defines @") (codes "@ ERASE, among lines after SETLOC 100, reserves a word of this name")
+    else if takes_channel parts.role then cured (codes "no line defines @") (codes "@ EQUALS and an octal number give a channel this name")
+    else if leads_on_to parts.role then cured (codes "no line defines @") (codes "@ in the first column of the line to which % is to lead")
+    else if reads parts.role then cured (codes "no line defines @") (codes "of a number: @ DEC 5, behind the last jump, and of a word that changes: @ ERASE, after SETLOC 100")
+    else said (codes "no line defines @")
+
 abbrev pub undefined_cause : Bool → Parts → Cause
-undefined_cause near parts = symbol_cause (codes "no line defines @") near parts
+undefined_cause near parts = if near || is_another_form parts then symbol_cause (codes "no line defines @") near parts else definition_cause parts
 
 abbrev pub early_cause : Bool → Parts → Cause
 early_cause near parts = symbol_cause (codes "% needs the value of @ here, and no earlier line defines it") near parts
@@ -329,69 +303,80 @@ below_cause = said (codes "% needs the value of @ here, and line ~ defines it, w
 -- E19: a bank that the operator does not take
 abbrev pub bank_cause : Parts → Cause
 bank_cause parts =
-    if has_operator block_operators parts then (if is_octal_bank parts then cured (codes "BLOCK takes 2 and 3, and @ is neither") (codes "BANK @") else said (codes "BLOCK takes 2 and 3, and @ is neither"))
+    if is_block parts.role then (if is_octal_bank parts then cured (codes "BLOCK takes 2 and 3, and @ is neither") (codes "BANK @") else said (codes "BLOCK takes 2 and 3, and @ is neither"))
     else said (codes "banks are 0 to 43 in octal, and @ is none")
 
 -- E20: past the end
 abbrev pub room_cause : Parts → Cause
 room_cause parts =
-    if has_operator erase_operators parts then said (codes "ERASE passes the end of erasable memory, 3777")
+    if is_erase parts.role then said (codes "ERASE passes the end of erasable memory, 3777")
     else if not (is_some parts.operator) then said (codes "& stands past the end of its bank, or of erasable memory")
     else cured (codes "this stands past the last word of its bank, or of erasable memory") (codes "go on in another bank: BANK or SETLOC")
 
 -- E25: another kind of place, or a channel
 abbrev pub kind_cause : Parts → Cause
 kind_cause parts =
-    if has_operator erase_operators parts then cured (codes "ERASE reserves erasable words, and the location is in fixed memory") (codes "SETLOC and a place below 4000 before it")
-    else if has_operator channel_operators parts then said (codes "% takes a channel, 0 to 777, and @^ is none")
-    else if has_operator erasable_operators parts then said (codes "% takes an erasable place, and @^ is none")
-    else if has_operator fixed_operators parts then said (codes "% takes a fixed place, and @^ is none")
-    else if has_operator jump_operators parts then said (codes "% leads to fixed memory, 2000 and up, and @^ is not there")
-    else if has_operator writers parts then cured (codes "% writes to erasable memory, and @^ is not there") (codes "reserve the word there: SETLOC and a place below 4000, and ERASE")
-    else if has_operator erasable_readers parts then cured (codes "% takes a word of erasable memory, and @^ is not there") (codes "copy the word to erasable memory first")
+    if is_erase parts.role then cured (codes "ERASE reserves erasable words, and the location is in fixed memory") (codes "SETLOC and a place below 4000 before it")
+    else if takes_channel parts.role then said (codes "% takes a channel, 0 to 777, and @^ is none")
+    else if takes_erasable_place parts.role then said (codes "% takes an erasable place, and @^ is none")
+    else if takes_fixed_place parts.role then said (codes "% takes a fixed place, and @^ is none")
+    else if leads_to_fixed parts.role then said (codes "% leads to fixed memory, 2000 and up, and @^ is not there")
+    else if writes_erasable parts.role then cured (codes "% writes to erasable memory, and @^ is not there") (codes "reserve the word there: SETLOC and a place below 4000, and ERASE")
+    else if subtracts parts.role then cured (codes "% takes a word of erasable memory, and @^ is not there") (codes "CS @ and AD subtract a constant: X less @ is CS @, AD X, without EXTEND")
+    else if reads_erasable parts.role then cured (codes "% takes a word of erasable memory, and @^ is not there") (codes "copy the word to erasable memory first")
     else said (meaning 25)
 
 -- E26: a number out of its range
 abbrev pub range_cause : Parts → Cause
 range_cause parts =
-    if has_operator octal_operators parts then said (codes "a word holds 77777 at most, and @ is more")
-    else if has_operator decimal_operators parts && holds 0o56 (text_of parts.operand) then said (codes "a fraction of a word comes to less than 1 in 14 bits, and @ does not")
-    else if has_operator decimal_operators parts then said (codes "a word holds -16383 to 16383, and @ is beyond")
-    else if has_operator plain_operators parts then said (codes "% goes to the next word, and this is the last of its bank")
+    if is_octal parts.role then said (codes "a word holds 77777 at most, and @ is more")
+    else if is_decimal parts.role && holds 0o56 (text_of parts.operand) then said (codes "a fraction of a word comes to less than 1 in 14 bits, and @ does not")
+    else if is_decimal parts.role then said (codes "a word holds -16383 to 16383, and @ is beyond")
+    else if takes_nothing parts.role then said (codes "% goes to the next word, and this is the last of its bank")
     else if is_some parts.offset || is_signed (text_of parts.operand) then said (codes "this leads out of its bank, or of the numbers")
     else said (codes "@ is past the last address or number")
 
--- the label that is near to the symbol of a fault which no line, or no earlier one, defines; none where a later line does
-abbrev pub near_label : List (List ℕ) → Parts → Finding → Option (List ℕ)
-near_label labels parts f =
-    if (f.number == 17 || f.number == 18) && not (is_among labels (text_of parts.operand)) then near_name labels (text_of parts.operand) else None
+-- a fault of a symbol that no line, or no earlier one, defines
+abbrev pub is_of_symbol : FaultKind → Bool
+is_of_symbol Undefined = true
+is_of_symbol UsedTooEarly = true
+is_of_symbol _ = false
 
--- a fault of a line with some fields in words, where a text from other lines stands for `~` or none does
-unfoldable pub fault_cause : Bool → List ℕ → Parts → Finding → Cause
-fault_cause near text parts f =
-    if f.number == 10 then byte_cause text f.span.start
-    else if f.number == 11 then long_cause text
-    else if f.number == 13 then label_cause parts
-    else if f.number == 14 then (if near then said (codes "line ~ has the label & already") else said (codes "an earlier line has the label &"))
-    else if f.number == 15 then operator_cause parts
-    else if f.number == 16 then operand_cause parts
-    else if f.number == 17 then undefined_cause near parts
-    else if f.number == 18 then early_cause near parts
-    else if f.number == 19 then bank_cause parts
-    else if f.number == 20 then room_cause parts
-    else if f.number == 21 && near then said (codes "line ~ has a word at this place already")
-    else if f.number == 22 then cured (meaning 22) (codes "SETLOC and a fixed place, or BANK, before it")
-    else if f.number == 23 then cured (codes "% is an extracode, and EXTEND does not stand before it") (codes "EXTEND on the line before, behind a blank")
-    else if f.number == 24 then cured (codes "EXTEND stands before %, which is no extracode") (codes "take EXTEND out")
-    else if f.number == 25 then kind_cause parts
-    else if f.number == 26 then range_cause parts
-    else said (meaning f.number)
+-- the label that is near to the symbol of such a fault; none where a later line defines it
+abbrev pub near_label : List (List ℕ) → Parts → FaultKind → Option (List ℕ)
+near_label labels parts kind =
+    if is_of_symbol kind && not (is_among labels (text_of parts.operand)) then near_name labels (text_of parts.operand) else None
+
+-- a fault of a kind of a line with some fields in words, from a place on, where a text from other lines stands for `~` or none does
+unfoldable pub cause_of_kind : Bool → List ℕ → Parts → ℕ → FaultKind → Cause
+cause_of_kind near text parts place NoMemory = said (meaning 2)
+cause_of_kind near text parts place NotAscii = byte_cause text place
+cause_of_kind near text parts place LongLine = long_cause text
+cause_of_kind near text parts place TooManyLines = said (meaning 12)
+cause_of_kind near text parts place BadLabel = label_cause parts
+cause_of_kind near text parts place TwiceDefined = if near then said (codes "line ~ has the label & already") else said (codes "an earlier line has the label &")
+cause_of_kind near text parts place UnknownOperator = operator_cause parts
+cause_of_kind near text parts place BadOperand = operand_cause parts
+cause_of_kind near text parts place Undefined = undefined_cause near parts
+cause_of_kind near text parts place UsedTooEarly = early_cause near parts
+cause_of_kind near text parts place BadBank = bank_cause parts
+cause_of_kind near text parts place BankFull = room_cause parts
+cause_of_kind near text parts place PlaceTaken = if near then said (codes "line ~ has a word at this place already") else said (meaning 21)
+cause_of_kind near text parts place CodeInErasable = cured (meaning 22) (codes "SETLOC and a fixed place, or BANK, before it")
+cause_of_kind near text parts place NeedsExtend = cured (codes "% is an extracode, and EXTEND does not stand before it") (codes "EXTEND on the line before, behind a blank")
+cause_of_kind near text parts place NotExtracode = cured (codes "EXTEND stands before %, which is no extracode") (codes "take EXTEND out")
+cause_of_kind near text parts place WrongKindOfAddress = kind_cause parts
+cause_of_kind near text parts place OutOfRange = range_cause parts
+
+-- a fault of a line
+abbrev pub fault_cause : Bool → List ℕ → Parts → Finding → Cause
+fault_cause near text parts f = cause_of_kind near text parts f.span.start f.kind
 
 -- 2: a number that is read as a register; some operators take no constant, which stands in fixed memory
 abbrev pub number_cause : Parts → Cause
 number_cause parts =
-    if has_operator erasable_readers parts then cured (codes "@ is the register or the counter of that number, and not the number") (codes "a number has a line of its own: NAME OCT @, and CA NAME and TS copy it to where % takes it")
-    else cured (codes "@ is the register or the counter of that number, and not the number") (codes "a number has a line of its own: NAME OCT @, and % NAME")
+    if reads_erasable parts.role then cured (codes "an operand is an address: @ is the register or the counter at place @, and not the number") (codes "the number has a line of its own, behind the last jump: NAME OCT @, and CA NAME and TS copy it to where % takes it")
+    else cured (codes "an operand is an address: @ is the register or the counter at place @, and not the number") (codes "the number has a line of its own, behind the last jump: NAME OCT @ (or DEC and decimal digits), and here % NAME")
 
 -- a warning of a line with some fields in words
 abbrev pub warning_cause : Parts → ℕ → Cause
@@ -405,4 +390,5 @@ warning_cause parts number =
     else if number == 7 then cured_by (codes "& is a register's name, and stands for another place here") (codes "& EQUALS ! is the register") (unwrap_or (value_in registers (text_of parts.label)) [])
     else if number == 8 then said (codes "no operand names &")
     else if number == 9 then cured (codes "@ stands in a switched bank of fixed memory, and no line sets FB") (codes "NAME FCADR @ on a line of its own; before this CA NAME, and TS 4, which is FB; for banks 40 to 43 WRITE 7 of 100 too")
+    else if number == 10 then cured (codes "channel @ is a register, L or Q, and nothing goes out") (codes "another channel, or, where the register is meant, its name: L EQUALS 1, Q EQUALS 2")
     else said []

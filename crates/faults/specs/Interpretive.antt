@@ -3,13 +3,17 @@ use Rattle.std.specs.Prelude.{ℕ, ◌+◌, ◌==◌, ◌&&◌, ◌||◌, not, B
 use Rattle.std.specs.List.{position_or_len}
 use Rattle.std.specs.Option.{option_map_or}
 use Rattle.agc_text.specs.Fields.{fields}
+use Rattle.agc_text.specs.Tables.{same_name}
 use Rattle.yayul.specs.Flight.{is_count}
+use Rattle.yayul.specs.declared.faults.FaultKind.{FaultKind}
+use Rattle.yayul.specs.declared.faults.FaultKind.TheVariants.{UnknownOperator}
 use Rattle.yayul.specs.declared.finding.Finding.{Finding}
 use Rattle.yayul.specs.declared.language.Language.{Language}
 use Rattle.yayul.specs.declared.language.Language.TheVariants.{Flight, Standard}
-use Rattle.faults.specs.Causes.{Cause, said}
+use Rattle.yayul.specs.Readings.{Parts, parts_for}
+use Rattle.faults.specs.Causes.{Cause, said, text_of}
 use Rattle.faults.specs.Shown.{text_at}
-use Rattle.faults.specs.Warnings.{Parts, has_operator, parts_for}
+use Rattle.faults.specs.Warnings.{has_operator}
 
 -- ## Operators
 -- the operators of the interpretive language that are known for sure: those that store, those that load, those of numbers, those of vectors, those that shift, those that go on elsewhere,
@@ -32,19 +36,20 @@ interpretive_operators =
     codes "AXT,1" ∷ codes "AXT,2" ∷ codes "AXC,1" ∷ codes "AXC,2" ∷ codes "LXA,1" ∷ codes "LXA,2" ∷ codes "LXC,1" ∷ codes "LXC,2" ∷ codes "SXA,1" ∷ codes "SXA,2" ∷ codes "XCHX,1" ∷ codes "XCHX,2" ∷
     codes "INCR,1" ∷ codes "INCR,2" ∷ codes "XAD,1" ∷ codes "XAD,2" ∷ codes "XSU,1" ∷ codes "XSU,2" ∷ codes "TIX,1" ∷ codes "TIX,2" ∷ codes "SSP" ∷ []
 
--- that after which lines of the machine's own language stand
-abbrev pub exit_operators : List (List ℕ)
-exit_operators = codes "EXIT" ∷ []
-
 -- ## Lines
 -- the fields of a line of a flight source, by its number
 abbrev pub parts_at : List (List ℕ) → ℕ → Parts
 parts_at texts line = parts_for Flight (text_at texts line)
 
+-- a fault that an operator is none
+abbrev pub is_of_operator : FaultKind → Bool
+is_of_operator UnknownOperator = true
+is_of_operator _ = false
+
 -- a fault of an operator of the interpretive language, which is none of a flight source
 abbrev pub is_interpretive : Language → List (List ℕ) → Finding → Bool
 is_interpretive Standard texts f = false
-is_interpretive Flight texts f = f.number == 15 && has_operator interpretive_operators (parts_at texts f.line)
+is_interpretive Flight texts f = is_of_operator f.kind && has_operator interpretive_operators (parts_at texts f.line)
 
 -- one field stands on a line, or one and an offset, behind a blank
 abbrev pub is_operand_alone : Parts → Bool
@@ -58,14 +63,18 @@ has_field text = not (length (fields text) == 0)
 abbrev pub next_said : List (List ℕ) → ℕ → ℕ
 next_said texts line = line + position_or_len has_field (drop line texts) + 1
 
+-- EXIT, after which lines of the machine's own language stand
+abbrev pub is_exit : Parts → Bool
+is_exit parts = same_name (text_of parts.operator) (codes "EXIT")
+
 -- the number of the line on which an operand of the interpretive language may stand, after a line of that; 0 after EXIT
 abbrev pub operand_line : List (List ℕ) → ℕ → ℕ
-operand_line texts line = if has_operator exit_operators (parts_at texts line) then 0 else next_said texts line
+operand_line texts line = if is_exit (parts_at texts line) then 0 else next_said texts line
 
 -- a fault of a line of the interpretive language, an operand of which may stand on another
 abbrev pub is_of_interpreter : List (List ℕ) → ℕ → Finding → Bool
 is_of_interpreter texts operand f =
-    is_interpretive Flight texts f || (f.number == 15 && f.line == operand && is_operand_alone (parts_at texts f.line))
+    is_interpretive Flight texts f || (is_of_operator f.kind && f.line == operand && is_operand_alone (parts_at texts f.line))
 
 -- ## Faults
 -- those of some faults that are not of its lines, where its operand may stand on a line

@@ -1,12 +1,15 @@
 pub mod Refusals
+pub mod Roles
 pub mod Warnings
 pub mod Shown
 pub mod Causes
 pub mod FlightCauses
 pub mod Interpretive
 pub mod Views
+pub mod Mending
+pub mod Objects
 pub mod Report
-pub mod Slips
+pub mod FeedCauses
 pub mod FeedReport
 pub mod Kinds
 pub mod Registers

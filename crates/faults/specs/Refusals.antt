@@ -1,10 +1,10 @@
 -- What the numbers of refusals mean.
-use Rattle.std.specs.Prelude.{ℕ, ◌==◌, Bool, List, [], ◌∷◌, ◌++◌, codes, decimal, if◌then◌else◌}
+use Rattle.std.specs.Prelude.{ℕ, ◌==◌, Bool, List, [], ◌∷◌, ◌++◌, codes, decimal, flat_map, if◌then◌else◌}
 use Rattle.std.specs.List.{list_any}
 
 -- the numbers
 abbrev pub numbers : List ℕ
-numbers = 2 ∷ 3 ∷ 4 ∷ 5 ∷ 6 ∷ 7 ∷ 10 ∷ 11 ∷ 12 ∷ 13 ∷ 14 ∷ 15 ∷ 16 ∷ 17 ∷ 18 ∷ 19 ∷ 20 ∷ 21 ∷ 22 ∷ 23 ∷ 24 ∷ 25 ∷ 26 ∷ 30 ∷ 31 ∷ 32 ∷ 33 ∷ 34 ∷ 35 ∷ 36 ∷ []
+numbers = 2 ∷ 3 ∷ 4 ∷ 5 ∷ 6 ∷ 7 ∷ 10 ∷ 11 ∷ 12 ∷ 13 ∷ 14 ∷ 15 ∷ 16 ∷ 17 ∷ 18 ∷ 19 ∷ 20 ∷ 21 ∷ 22 ∷ 23 ∷ 24 ∷ 25 ∷ 26 ∷ 30 ∷ 31 ∷ 32 ∷ 33 ∷ 34 ∷ 35 ∷ 36 ∷ 40 ∷ 41 ∷ 42 ∷ 50 ∷ 51 ∷ 52 ∷ []
 
 abbrev pub is_told : ℕ → Bool
 is_told number = list_any (λ n. n == number) numbers
@@ -42,6 +42,12 @@ meaning number =
     else if number == 34 then codes "a source, a feed or a table of names has more than 8,388,608 bytes"
     else if number == 35 then codes "the feed has more than 16 series"
     else if number == 36 then codes "a line of the table of names is no name with its place"
+    else if number == 40 then codes "a session makes no more steps than 1,099,511,627,774"
+    else if number == 41 then codes "the session has not made this step yet"
+    else if number == 42 then codes "the cycle of the input has passed already"
+    else if number == 50 then codes "the line is no command of the session"
+    else if number == 51 then codes "the command has more than 80 bytes"
+    else if number == 52 then codes "16 breakpoints stand, and there are no more"
     else []
 
 -- a number, and what it means
@@ -50,7 +56,7 @@ heading number = codes "E" ++ decimal number ++ codes ": " ++ meaning number ++ 
 
 -- the numbers of warnings
 abbrev pub warning_numbers : List ℕ
-warning_numbers = 1 ∷ 2 ∷ 3 ∷ 4 ∷ 5 ∷ 6 ∷ 7 ∷ 8 ∷ 9 ∷ []
+warning_numbers = 1 ∷ 2 ∷ 3 ∷ 4 ∷ 5 ∷ 6 ∷ 7 ∷ 8 ∷ 9 ∷ 10 ∷ []
 
 abbrev pub is_warned : ℕ → Bool
 is_warned number = list_any (λ n. n == number) warning_numbers
@@ -67,8 +73,35 @@ warning_meaning number =
     else if number == 7 then codes "a register's name stands for another place"
     else if number == 8 then codes "no operand names a label"
     else if number == 9 then codes "a switched bank of fixed memory is reached, and no line sets FB"
+    else if number == 10 then codes "a word is written on a channel that is a register, and does not go out"
     else []
 
 -- the number of a warning, and what it means
 abbrev pub warning_heading : ℕ → List ℕ
 warning_heading number = codes "W" ++ decimal number ++ codes ": " ++ warning_meaning number ++ codes "\n"
+
+-- what each kind of `run --notes` means, in a line
+abbrev pub note_meanings : List (List ℕ × List ℕ)
+note_meanings =
+    (codes "QUOTIENT", codes "the quotient of DV does not fit")
+    ∷ (codes "SKIP", codes "TS has found overflow in A, and has left out the next instruction")
+    ∷ (codes "NOWORD", codes "a word is executed in fixed memory where none stands")
+    ∷ (codes "ERASABLE", codes "a word is executed in erasable memory")
+    ∷ (codes "NOHANDLER", codes "an interrupt is entered where no word stands")
+    ∷ (codes "OTHERBANK", codes "an erasable symbol is reached in another bank than its own")
+    ∷ (codes "INSIDE", codes "the run ends within an interrupt")
+    ∷ (codes "WAITING", codes "an interrupt is asked for, and is not entered for 853 cycles or more")
+    ∷ (codes "NOTKEPT", codes "a handler ends, and a register is not what it was at its entry")
+    ∷ (codes "MINUSZERO", codes "CCS has found -0, and has taken its fourth way")
+    ∷ (codes "UNREAD", codes "an input comes on a channel that no instruction has read")
+    ∷ (codes "OVERWRITTEN", codes "an input comes on a channel before the one before it was read")
+    ∷ (codes "SHARED", codes "the program itself comes by a handler, or goes on into one")
+    ∷ []
+
+-- a kind, and what it means
+abbrev pub note_heading : List ℕ × List ℕ → List ℕ
+note_heading row = row.0 ++ codes ": " ++ row.1 ++ codes "\n"
+
+-- what is listed of the kinds
+abbrev pub note_headings : List ℕ
+note_headings = flat_map note_heading note_meanings

@@ -4,9 +4,11 @@ use Rattle.std.specs.Borrow.{Bor}
 use Rattle.faults.specs.Causes.{Cause}
 use Rattle.faults.specs.declared.causes.Cause.{Cause as Told}
 use Rattle.faults.specs.FeedReport.{Wrong}
-use Rattle.faults.specs.Slips.{Slip}
 use Rattle.faults.specs.declared.feeds.Wrong.{Wrong as Found}
-use Rattle.faults.specs.declared.slips.Slip.{Slip as Slipped}
+use Rattle.faults.specs.Mending.{Mend}
+use Rattle.faults.specs.declared.mending.Mend.{Mend as Edit}
+use Rattle.faults.specs.Objects.{Place}
+use Rattle.faults.specs.declared.objects.Place.{Place as Seen}
 
 -- a cause without where its texts lie in memory
 abbrev pub cause_in : Told → Cause
@@ -16,10 +18,14 @@ cause_in c = record { words = c.words.now; cure = c.cure.now; other = c.other.no
 abbrev pub entries : List (Bor (List ℕ) × Bor (List ℕ)) → List (List ℕ × List ℕ)
 entries table = map (λ e. (e.0.now, e.1.now)) table
 
--- a slip without where its texts lie in memory
-abbrev pub slip_in : Slipped → Slip
-slip_in s = record { place = s.place; cause = cause_in s.cause }
-
 -- what is told of a line without where its texts lie in memory
 abbrev pub wrong_in : Found → Wrong
 wrong_in w = record { span = w.span; beside = w.beside.now; cause = cause_in w.cause }
+
+-- an edit without where its text lies in memory
+abbrev pub mend_in : Edit → Mend
+mend_in m = record { at = m.at; put = m.put.now; is_sure = m.is_sure }
+
+-- some bytes of a line without where it lies in memory
+abbrev pub place_in : Seen → Place
+place_in p = record { line = p.line; text = p.text.now; span = p.span }

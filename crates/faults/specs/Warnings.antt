@@ -3,18 +3,16 @@ use Rattle.std.specs.Prelude.{ℕ, ◌+◌, ◌-◌, ◌%◌, ◌==◌, ◌&&◌
 use Rattle.std.specs.List.{fold, list_any}
 use Rattle.std.specs.Option.{option_map, option_map_or}
 use Rattle.agc_text.specs.Digits.{digits_value, sized}
-use Rattle.agc_text.specs.Fields.{Piece, fields, label_of, others_of}
-use Rattle.agc_text.specs.Views.{piece}
+use Rattle.agc_text.specs.Fields.{Piece}
 use Rattle.agc_text.specs.declared.digits.Number.{Number}
 use Rattle.agc_text.specs.declared.digits.Number.TheVariants.{Small}
-use Rattle.agc_text.specs.declared.fields.Line.{Line}
 use Rattle.agc_text.specs.Tables.{same_name, value_in}
-use Rattle.yayul.specs.Flight.{flight_operators, uncounted}
-use Rattle.yayul.specs.Operators.{operators}
-use Rattle.yayul.specs.Survey.{field_at, looked_at, span_of}
-use Rattle.yayul.specs.declared.finding.Finding.{Finding}
+use Rattle.yayul.specs.Survey.{looked_at, span_of}
 use Rattle.yayul.specs.declared.language.Language.{Language}
 use Rattle.yayul.specs.declared.language.Language.TheVariants.{Flight, Standard}
+use Rattle.faults.specs.Roles.{gives_two, is_constant, is_equals, is_erase, is_index, is_leaving, is_setloc, keeps_location, moves_location, names_bank, reads, reads_word, sets_bank, stores, takes_pair}
+use Rattle.yayul.specs.Readings.{Parts, parts_for}
+use Rattle.yayul.specs.Roles.{is_operator_of}
 use Rattle.faults.specs.Registers.{registers}
 use Rattle.faults.specs.declared.flow.Before.{Before}
 use Rattle.faults.specs.declared.mistakes.Names.{Names}
@@ -23,6 +21,7 @@ use Rattle.faults.specs.declared.switched.BankRegister.TheVariants.{Eb, Fb}
 use Rattle.faults.specs.declared.switched.Banks.{Banks}
 use Rattle.faults.specs.declared.switched.Region.{Region}
 use Rattle.faults.specs.declared.switched.Region.TheVariants.{Common, Elsewhere, SwitchedErasable, SwitchedFixed}
+use Rattle.faults.specs.declared.told.Warning.{Warning}
 
 -- ## Names
 -- a text is one of some names
@@ -38,111 +37,44 @@ abbrev pub with_name : List (List ℕ) → List ℕ → List (List ℕ)
 with_name names text = if is_short text && not (is_among names text) then names ++ text ∷ [] else names
 
 -- ## Lines
--- the fields of a line: its label, its operator, its operand and its offset, where they stand, and whether more follow
-pub record Parts : Type 0 where
-  pub label : Option Piece
-  pub operator : Option Piece
-  pub operand : Option Piece
-  pub offset : Option Piece
-  pub more : Bool
-
--- a field stands after an offset
-abbrev pub goes_on : List ℕ → Bool
-goes_on text = nat_lt 3 (length (others_of (fields text)))
-
-abbrev pub parts_of : List ℕ → Parts
-parts_of text = record { label = label_of (fields text); operator = field_at text 0; operand = field_at text 1; offset = field_at text 2; more = goes_on text }
-
--- a field so many bytes later
-abbrev pub later_field : ℕ → Piece → Piece
-later_field count p = record { start = p.start + count; text = p.text }
-
--- fields so many bytes later
-abbrev pub later_parts : ℕ → Parts → Parts
-later_parts count parts = record {
-  label = option_map (later_field count) parts.label;
-  operator = option_map (later_field count) parts.operator;
-  operand = option_map (later_field count) parts.operand;
-  offset = option_map (later_field count) parts.offset;
-  more = parts.more;
-}
-
--- the fields of a line of a language: in that of flight programs those after a count
-abbrev pub parts_for : Language → List ℕ → Parts
-parts_for Standard text = parts_of text
-parts_for Flight text = later_parts (length text - length (uncounted text)) (parts_of (uncounted text))
-
--- a line that was taken apart
-abbrev pub parts_in : Line → Parts
-parts_in l = record { label = option_map piece l.label; operator = option_map piece l.operator; operand = option_map piece l.operand; offset = option_map piece l.offset; more = l.more }
-
 -- the operator is one of some
 abbrev pub has_operator : List (List ℕ) → Parts → Bool
 has_operator names parts = option_map_or (λ p. is_among names p.text) parts.operator false
 
--- an operator that is one of some, without an offset
-abbrev pub has_alone : List (List ℕ) → Parts → Bool
-has_alone names parts = has_operator names parts && not (is_some parts.offset)
+-- what is so of an operator, without an offset
+abbrev pub has_alone : Bool → Parts → Bool
+has_alone condition parts = condition && not (is_some parts.offset)
 
 -- a warning of a number at a field of a line, where a condition holds
-abbrev pub warned_if : Bool → ℕ → ℕ → Piece → List Finding
-warned_if condition line number p = if condition then record { line = line; number = number; span = span_of p; taken_by = None } ∷ [] else []
+abbrev pub warned_if : Bool → ℕ → ℕ → Piece → List Warning
+warned_if condition line number p = if condition then record { line = line; number = number; span = span_of p } ∷ [] else []
 
 -- what is said of a field, where it stands
-abbrev pub at_field : (Piece → List Finding) → Option Piece → List Finding
+abbrev pub at_field : (Piece → List Warning) → Option Piece → List Warning
 at_field warn field = option_map_or warn field []
 
 -- ## 1: an operator's name as a label
-abbrev pub operator_names : List (List ℕ)
-operator_names = map (λ row. row.0) operators
-
--- those that flight programs have besides, or with more forms
-abbrev pub flight_names : List (List ℕ)
-flight_names = map (λ row. row.0) flight_operators
-
--- an operator's name in a language
-abbrev pub is_name_in : Language → List ℕ → Bool
-is_name_in Standard text = is_among operator_names text
-is_name_in Flight text = is_among operator_names text || is_among flight_names text
-
-abbrev pub label_warnings : Language → ℕ → Parts → List Finding
-label_warnings language line parts = at_field (λ p. warned_if (is_name_in language p.text) line 1 p) parts.label
+abbrev pub label_warnings : Language → ℕ → Parts → List Warning
+label_warnings language line parts = at_field (λ p. warned_if (is_operator_of language p.text) line 1 p) parts.label
 
 -- ## 2: the number of a register or a counter where a word is read: `CA 5` reads Z
-abbrev pub readers : List (List ℕ)
-readers = codes "CA" ∷ codes "CAE" ∷ codes "CS" ∷ codes "AD" ∷ codes "MASK" ∷ codes "MSK" ∷ codes "CCS" ∷ codes "MP" ∷ codes "DV" ∷ codes "SU" ∷ []
-
 -- octal digits of a place that a register or a counter has: 0 to 060
 abbrev pub is_register_number : List ℕ → Bool
 is_register_number text = option_map_or (λ number. nat_lt number 0o61) (digits_value 8 text) false
 
--- operators that add to the address of the next word
-abbrev pub index_operators : List (List ℕ)
-index_operators = codes "INDEX" ∷ codes "NDX" ∷ []
-
--- operators that give no word and leave the location as it is
-abbrev pub still_operators : List (List ℕ)
-still_operators = codes "EQUALS" ∷ codes "=" ∷ codes "EBANK=" ∷ []
-
 -- whether one of those that add stands last before the word that follows a line, by whether one does before it
 abbrev pub indexed_after : Bool → Parts → Bool
-indexed_after indexed parts = if is_some parts.operator && not (has_operator still_operators parts) then has_operator index_operators parts else indexed
+indexed_after indexed parts = if is_some parts.operator && not (keeps_location parts.role) then is_index parts.role else indexed
 
 -- after one of them the number is a part of an address alone
-abbrev pub number_warnings : Bool → ℕ → Parts → List Finding
+abbrev pub number_warnings : Bool → ℕ → Parts → List Warning
 number_warnings indexed line parts =
-    at_field (λ p. warned_if (not indexed && has_alone readers parts && is_register_number p.text) line 2 p) parts.operand
+    at_field (λ p. warned_if (not indexed && has_alone (reads parts.role) parts && is_register_number p.text) line 2 p) parts.operand
 
 -- ## 3: two words of a name for which one is reserved
-abbrev pub pair_operators : List (List ℕ)
-pair_operators = codes "DXCH" ∷ codes "DAS" ∷ codes "DCA" ∷ codes "DCS" ∷ []
-
-abbrev pub erase_operators : List (List ℕ)
-erase_operators = codes "ERASE" ∷ []
-
 -- ERASE without an operand
 abbrev pub reserves_one : Parts → Bool
-reserves_one parts = has_operator erase_operators parts && not (is_some parts.operand)
+reserves_one parts = is_erase parts.role && not (is_some parts.operand)
 
 -- some names, and a field where it stands
 abbrev pub with_field : List (List ℕ) → Option Piece → List (List ℕ)
@@ -152,60 +84,33 @@ with_field names field = option_map_or (λ p. with_name names p.text) field name
 abbrev pub with_single : List (List ℕ) → Parts → List (List ℕ)
 with_single names parts = if reserves_one parts then with_field names parts.label else names
 
-abbrev pub pair_warnings : List (List ℕ) → ℕ → Parts → List Finding
-pair_warnings singles line parts = at_field (λ p. warned_if (has_alone pair_operators parts && is_among singles p.text) line 3 p) parts.operand
+abbrev pub pair_warnings : List (List ℕ) → ℕ → Parts → List Warning
+pair_warnings singles line parts = at_field (λ p. warned_if (has_alone (takes_pair parts.role) parts && is_among singles p.text) line 3 p) parts.operand
 
 -- ## 4: a program that runs on to a constant, or where no word stands
--- constants and addresses, which are no instructions
-abbrev pub constant_operators : List (List ℕ)
-constant_operators = codes "OCT" ∷ codes "DEC" ∷ codes "ADRES" ∷ codes "ECADR" ∷ codes "CADR" ∷ codes "FCADR" ∷ codes "2CADR" ∷ []
-
--- operators that give no word, and move the location
-abbrev pub moving_operators : List (List ℕ)
-moving_operators = codes "SETLOC" ∷ codes "BANK" ∷ codes "BLOCK" ∷ codes "ERASE" ∷ []
-
 -- operators that give words
 abbrev pub gives_word : Parts → Bool
-gives_word parts = is_some parts.operator && not (has_operator moving_operators parts || has_operator still_operators parts)
+gives_word parts = is_some parts.operator && not (moves_location parts.role || keeps_location parts.role)
 
 -- instructions
 abbrev pub is_instruction : Parts → Bool
-is_instruction parts = gives_word parts && not (has_operator constant_operators parts)
+is_instruction parts = gives_word parts && not (is_constant parts.role)
 
--- those that never go on to the next word, or leave there what a routine takes
-abbrev pub leaving_operators : List (List ℕ)
-leaving_operators =
-    codes "TC" ∷ codes "TCR" ∷ codes "TCF" ∷ codes "RETURN" ∷ codes "RESUME" ∷ codes "DTCB" ∷ codes "DTCF" ∷ codes "TCAA" ∷ codes "XLQ" ∷ codes "XXALQ" ∷ []
+-- the places of FB, of Z and of BB; an exchange of two words at the first or the last writes Z too
+abbrev pub is_jump_register : List ℕ → Bool
+is_jump_register place = same_name place (codes "4") || same_name place (codes "5") || same_name place (codes "6")
 
--- those that may write Z, and so go elsewhere
-abbrev pub storing_operators : List (List ℕ)
-storing_operators = codes "TS" ∷ codes "XCH" ∷ codes "LXCH" ∷ codes "QXCH" ∷ codes "DXCH" ∷ []
-
--- the registers beside Z whose exchange by two words writes it, by name
-abbrev pub jumping_names : List (List ℕ)
-jumping_names = codes "Z" ∷ codes "FB" ∷ codes "FBANK" ∷ codes "BB" ∷ codes "BBANK" ∷ []
-
--- one of these places, by name or by number
+-- a register of one of these places, by name, or a place of any by number
 abbrev pub is_jump_place : Piece → Bool
-is_jump_place p = is_among jumping_names p.text || is_register_number p.text
+is_jump_place p = option_map_or is_jump_register (value_in registers p.text) false || is_register_number p.text
 
 -- the next word is not reached from this one
 abbrev pub leaves : Parts → Bool
-leaves parts = has_operator leaving_operators parts || (has_operator storing_operators parts && option_map_or is_jump_place parts.operand false)
-
--- 2CADR, which gives two words
-abbrev pub double_operators : List (List ℕ)
-double_operators = codes "2CADR" ∷ []
+leaves parts = is_leaving parts.role || (stores parts.role && option_map_or is_jump_place parts.operand false)
 
 -- how many words a line gives
 abbrev pub word_count : Parts → ℕ
-word_count parts = if has_operator double_operators parts then 2 else if gives_word parts then 1 else 0
-
-abbrev pub setting_operators : List (List ℕ)
-setting_operators = codes "SETLOC" ∷ []
-
-abbrev pub bank_operators : List (List ℕ)
-bank_operators = codes "BANK" ∷ codes "BLOCK" ∷ []
+word_count parts = if gives_two parts.role then 2 else if gives_word parts then 1 else 0
 
 -- a number in octal, where it is below 2 ^ 32
 abbrev pub small_number : Option Number → Option ℕ
@@ -215,9 +120,9 @@ small_number _ = None
 abbrev pub number_in : Option Piece → Option ℕ
 number_in field = option_and_then (λ p. small_number (option_map sized (digits_value 8 p.text))) field
 
--- the number of a line's operand, where an operator is one of some and no offset stands
-abbrev pub number_beside : List (List ℕ) → Parts → Option ℕ
-number_beside names parts = if has_alone names parts then number_in parts.operand else None
+-- the number of a line's operand, where that is so of its operator and no offset stands
+abbrev pub number_beside : Bool → Parts → Option ℕ
+number_beside condition parts = if has_alone condition parts then number_in parts.operand else None
 
 -- the place after so many words, below the end of bank 3
 abbrev pub place_past : ℕ → Option ℕ → Option ℕ
@@ -226,16 +131,16 @@ place_past count place = option_and_then (λ n. if nat_lt n 0o10000 then Some (n
 -- the number of the place that follows a line, as SETLOC takes it, by that of the place before it, where the fields of the lines tell it
 abbrev pub place_after : Option ℕ → Parts → Option ℕ
 place_after place parts =
-    if has_operator setting_operators parts then number_beside setting_operators parts
-    else if has_operator bank_operators parts then None
-    else if has_operator erase_operators parts then (if reserves_one parts then place_past 1 place else None)
+    if is_setloc parts.role then number_beside (is_setloc parts.role) parts
+    else if names_bank parts.role then None
+    else if is_erase parts.role then (if reserves_one parts then place_past 1 place else None)
     else place_past (word_count parts) place
 
 -- the bank behind whose words the next stands, after a line
 abbrev pub bank_after : Option ℕ → Parts → Option ℕ
 bank_after bank parts =
-    if has_operator setting_operators parts then None
-    else if has_operator bank_operators parts then number_beside bank_operators parts
+    if is_setloc parts.role then None
+    else if names_bank parts.role then number_beside (names_bank parts.role) parts
     else bank
 
 -- two numbers that are known are the same
@@ -246,28 +151,24 @@ is_same_known _ _ = false
 -- a line leads to the place where it stands: SETLOC to that place, or BANK of the bank behind whose words it is
 abbrev pub leads_on : Option ℕ → Option ℕ → Parts → Bool
 leads_on place bank parts =
-    is_same_known place (number_beside setting_operators parts) || is_same_known bank (number_beside bank_operators parts)
+    is_same_known place (number_beside (is_setloc parts.role) parts) || is_same_known bank (number_beside (names_bank parts.role) parts)
 
 -- of some lines the first that gives words or moves the location to another place gives an instruction
 abbrev pub goes_on_to_instruction : Option ℕ → Option ℕ → List Parts → Bool
 goes_on_to_instruction place bank [] = false
 goes_on_to_instruction place bank (parts ∷ rest) =
     if leads_on place bank parts then goes_on_to_instruction place bank rest
-    else if gives_word parts || has_operator moving_operators parts then is_instruction parts
+    else if gives_word parts || moves_location parts.role then is_instruction parts
     else goes_on_to_instruction place bank rest
-
--- operators that read a word, an instruction as well as any
-abbrev pub word_readers : List (List ℕ)
-word_readers = readers ++ codes "CAF" ∷ codes "DCA" ∷ codes "DCS" ∷ codes "INDEX" ∷ codes "NDX" ∷ []
 
 -- some names, and the operand of a line that reads it
 abbrev pub with_read : List (List ℕ) → Parts → List (List ℕ)
-with_read names parts = if has_operator word_readers parts then with_field names parts.operand else names
+with_read names parts = if reads_word parts.role then with_field names parts.operand else names
 
 -- an instruction, none that is read as a word, is not left, and the lines after it do not go on with another
-abbrev pub end_warnings : List (List ℕ) → Before → List Parts → ℕ → Parts → List Finding
+abbrev pub end_warnings : List (List ℕ) → Before → List Parts → ℕ → Parts → List Warning
 end_warnings read before after line parts =
-    at_field (λ p. warned_if (is_among operator_names p.text && is_instruction parts && not (leaves parts) && not (option_map_or (λ l. is_among read l.text) parts.label false)
+    at_field (λ p. warned_if (is_some parts.role && is_instruction parts && not (leaves parts) && not (option_map_or (λ l. is_among read l.text) parts.label false)
     && not (goes_on_to_instruction (place_after before.place parts) (bank_after before.bank parts) after)) line 4 p) parts.operator
 
 -- ## 5: a vector's words that run on into the next vector
@@ -277,13 +178,13 @@ is_vector place = place % 4 == 0 && nat_le 0o4004 place && nat_le place 0o4050
 
 -- SETLOC and the place of a vector
 abbrev pub sets_vector : Parts → Bool
-sets_vector parts = has_alone setting_operators parts && option_map_or (λ p. option_map_or is_vector (digits_value 8 p.text) false) parts.operand false
+sets_vector parts = has_alone (is_setloc parts.role) parts && option_map_or (λ p. option_map_or is_vector (digits_value 8 p.text) false) parts.operand false
 
 -- after the four words of a vector another stands, and the fourth is not left
 abbrev pub is_overrun : Option ℕ → Bool → Bool
 is_overrun filled left = option_map_or (nat_le 4) filled false && not left
 
-abbrev pub vector_warnings : Before → ℕ → Parts → List Finding
+abbrev pub vector_warnings : Before → ℕ → Parts → List Warning
 vector_warnings before line parts = at_field (λ p. warned_if (is_overrun before.filled before.left && gives_word parts) line 5 p) parts.operator
 
 -- ## 6 and 9: a word of a switched bank, where no line sets EB or FB
@@ -302,9 +203,9 @@ region_at region_of field = option_map_or (λ p. option_map_or region_of (digits
 -- where words stand after a line, by where they do before it
 abbrev pub region_after : Region → Parts → Region
 region_after region parts =
-    if has_alone setting_operators parts then region_at region_of_place parts.operand
-    else if has_operator setting_operators parts then Elsewhere
-    else if has_operator bank_operators parts then region_at region_of_bank parts.operand
+    if has_alone (is_setloc parts.role) parts then region_at region_of_place parts.operand
+    else if is_setloc parts.role then Elsewhere
+    else if names_bank parts.role then region_at region_of_bank parts.operand
     else region
 
 abbrev pub is_common : Region → Bool
@@ -325,16 +226,13 @@ is_switched_fixed Common = false
 is_switched_fixed SwitchedErasable = false
 is_switched_fixed Elsewhere = false
 
-abbrev pub value_operators : List (List ℕ)
-value_operators = codes "EQUALS" ∷ codes "=" ∷ []
-
 -- some names, and the label of a word that a line reserves in a switched erasable bank
 abbrev pub with_erasable : Region → List (List ℕ) → Parts → List (List ℕ)
-with_erasable region names parts = if is_switched_erasable region && has_operator erase_operators parts then with_field names parts.label else names
+with_erasable region names parts = if is_switched_erasable region && is_erase parts.role then with_field names parts.label else names
 
 -- some names, and a label that stands for a place of a switched bank of fixed memory
 abbrev pub with_fixed : Region → List (List ℕ) → Parts → List (List ℕ)
-with_fixed region names parts = if is_switched_fixed region && not (has_operator value_operators parts) then with_field names parts.label else names
+with_fixed region names parts = if is_switched_fixed region && not (is_equals parts.role) then with_field names parts.label else names
 
 -- EB is 3, FB 4 and BB, which has both, 6; an exchange of two words has one of them from the place before it too, and Z, 5, before BB
 abbrev pub is_bank_place : BankRegister → ℕ → Bool
@@ -348,15 +246,11 @@ is_bank_number register text = option_map_or (is_bank_place register) (digits_va
 -- some names, and the label of a line that gives it one of these places
 abbrev pub with_bank_name : BankRegister → List (List ℕ) → Parts → List (List ℕ)
 with_bank_name register names parts =
-    if has_alone value_operators parts && option_map_or (λ p. is_bank_number register p.text) parts.operand false then with_field names parts.label else names
-
--- DTCB and DTCF, which set BB and FB
-abbrev pub far_operators : List (List ℕ)
-far_operators = codes "DTCB" ∷ codes "DTCF" ∷ []
+    if has_alone (is_equals parts.role) parts && option_map_or (λ p. is_bank_number register p.text) parts.operand false then with_field names parts.label else names
 
 -- some names, and where a line stores
 abbrev pub with_stored : List (List ℕ) → Parts → List (List ℕ)
-with_stored names parts = if has_operator storing_operators parts then with_field names parts.operand else names
+with_stored names parts = if stores parts.role then with_field names parts.operand else names
 
 -- what is known of banks after a line
 abbrev pub banks_after : Banks → Parts → Banks
@@ -367,7 +261,7 @@ banks_after banks parts = record {
   erasable_registers = with_bank_name Eb banks.erasable_registers parts;
   fixed_registers = with_bank_name Fb banks.fixed_registers parts;
   stored = with_stored banks.stored parts;
-  far = banks.far || has_operator far_operators parts;
+  far = banks.far || sets_bank parts.role;
 }
 
 -- a source begins at 4000
@@ -392,12 +286,12 @@ abbrev pub may_set_fixed : Banks → Bool
 may_set_fixed banks = may_set Fb banks.fixed_registers banks
 
 -- an instruction on a word of a switched erasable bank, where no line sets EB
-abbrev pub erasable_warnings : Names → ℕ → Parts → List Finding
+abbrev pub erasable_warnings : Names → ℕ → Parts → List Warning
 erasable_warnings names line parts =
     at_field (λ p. warned_if (not names.sets_erasable && is_instruction parts && is_among names.banks.erasable p.text) line 6 p) parts.operand
 
 -- an instruction of banks 2 and 3 on a place of a switched bank of fixed memory, where no line sets FB
-abbrev pub fixed_warnings : Names → Region → ℕ → Parts → List Finding
+abbrev pub fixed_warnings : Names → Region → ℕ → Parts → List Warning
 fixed_warnings names region line parts =
     at_field (λ p. warned_if (not names.sets_fixed && is_common region && is_instruction parts && is_among names.banks.fixed p.text) line 9 p) parts.operand
 
@@ -411,29 +305,40 @@ abbrev pub is_same_number : List ℕ → List ℕ → Bool
 is_same_number a b = is_same_small (option_map sized (digits_value 8 a)) (option_map sized (digits_value 8 b))
 
 -- ZERO, which is often a constant
-abbrev pub common_names : List (List ℕ)
-common_names = codes "ZERO" ∷ []
+abbrev pub is_zero : List ℕ → Bool
+is_zero text = same_name text (codes "ZERO")
 
 -- a line gives another number than that of a register; or it stands for a place or has a word, and its place is not known to be the register's
 abbrev pub is_elsewhere : Option ℕ → List ℕ → Parts → Bool
 is_elsewhere place register parts =
-    if has_operator value_operators parts
-    then has_alone value_operators parts && option_map_or (λ p. is_some (digits_value 8 p.text) && not (is_same_number p.text register)) parts.operand false
+    if is_equals parts.role
+    then has_alone (is_equals parts.role) parts && option_map_or (λ p. is_some (digits_value 8 p.text) && not (is_same_number p.text register)) parts.operand false
     else not (is_same_known place (small_number (option_map sized (digits_value 8 register))))
 
-abbrev pub register_warnings : Option ℕ → ℕ → Parts → List Finding
+abbrev pub register_warnings : Option ℕ → ℕ → Parts → List Warning
 register_warnings place line parts =
-    at_field (λ p. warned_if (not (is_among common_names p.text) && option_map_or (λ register. is_elsewhere place register parts) (value_in registers p.text) false) line 7 p) parts.label
+    at_field (λ p. warned_if (not (is_zero p.text) && option_map_or (λ register. is_elsewhere place register parts) (value_in registers p.text) false) line 7 p) parts.label
 
 -- ## 8: a label that no operand names
-abbrev pub unused_warnings : List (List ℕ) → ℕ → Parts → List Finding
+abbrev pub unused_warnings : List (List ℕ) → ℕ → Parts → List Warning
 unused_warnings operands line parts = at_field (λ p. warned_if (is_short p.text && not (is_among operands p.text)) line 8 p) parts.label
+
+-- ## 10: a word that is written on a channel which is a register, and so does not go out
+abbrev pub output_operators : List (List ℕ)
+output_operators = codes "WRITE" ∷ codes "WAND" ∷ codes "WOR" ∷ []
+
+-- octal digits of channel 1 or 2, which are L and Q
+abbrev pub is_register_channel : List ℕ → Bool
+is_register_channel text = option_map_or (λ number. nat_le 1 number && nat_le number 2) (digits_value 8 text) false
+
+abbrev pub output_warnings : ℕ → Parts → List Warning
+output_warnings line parts = at_field (λ p. warned_if (has_alone (has_operator output_operators parts) parts && is_register_channel p.text) line 10 p) parts.operand
 
 -- ## What stands before a line
 -- how many words a vector has after a line, or nothing where none is filled
 abbrev pub filled_after : Option ℕ → Parts → Option ℕ
 filled_after filled parts =
-    if has_operator moving_operators parts then (if sets_vector parts then Some 0 else None)
+    if moves_location parts.role then (if sets_vector parts then Some 0 else None)
     else option_and_then (λ n. if nat_lt n 4 then Some (n + word_count parts) else if gives_word parts then None else Some n) filled
 
 -- what stands after a line
@@ -468,25 +373,25 @@ is_standard Standard = true
 is_standard Flight = false
 
 -- the warnings of a line's label; of one that nothing names where they are asked for
-abbrev pub name_warnings : Language → Bool → Names → Before → ℕ → Parts → List Finding
+abbrev pub name_warnings : Language → Bool → Names → Before → ℕ → Parts → List Warning
 name_warnings language unused names before line parts = label_warnings language line parts ++ register_warnings before.place line parts ++ (if unused then unused_warnings names.operands line parts else [])
 
 -- the warnings of its operator, by what stands before it and the lines after it
-abbrev pub flow_warnings : Language → Names → Before → List Parts → ℕ → Parts → List Finding
+abbrev pub flow_warnings : Language → Names → Before → List Parts → ℕ → Parts → List Warning
 flow_warnings language names before after line parts = (if is_standard language then end_warnings names.read before after line parts else []) ++ vector_warnings before line parts
 
 -- the warnings of its operand
-abbrev pub operand_warnings : Names → Before → ℕ → Parts → List Finding
+abbrev pub operand_warnings : Names → Before → ℕ → Parts → List Warning
 operand_warnings names before line parts =
-    number_warnings before.indexed line parts ++ pair_warnings names.singles line parts ++ erasable_warnings names line parts ++ fixed_warnings names before.region line parts
+    number_warnings before.indexed line parts ++ pair_warnings names.singles line parts ++ erasable_warnings names line parts ++ fixed_warnings names before.region line parts ++ output_warnings line parts
 
 -- the warnings of a line, in the order of its fields
-abbrev pub line_warnings : Language → Bool → Names → Before → List Parts → ℕ → Parts → List Finding
+abbrev pub line_warnings : Language → Bool → Names → Before → List Parts → ℕ → Parts → List Warning
 line_warnings language unused names before after line parts =
     name_warnings language unused names before line parts ++ flow_warnings language names before after line parts ++ operand_warnings names before line parts
 
 -- the warnings of some lines of a source of a language, the first of them with a number
-abbrev pub warned_lines : Language → Bool → Names → Before → ℕ → List Parts → List Finding
+abbrev pub warned_lines : Language → Bool → Names → Before → ℕ → List Parts → List Warning
 warned_lines language unused names before line [] = []
 warned_lines language unused names before line (parts ∷ rest) =
     line_warnings language unused names before rest line parts ++ warned_lines language unused names (before_next before parts) (line + 1) rest
@@ -496,5 +401,5 @@ abbrev pub lines_apart : Language → List ℕ → List Parts
 lines_apart language source = map (parts_for language) (looked_at language source)
 
 -- the warnings of a source of a language, of as many lines as are looked at for faults
-unfoldable pub warnings : Language → Bool → List ℕ → List Finding
+unfoldable pub warnings : Language → Bool → List ℕ → List Warning
 warnings language unused source = warned_lines language unused (names_of (lines_apart language source)) at_start 1 (lines_apart language source)

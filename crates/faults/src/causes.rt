@@ -4,20 +4,23 @@ ghost use Rattle.std.specs.Prelude.{◌≡◌, ◌==◌, ◌+◌, [], false, len
 ghost use Rattle.std.specs.Option.{option_map, option_map_or};
 ghost use Rattle.agc_text.specs.Tables.{value_in};
 ghost use Rattle.agc_text.specs.Views.{piece};
-ghost use Rattle.faults.specs.Warnings.{parts_in, bank_operators};
-ghost use Rattle.faults.specs.Causes.{byte_cause, begins_with_mark, label_cause, operator_cause, digits_cause, place_cause, operand_cause, symbol_cause, undefined_cause, early_cause, below_cause, bank_cause, room_cause, kind_cause, range_cause, fault_cause, warning_cause, near_label, said, cured, cured_by, text_of, holds, begins, holds_sign, is_signed, is_label, is_octal_bank, is_decimal_bank, has_parted_offset, long_cause, number_cause, is_foreign_comment, has_foreign_comment, is_beyond_octal, foreign_operators, label_refusers, octal_operators, decimal_operators, block_operators, plain_operators, channel_operators, erasable_operators, fixed_operators, jump_operators, writers, erasable_readers};
+ghost use Rattle.yayul.specs.Readings.{parts_in};
+ghost use Rattle.faults.specs.Causes.{byte_cause, near_operator, begins_with_mark, label_cause, operator_cause, digits_cause, place_cause, operand_cause, symbol_cause, undefined_cause, definition_cause, is_another_form, early_cause, below_cause, bank_cause, room_cause, kind_cause, range_cause, cause_of_kind, fault_cause, warning_cause, near_label, said, cured, cured_by, text_of, holds, begins, holds_sign, is_signed, is_label, is_octal_bank, is_decimal_bank, has_parted_offset, lists_numbers, without_colon, long_cause, number_cause, is_foreign_comment, has_foreign_comment, is_beyond_octal, foreign_operators};
 ghost use Rattle.faults.specs.Registers.{registers};
 ghost use Rattle.faults.specs.Views.{cause_in, entries};
 
-use crate::mistakes::{erase_operators, has_operator};
 use crate::names::{NameSet, is_short};
-use crate::operators::{is_operator, near_operator};
-use crate::parts::is_digits;
+use crate::operators::near_operator;
 use crate::refusals::meaning;
 use crate::registers::registers;
+use crate::roles::{
+    is_block, is_decimal, is_erase, is_octal, leads_on_to, leads_to_fixed, names_bank, reads,
+    reads_erasable, refuses_label, subtracts, takes_channel, takes_erasable_place,
+    takes_fixed_place, takes_nothing, writes_erasable,
+};
 use crate::texts::front;
-use agc_text::{Field, LINE_LENGTH, Line, Number, decimal_value, octal_value};
-use yayul::Finding;
+use agc_text::{Field, LINE_LENGTH, Number, decimal_value, octal_value};
+use yayul::{FaultKind, Finding, Language, Reading, is_digits, is_operator};
 
 /// What is wrong, how it is mended or nothing, and a text that stands in either; and whether `--flight` takes what stands there. Marks stand for the fields of the line:
 /// `&` for the label, `%` for the operator, `@` for the operand, `!` for the other text, `~` for a text from other lines,
@@ -60,43 +63,62 @@ impl Cause {
             flight: false,
         }
     }
+
+    /// The same, but not the name of a label with a colon for a symbol that has none.
+    pub(crate) fn without_colon(self, near: &[u8], parts: &Reading<'_>) -> Cause
+        ensures { cause_in result ≡ without_colon near.now (parts_in parts.now) (cause_in self) }
+    {
+        if holds(b':', near) && !holds(b':', text_of(parts.operand)) {
+            Cause::cured(
+                self.words,
+                b"~ is one name, its colon too; a label has no colon",
+            )
+        } else {
+            self
+        }
+    }
 }
 
 /// A fault of a line with some fields in words, where a text from other lines stands for `~` or none does.
-#[tactic(auto, unfolding(crate::specs::Causes::fault_cause))]
-pub(crate) fn fault_cause(text: &[u8], parts: &Line<'_>, near: bool, finding: &Finding) -> Cause
+#[tactic(auto, unfolding(crate::specs::Causes::cause_of_kind))]
+pub(crate) fn fault_cause(text: &[u8], parts: &Reading<'_>, near: bool, finding: &Finding) -> Cause
     ensures { cause_in result ≡ fault_cause near text.now (parts_in parts.now) finding.now }
 {
-    match finding.number {
-        10 => byte_cause(text, finding.span.start),
-        11 => long_cause(text),
-        13 => label_cause(parts),
-        14 if near => Cause::said(b"line ~ has the label & already"),
-        14 => Cause::said(b"an earlier line has the label &"),
-        15 => operator_cause(parts),
-        16 => operand_cause(parts),
-        17 => undefined_cause(near, parts),
-        18 => early_cause(near, parts),
-        19 => bank_cause(parts),
-        20 => room_cause(parts),
-        21 if near => Cause::said(b"line ~ has a word at this place already"),
-        22 => Cause::cured(meaning(22), b"SETLOC and a fixed place, or BANK, before it"),
-        23 => Cause::cured(
+    match finding.kind {
+        FaultKind::NotAscii => byte_cause(text, finding.span.start),
+        FaultKind::LongLine => long_cause(text),
+        FaultKind::BadLabel => label_cause(parts),
+        FaultKind::TwiceDefined if near => Cause::said(b"line ~ has the label & already"),
+        FaultKind::TwiceDefined => Cause::said(b"an earlier line has the label &"),
+        FaultKind::UnknownOperator => operator_cause(parts),
+        FaultKind::BadOperand => operand_cause(parts),
+        FaultKind::Undefined => undefined_cause(near, parts),
+        FaultKind::UsedTooEarly => early_cause(near, parts),
+        FaultKind::BadBank => bank_cause(parts),
+        FaultKind::BankFull => room_cause(parts),
+        FaultKind::PlaceTaken if near => Cause::said(b"line ~ has a word at this place already"),
+        FaultKind::CodeInErasable => Cause::cured(
+            meaning(22),
+            b"SETLOC and a fixed place, or BANK, before it",
+        ),
+        FaultKind::NeedsExtend => Cause::cured(
             b"% is an extracode, and EXTEND does not stand before it",
             b"EXTEND on the line before, behind a blank",
         ),
-        24 => Cause::cured(
+        FaultKind::NotExtracode => Cause::cured(
             b"EXTEND stands before %, which is no extracode",
             b"take EXTEND out",
         ),
-        25 => kind_cause(parts),
-        26 => range_cause(parts),
-        number => Cause::said(meaning(number)),
+        FaultKind::WrongKindOfAddress => kind_cause(parts),
+        FaultKind::OutOfRange => range_cause(parts),
+        FaultKind::NoMemory | FaultKind::TooManyLines | FaultKind::PlaceTaken => {
+            Cause::said(meaning(finding.kind.number()))
+        }
     }
 }
 
 /// A warning of a line with some fields in words.
-pub(crate) fn warning_cause(parts: &Line<'_>, number: u8) -> Cause
+pub(crate) fn warning_cause(parts: &Reading<'_>, number: u8) -> Cause
     ensures { cause_in result ≡ warning_cause (parts_in parts.now) number }
 {
     match number {
@@ -131,29 +153,33 @@ pub(crate) fn warning_cause(parts: &Line<'_>, number: u8) -> Cause
             b"@ stands in a switched bank of fixed memory, and no line sets FB",
             b"NAME FCADR @ on a line of its own; before this CA NAME, and TS 4, which is FB; for banks 40 to 43 WRITE 7 of 100 too",
         ),
+        10 => Cause::cured(
+            b"channel @ is a register, L or Q, and nothing goes out",
+            b"another channel, or, where the register is meant, its name: L EQUALS 1, Q EQUALS 2",
+        ),
         _ => Cause::said(b""),
     }
 }
 
 // 2: a number that is read as a register; some operators take no constant, which stands in fixed memory.
-fn number_cause(parts: &Line<'_>) -> Cause
+fn number_cause(parts: &Reading<'_>) -> Cause
     ensures { cause_in result ≡ number_cause (parts_in parts.now) }
 {
-    if has_operator(erasable_readers(), parts) {
+    if reads_erasable(parts.role) {
         Cause::cured(
-            b"@ is the register or the counter of that number, and not the number",
-            b"a number has a line of its own: NAME OCT @, and CA NAME and TS copy it to where % takes it",
+            b"an operand is an address: @ is the register or the counter at place @, and not the number",
+            b"the number has a line of its own, behind the last jump: NAME OCT @, and CA NAME and TS copy it to where % takes it",
         )
     } else {
         Cause::cured(
-            b"@ is the register or the counter of that number, and not the number",
-            b"a number has a line of its own: NAME OCT @, and % NAME",
+            b"an operand is an address: @ is the register or the counter at place @, and not the number",
+            b"the number has a line of its own, behind the last jump: NAME OCT @ (or DEC and decimal digits), and here % NAME",
         )
     }
 }
 
 // The place of the register that a label is the name of; none where it is no such name.
-fn place_named(parts: &Line<'_>) -> &'static [u8]
+fn place_named(parts: &Reading<'_>) -> &'static [u8]
     ensures { result.now ≡ unwrap_or (value_in registers (text_of (parts_in parts.now).label)) [] }
 {
     match value_in(registers(), text_of(parts.label)) {
@@ -165,14 +191,16 @@ fn place_named(parts: &Line<'_>) -> &'static [u8]
 /// The label that is near to the symbol of a fault which no line, or no earlier one, defines; none where a later line does.
 pub(crate) fn near_label<'a>(
     labels: &'a NameSet,
-    parts: &Line<'_>,
-    finding: &Finding,
+    parts: &Reading<'_>,
+    kind: FaultKind,
 ) -> Option<&'a [u8]>
-    ensures { option_map (λ name. name.now) result ≡ near_label labels.now (parts_in parts.now) finding.now }
+    ensures { option_map (λ name. name.now) result ≡ near_label labels.now (parts_in parts.now) kind }
 {
     let symbol = text_of(parts.operand);
-    match finding.number {
-        17 | 18 if !labels.has(symbol) => labels.near(symbol),
+    match kind {
+        FaultKind::Undefined | FaultKind::UsedTooEarly if !labels.has(symbol) => {
+            labels.near(symbol)
+        }
         _ => None,
     }
 }
@@ -250,7 +278,7 @@ pub(crate) fn long_cause(text: &[u8]) -> Cause
 }
 
 // E13: a label that is missing, is not taken or has no label's form.
-fn label_cause(parts: &Line<'_>) -> Cause
+fn label_cause(parts: &Reading<'_>) -> Cause
     ensures { cause_in result ≡ label_cause (parts_in parts.now) }
 {
     if parts.label.is_none() {
@@ -258,7 +286,7 @@ fn label_cause(parts: &Line<'_>) -> Cause
             b"% gives a name its value, and no name stands in the first column",
             b"NAME % @",
         )
-    } else if has_operator(label_refusers(), parts) {
+    } else if refuses_label(parts.role) {
         if is_label(text_of(parts.label)) {
             Cause::cured(b"% takes no label", b"put & on the next line")
         } else {
@@ -276,17 +304,17 @@ fn label_cause(parts: &Line<'_>) -> Cause
 }
 
 // E15: what is no operator.
-fn operator_cause(parts: &Line<'_>) -> Cause
+fn operator_cause(parts: &Reading<'_>) -> Cause
     ensures { cause_in result ≡ operator_cause (parts_in parts.now) }
 {
-    if is_operator(text_of(parts.label)) {
+    if is_operator(Language::Standard, text_of(parts.label)) {
         Cause::cured(
             b"& stands in the first column, so it is a label, and % is taken for the operator",
             b"put a blank before &",
         )
     } else if is_foreign_comment(text_of(parts.operator)) {
         Cause::cured(b"% is no operator", b"a comment begins with #")
-    } else if parts.label.is_none() && is_operator(text_of(parts.operand)) {
+    } else if parts.label.is_none() && is_operator(Language::Standard, text_of(parts.operand)) {
         Cause::cured(
             b"% is no operator",
             b"a label begins in the first column: no blank before %",
@@ -301,30 +329,35 @@ fn operator_cause(parts: &Line<'_>) -> Cause
 }
 
 // E16, of an operator that takes digits, or a bank.
-fn digits_cause(parts: &Line<'_>) -> Cause
+fn digits_cause(parts: &Reading<'_>) -> Cause
     ensures { cause_in result ≡ digits_cause (parts_in parts.now) }
 {
-    if parts.offset.is_some() {
+    if lists_numbers(parts) {
+        Cause::cured(
+            b"% takes one number, and nothing after it",
+            b"a line for each number",
+        )
+    } else if parts.offset.is_some() {
         Cause::cured(
             b"% takes one number, and nothing after it",
             b"a comment begins with #",
         )
-    } else if has_operator(octal_operators(), parts) && is_signed(text_of(parts.operand)) {
+    } else if is_octal(parts.role) && is_signed(text_of(parts.operand)) {
         Cause::cured(
             b"OCT takes no sign",
             b"DEC takes one; a minus complements the word",
         )
-    } else if has_operator(octal_operators(), parts) {
+    } else if is_octal(parts.role) {
         Cause::cured(
             b"OCT takes octal digits, 0 to 7, and @ is no such number",
             b"DEC takes decimal digits",
         )
-    } else if has_operator(decimal_operators(), parts) {
+    } else if is_decimal(parts.role) {
         Cause::said(
             b"DEC takes a whole number, or a fraction of 1 to 9 decimals as .75, and @ is neither",
         )
     } else if is_beyond_octal(text_of(parts.operand)) {
-        if is_decimal_bank(parts) && !has_operator(block_operators(), parts) {
+        if is_decimal_bank(parts) && !is_block(parts.role) {
             Cause::cured(
                 b"banks are octal, and @ has a digit 8 or 9",
                 b"% @D takes it as decimal",
@@ -338,7 +371,7 @@ fn digits_cause(parts: &Line<'_>) -> Cause
 }
 
 // E16, of an operator that takes a place or a value.
-fn place_cause(parts: &Line<'_>) -> Cause
+fn place_cause(parts: &Reading<'_>) -> Cause
     ensures { cause_in result ≡ place_cause (parts_in parts.now) }
 {
     if has_parted_offset(parts) {
@@ -374,7 +407,7 @@ fn place_cause(parts: &Line<'_>) -> Cause
 }
 
 // E16: an operand that is missing, is not taken or has no operand's form.
-fn operand_cause(parts: &Line<'_>) -> Cause
+fn operand_cause(parts: &Reading<'_>) -> Cause
     ensures { cause_in result ≡ operand_cause (parts_in parts.now) }
 {
     if has_foreign_comment(parts) {
@@ -382,19 +415,16 @@ fn operand_cause(parts: &Line<'_>) -> Cause
             b"the operand does not end where a comment was meant to begin",
             b"a comment begins with #",
         )
-    } else if has_operator(plain_operators(), parts) {
+    } else if takes_nothing(parts.role) {
         Cause::cured(b"% takes no operand", b"a comment begins with #")
-    } else if has_operator(erase_operators(), parts) {
+    } else if is_erase(parts.role) {
         Cause::cured(
             b"ERASE takes nothing, or a plus sign and a number",
             b"ERASE reserves one word, ERASE +1 two",
         )
     } else if parts.operand.is_none() {
         Cause::said(b"% needs an operand")
-    } else if has_operator(octal_operators(), parts)
-        || has_operator(decimal_operators(), parts)
-        || has_operator(bank_operators(), parts)
-    {
+    } else if is_octal(parts.role) || is_decimal(parts.role) || names_bank(parts.role) {
         digits_cause(parts)
     } else {
         place_cause(parts)
@@ -402,14 +432,59 @@ fn operand_cause(parts: &Line<'_>) -> Cause
 }
 
 // E17: a symbol that no line defines.
-fn undefined_cause(near: bool, parts: &Line<'_>) -> Cause
+fn undefined_cause(near: bool, parts: &Reading<'_>) -> Cause
     ensures { cause_in result ≡ undefined_cause near (parts_in parts.now) }
 {
-    symbol_cause(b"no line defines @", near, parts)
+    if near || is_another_form(parts) {
+        symbol_cause(b"no line defines @", near, parts)
+    } else {
+        definition_cause(parts)
+    }
+}
+
+// Whether a symbol is a register's name, or is told by a byte in it to be meant otherwise.
+fn is_another_form(parts: &Reading<'_>) -> bool
+    ensures { result ≡ is_another_form (parts_in parts.now) }
+{
+    let symbol = text_of(parts.operand);
+    value_in(registers(), symbol).is_some()
+        || holds(b',', symbol)
+        || begins(b'=', symbol)
+        || holds_sign(symbol)
+        || holds(b':', symbol)
+}
+
+// E17: how a symbol is defined, by the operator that takes it.
+fn definition_cause(parts: &Reading<'_>) -> Cause
+    ensures { cause_in result ≡ definition_cause (parts_in parts.now) }
+{
+    if writes_erasable(parts.role) || reads_erasable(parts.role) {
+        Cause::cured(
+            b"no line defines @",
+            b"@ ERASE, among lines after SETLOC 100, reserves a word of this name",
+        )
+    } else if takes_channel(parts.role) {
+        Cause::cured(
+            b"no line defines @",
+            b"@ EQUALS and an octal number give a channel this name",
+        )
+    } else if leads_on_to(parts.role) {
+        Cause::cured(
+            b"no line defines @",
+            b"@ in the first column of the line to which % is to lead",
+        )
+    } else if reads(parts.role) {
+        Cause::cured(
+            b"no line defines @",
+            b"of a number: @ DEC 5, behind the last jump, and of a word that changes: @ ERASE, after SETLOC 100",
+        )
+    } else {
+        Cause::said(b"no line defines @")
+    }
 }
 
 // E18: a symbol that no earlier line defines.
-fn early_cause(near: bool, parts: &Line<'_>) -> Cause
+fn early_cause(near: bool, parts: &Reading<'_>) -> Cause
     ensures { cause_in result ≡ early_cause near (parts_in parts.now) }
 {
     symbol_cause(
@@ -420,7 +495,7 @@ fn early_cause(near: bool, parts: &Line<'_>) -> Cause
 }
 
 // E17 and E18: a symbol that no line, or no earlier one, defines.
-pub(crate) fn symbol_cause(words: &'static [u8], near: bool, parts: &Line<'_>) -> Cause
+pub(crate) fn symbol_cause(words: &'static [u8], near: bool, parts: &Reading<'_>) -> Cause
     ensures { cause_in result ≡ symbol_cause words.now near (parts_in parts.now) }
 {
     if let Some(place) = value_in(registers(), text_of(parts.operand)) {
@@ -440,6 +515,8 @@ pub(crate) fn symbol_cause(words: &'static [u8], near: bool, parts: &Line<'_>) -
         Cause::cured(words, b"@ is one name; a blank stands before an offset")
     } else if near {
         Cause::cured(words, b"did you mean ~?")
+    } else if holds(b':', text_of(parts.operand)) {
+        Cause::cured(words, b"@ is one name, its colon too; a label has no colon")
     } else {
         Cause::said(words)
     }
@@ -453,10 +530,10 @@ pub(crate) fn below_cause() -> Cause
 }
 
 // E19: a bank that the operator does not take.
-fn bank_cause(parts: &Line<'_>) -> Cause
+fn bank_cause(parts: &Reading<'_>) -> Cause
     ensures { cause_in result ≡ bank_cause (parts_in parts.now) }
 {
-    if has_operator(block_operators(), parts) {
+    if is_block(parts.role) {
         if is_octal_bank(parts) {
             Cause::cured(b"BLOCK takes 2 and 3, and @ is neither", b"BANK @")
         } else {
@@ -468,10 +545,10 @@ fn bank_cause(parts: &Line<'_>) -> Cause
 }
 
 // E20: past the end.
-fn room_cause(parts: &Line<'_>) -> Cause
+fn room_cause(parts: &Reading<'_>) -> Cause
     ensures { cause_in result ≡ room_cause (parts_in parts.now) }
 {
-    if has_operator(erase_operators(), parts) {
+    if is_erase(parts.role) {
         Cause::said(b"ERASE passes the end of erasable memory, 3777")
     } else if parts.operator.is_none() {
         Cause::said(b"& stands past the end of its bank, or of erasable memory")
@@ -484,28 +561,33 @@ fn room_cause(parts: &Line<'_>) -> Cause
 }
 
 // E25: another kind of place, or a channel.
-fn kind_cause(parts: &Line<'_>) -> Cause
+fn kind_cause(parts: &Reading<'_>) -> Cause
     ensures { cause_in result ≡ kind_cause (parts_in parts.now) }
 {
-    if has_operator(erase_operators(), parts) {
+    if is_erase(parts.role) {
         Cause::cured(
             b"ERASE reserves erasable words, and the location is in fixed memory",
             b"SETLOC and a place below 4000 before it",
         )
-    } else if has_operator(channel_operators(), parts) {
+    } else if takes_channel(parts.role) {
         Cause::said(b"% takes a channel, 0 to 777, and @^ is none")
-    } else if has_operator(erasable_operators(), parts) {
+    } else if takes_erasable_place(parts.role) {
         Cause::said(b"% takes an erasable place, and @^ is none")
-    } else if has_operator(fixed_operators(), parts) {
+    } else if takes_fixed_place(parts.role) {
         Cause::said(b"% takes a fixed place, and @^ is none")
-    } else if has_operator(jump_operators(), parts) {
+    } else if leads_to_fixed(parts.role) {
         Cause::said(b"% leads to fixed memory, 2000 and up, and @^ is not there")
-    } else if has_operator(writers(), parts) {
+    } else if writes_erasable(parts.role) {
         Cause::cured(
             b"% writes to erasable memory, and @^ is not there",
             b"reserve the word there: SETLOC and a place below 4000, and ERASE",
         )
-    } else if has_operator(erasable_readers(), parts) {
+    } else if subtracts(parts.role) {
+        Cause::cured(
+            b"% takes a word of erasable memory, and @^ is not there",
+            b"CS @ and AD subtract a constant: X less @ is CS @, AD X, without EXTEND",
+        )
+    } else if reads_erasable(parts.role) {
         Cause::cured(
             b"% takes a word of erasable memory, and @^ is not there",
             b"copy the word to erasable memory first",
@@ -516,16 +598,16 @@ fn kind_cause(parts: &Line<'_>) -> Cause
 }
 
 // E26: a number out of its range.
-fn range_cause(parts: &Line<'_>) -> Cause
+fn range_cause(parts: &Reading<'_>) -> Cause
     ensures { cause_in result ≡ range_cause (parts_in parts.now) }
 {
-    if has_operator(octal_operators(), parts) {
+    if is_octal(parts.role) {
         Cause::said(b"a word holds 77777 at most, and @ is more")
-    } else if has_operator(decimal_operators(), parts) && holds(b'.', text_of(parts.operand)) {
+    } else if is_decimal(parts.role) && holds(b'.', text_of(parts.operand)) {
         Cause::said(b"a fraction of a word comes to less than 1 in 14 bits, and @ does not")
-    } else if has_operator(decimal_operators(), parts) {
+    } else if is_decimal(parts.role) {
         Cause::said(b"a word holds -16383 to 16383, and @ is beyond")
-    } else if has_operator(plain_operators(), parts) {
+    } else if takes_nothing(parts.role) {
         Cause::said(b"% goes to the next word, and this is the last of its bank")
     } else if parts.offset.is_some() || is_signed(text_of(parts.operand)) {
         Cause::said(b"this leads out of its bank, or of the numbers")
@@ -584,36 +666,44 @@ fn is_label(text: &[u8]) -> bool
 }
 
 // Whether the operand is a bank in octal.
-fn is_octal_bank(parts: &Line<'_>) -> bool
+fn is_octal_bank(parts: &Reading<'_>) -> bool
     ensures { result ≡ is_octal_bank (parts_in parts.now) }
 {
     matches!(octal_value(text_of(parts.operand)), Some(Number::Small(bank)) if bank < 0o44)
 }
 
 // Whether the operand is a bank in decimal digits.
-fn is_decimal_bank(parts: &Line<'_>) -> bool
+fn is_decimal_bank(parts: &Reading<'_>) -> bool
     ensures { result ≡ is_decimal_bank (parts_in parts.now) }
 {
     matches!(decimal_value(text_of(parts.operand)), Some(Number::Small(bank)) if bank < 0o44)
 }
 
 // Whether the offset is a sign, behind which a field stands.
-fn has_parted_offset(parts: &Line<'_>) -> bool
+fn has_parted_offset(parts: &Reading<'_>) -> bool
     ensures { result ≡ has_parted_offset (parts_in parts.now) }
 {
     let offset = text_of(parts.offset);
     parts.more && (offset == b"+".as_slice() || offset == b"-".as_slice())
 }
 
-// Whether a text begins as comments in other languages do.
-fn is_foreign_comment(text: &[u8]) -> bool
+// Whether several numbers stand for one: with a comma behind the first, or with blanks between them.
+fn lists_numbers(parts: &Reading<'_>) -> bool
+    ensures { result ≡ lists_numbers (parts_in parts.now) }
+{
+    (is_octal(parts.role) || is_decimal(parts.role))
+        && (holds(b',', text_of(parts.operand)) || is_digits(text_of(parts.offset)))
+}
+
+/// Whether a text begins as comments in other languages do.
+pub(crate) fn is_foreign_comment(text: &[u8]) -> bool
     ensures { result ≡ is_foreign_comment text.now }
 {
     begins(b';', text) || begins(b'/', text)
 }
 
 // Whether such a comment stands for the operand or the offset.
-pub(crate) fn has_foreign_comment(parts: &Line<'_>) -> bool
+pub(crate) fn has_foreign_comment(parts: &Reading<'_>) -> bool
     ensures { result ≡ has_foreign_comment (parts_in parts.now) }
 {
     is_foreign_comment(text_of(parts.operand)) || is_foreign_comment(text_of(parts.offset))
@@ -640,35 +730,6 @@ pub(crate) fn value_in(
     }
     None
 }
-
-const LABEL_REFUSERS: [&str; 4] = ["SETLOC", "BANK", "BLOCK", "EBANK="];
-
-const OCTAL_OPERATORS: [&str; 1] = ["OCT"];
-
-const DECIMAL_OPERATORS: [&str; 1] = ["DEC"];
-
-const BANK_OPERATORS: [&str; 2] = ["BANK", "BLOCK"];
-
-const BLOCK_OPERATORS: [&str; 1] = ["BLOCK"];
-
-const PLAIN_OPERATORS: [&str; 19] = [
-    "RELINT", "INHINT", "EXTEND", "RESUME", "XXALQ", "XLQ", "RETURN", "DDOUBL", "ZL", "COM",
-    "DTCF", "DTCB", "OVSK", "TCAA", "DOUBLE", "ZQ", "DCOM", "SQUARE", "NOOP",
-];
-
-const CHANNEL_OPERATORS: [&str; 7] = ["READ", "WRITE", "RAND", "WAND", "ROR", "WOR", "RXOR"];
-
-const ERASABLE_OPERATORS: [&str; 2] = ["EBANK=", "ECADR"];
-
-const FIXED_OPERATORS: [&str; 4] = ["CADR", "FCADR", "2CADR", "CAF"];
-
-const JUMP_OPERATORS: [&str; 3] = ["TCF", "BZF", "BZMF"];
-
-const WRITERS: [&str; 10] = [
-    "TS", "XCH", "LXCH", "QXCH", "DXCH", "INCR", "ADS", "DAS", "AUG", "DIM",
-];
-
-const ERASABLE_READERS: [&str; 7] = ["CCS", "INDEX", "NDX", "CAE", "SU", "DV", "MSU"];
 
 const FOREIGN_OPERATORS: [(&str, &str); 27] = [
     ("ORG", "SETLOC sets the location"),
@@ -702,78 +763,6 @@ const FOREIGN_OPERATORS: [(&str, &str); 27] = [
     ("2DEC", "two words: a DEC for each"),
     ("2OCT", "two words: an OCT for each"),
 ];
-
-pub(crate) fn label_refusers() -> &'static [&'static str]
-    ensures { map (λ name. name.now) result.now ≡ label_refusers }
-{
-    &LABEL_REFUSERS
-}
-
-fn octal_operators() -> &'static [&'static str]
-    ensures { map (λ name. name.now) result.now ≡ octal_operators }
-{
-    &OCTAL_OPERATORS
-}
-
-fn decimal_operators() -> &'static [&'static str]
-    ensures { map (λ name. name.now) result.now ≡ decimal_operators }
-{
-    &DECIMAL_OPERATORS
-}
-
-pub(crate) fn bank_operators() -> &'static [&'static str]
-    ensures { map (λ name. name.now) result.now ≡ bank_operators }
-{
-    &BANK_OPERATORS
-}
-
-fn block_operators() -> &'static [&'static str]
-    ensures { map (λ name. name.now) result.now ≡ block_operators }
-{
-    &BLOCK_OPERATORS
-}
-
-fn plain_operators() -> &'static [&'static str]
-    ensures { map (λ name. name.now) result.now ≡ plain_operators }
-{
-    &PLAIN_OPERATORS
-}
-
-fn channel_operators() -> &'static [&'static str]
-    ensures { map (λ name. name.now) result.now ≡ channel_operators }
-{
-    &CHANNEL_OPERATORS
-}
-
-fn erasable_operators() -> &'static [&'static str]
-    ensures { map (λ name. name.now) result.now ≡ erasable_operators }
-{
-    &ERASABLE_OPERATORS
-}
-
-fn fixed_operators() -> &'static [&'static str]
-    ensures { map (λ name. name.now) result.now ≡ fixed_operators }
-{
-    &FIXED_OPERATORS
-}
-
-fn jump_operators() -> &'static [&'static str]
-    ensures { map (λ name. name.now) result.now ≡ jump_operators }
-{
-    &JUMP_OPERATORS
-}
-
-fn writers() -> &'static [&'static str]
-    ensures { map (λ name. name.now) result.now ≡ writers }
-{
-    &WRITERS
-}
-
-fn erasable_readers() -> &'static [&'static str]
-    ensures { map (λ name. name.now) result.now ≡ erasable_readers }
-{
-    &ERASABLE_READERS
-}
 
 fn foreign_operators() -> &'static [(&'static str, &'static str)]
     ensures { entries result.now ≡ foreign_operators }

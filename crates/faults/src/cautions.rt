@@ -6,7 +6,7 @@ ghost use Rattle.faults.specs.Refusals.{warning_meaning, is_warned};
 use crate::refusals::Refusal;
 
 /// The numbers, rising.
-pub const WARNING_NUMBERS: [u8; 9] = [1, 2, 3, 4, 5, 6, 7, 8, 9];
+pub const WARNING_NUMBERS: [u8; 10] = [1, 2, 3, 4, 5, 6, 7, 8, 9, 10];
 
 /// The warning of a number, where there is one, and what draws it.
 pub fn warning_of(number: u8) -> Option<Refusal>
@@ -22,6 +22,7 @@ pub fn warning_of(number: u8) -> Option<Refusal>
         7 => CAUSES_7,
         8 => CAUSES_8,
         9 => CAUSES_9,
+        10 => CAUSES_10,
         _ => return None,
     };
     Some(Refusal { number, causes })
@@ -41,6 +42,7 @@ pub(crate) fn warning_meaning(number: u8) -> &'static [u8]
         7 => b"a register's name stands for another place",
         8 => b"no operand names a label",
         9 => b"a switched bank of fixed memory is reached, and no line sets FB",
+        10 => b"a word is written on a channel that is a register, and does not go out",
         _ => b"",
     }
 }
@@ -54,7 +56,7 @@ const CAUSES_1: &[u8] = b"
 const CAUSES_2: &[u8] = b"
 - CA, CAE, CS, AD, MASK, MSK, CCS, MP, DV or SU of an octal number from 0 to 60, without an offset, and not after INDEX: a register or a counter, and not the number
   >  CA 5
-  Cure: FIVE OCT 5, and CA FIVE
+  Cure: an operand is an address, so the number has a line of its own behind the last jump: FIVE OCT 5, and here CA FIVE
 ";
 
 const CAUSES_3: &[u8] = b"
@@ -116,4 +118,12 @@ const CAUSES_9: &[u8] = b"
      BANK 10
     R RETURN
   Cure: CA NAME and TS 4, where NAME FCADR R stands; for banks 40 to 43 WRITE 7 of 100 too
+";
+
+const CAUSES_10: &[u8] = b"
+- WRITE, WAND or WOR of channel 1 or 2 by its number: these are L and Q, and nothing goes out
+     EXTEND
+  >  WRITE 1
+    D TCF D
+  Cure: the channel that is meant, as 10; where the register is, LXCH or QXCH, or L EQUALS 1 and WRITE L
 ";

@@ -1,9 +1,10 @@
 //! What the numbers of refusals mean, as text.
 
 ghost use Rattle.std.specs.Prelude.{◌≡◌, ◌++◌, flat_map, IfOk, OnOk};
-ghost use Rattle.faults.specs.Refusals.{numbers, heading, warning_numbers, warning_heading};
+ghost use Rattle.faults.specs.Refusals.{numbers, heading, warning_numbers, warning_heading, note_headings};
 
 use crate::cautions::{WARNING_NUMBERS, warning_meaning};
+use crate::note_kinds::note_headings;
 use crate::refusals::{NUMBERS, Refusal, meaning};
 use crate::texts::push_number;
 use std::alloc::{AllocError, Global};
@@ -28,13 +29,14 @@ pub fn warning_explanation(alloc: Global, warning: &Refusal) -> Result<Vec<u8>, 
     Ok(text)
 }
 
-/// What each number means, in a line; those of refusals, and then those of warnings.
+/// What each number means, in a line; those of refusals, and then those of warnings; and what each kind of notes means.
 pub fn all_headings(alloc: Global) -> Result<Vec<u8>, AllocError>
-    ensures { IfOk result (λ text. text.items ≡ flat_map heading numbers ++ flat_map warning_heading warning_numbers) }
+    ensures { IfOk result (λ text. text.items ≡ flat_map heading numbers ++ flat_map warning_heading warning_numbers ++ note_headings) }
 {
     let mut text = Vec::new(alloc);
     push_headings(&mut text, &NUMBERS)?;
     push_warning_headings(&mut text, &WARNING_NUMBERS)?;
+    text.extend_from_slice(note_headings())?;
     Ok(text)
 }
 

@@ -1,33 +1,35 @@
 //! The first fault of a feed as lines of text.
 
-ghost use Rattle.std.specs.Prelude.{◌≡◌, ◌≤◌, ◌++◌, map, length, not, slice_get, IfOk, OnOk};
+ghost use Rattle.std.specs.Prelude.{◌≡◌, ◌≤◌, ◌++◌, map, length, not, slice_get, IfOk, OnOk, None, Some};
 ghost use Rattle.std.specs.Option.{option_map};
 ghost use Rattle.agc_text.specs.Fields.{fields};
 ghost use Rattle.agc_text.specs.Lines.{lines};
 ghost use Rattle.agc_text.specs.Views.{piece};
 ghost use Rattle.feed.specs.Feed.{inputs, most_bytes};
 ghost use Rattle.yayul.specs.Survey.{wrong_place};
-ghost use Rattle.faults.specs.FeedReport.{field_span, wrong_field, wrong_line, is_earlier_input, last_before, early, early_line, wrong_at, wrong_text, surplus_line, fault_text, fault_of, feed_report, feed_faults};
-ghost use Rattle.faults.specs.Warnings.{parts_in};
-ghost use Rattle.faults.specs.Views.{cause_in, wrong_in};
+ghost use Rattle.faults.specs.Report.{text_at};
+ghost use Rattle.yayul.specs.Readings.{parts_in};
+ghost use Rattle.faults.specs.FeedReport.{field_span, wrong_field, slipped, wrong_line, is_earlier_input, last_before, early, early_line, earlier_place, wrong_at, wrong_text, surplus_line, fault_text, fault_of, feed_report, feed_faults};
+ghost use Rattle.faults.specs.Views.{cause_in, place_in, wrong_in};
 ghost use Rattle.faults.specs.Causes.{said, text_of};
 ghost use Rattle.faults.specs.Refusals.{meaning};
-ghost use Rattle.faults.specs.Report.{text_at};
 ghost use Rattle.agc_text.specs.Bytes.{is_text_byte};
 
 use crate::causes::{Cause, byte_cause, long_cause};
-use crate::findings::{Severity, line_texts, text_at};
+use crate::feed_causes::slip_cause;
+use crate::findings::{line_texts, text_at};
 use crate::kinds::{is_input, push_kind_of_feed};
-use crate::mistakes::parts_of;
+use crate::objects::{Place, place_of};
 use crate::refusals::meaning;
-use crate::slips::line_slip;
-use crate::texts::{DIGITS, push_caused};
-use agc_text::{Field, LINE_LENGTH, Line, before_comment, is_text, next_field, next_line};
+use crate::texts::{DIGITS, push_finding};
+use crate::told::{Severity, Told};
+use agc_text::{Field, LINE_LENGTH, before_comment, is_text, next_field, next_line};
 use arrayvec::ArrayVec;
-use feed::FeedFault;
+use feed::{FeedFault, Slip, line_slip};
+use json_text::Notation;
 use std::alloc::{AllocError, Global};
 use words::push_decimal;
-use yayul::{Finding, Span};
+use yayul::{Language, Reading, Span, reading_of};
 
 /// The most inputs of a feed.
 const MOST_INPUTS: u32 = 65_536;
@@ -44,19 +46,24 @@ struct Wrong<'a> {
 }
 
 /// The lines of the first fault of a feed, which has this name, and what is said where it is a file of another kind; and how many
-/// faults are told.
+/// faults are told; as text, or as JSON in an object.
 #[tactic(auto, unfolding(crate::specs::FeedReport::feed_report, crate::specs::FeedReport::feed_faults))]
-pub fn feed_report(alloc: Global, name: &[u8], text: &[u8]) -> Result<(Vec<u8>, usize), AllocError>
+pub fn feed_report(
+    alloc: Global,
+    notation: Notation,
+    name: &[u8],
+    text: &[u8],
+) -> Result<(Vec<u8>, usize), AllocError>
     requires { length text.now ≤ most_bytes }
-    ensures text { IfOk result (λ r. r.0.items ≡ feed_report name.now text.now) }
+    ensures text { IfOk result (λ r. r.0.items ≡ feed_report notation name.now text.now) }
     ensures count { IfOk result (λ r. r.1 ≡ feed_faults text.now) }
 {
     let mut out = Vec::new(alloc);
     match first_fault(alloc, text)? {
         Some(fault) => {
             let texts = line_texts(alloc, text)?;
-            push_fault(&mut out, name, text, &texts, fault)?;
-            push_kind_of_feed(&mut out, name, text, &texts)?;
+            push_fault(&mut out, notation, name, text, &texts, fault)?;
+            push_kind_of_feed(&mut out, notation, name, text, &texts)?;
             Ok((out, 1))
         }
         None => Ok((out, 0)),
@@ -78,6 +85,7 @@ fn first_fault(alloc: Global, text: &[u8]) -> Result<Option<FeedFault>, AllocErr
 // Appends the lines of a fault.
 fn push_fault(
     out: &mut Vec<u8>,
+    notation: Notation,
     name: &[u8],
     text: &[u8],
     texts: &[&[u8]],
@@ -85,14 +93,14 @@ fn push_fault(
 ) -> Result<(), AllocError>
     requires few { length text.now ≤ most_bytes }
     requires lines { map (λ t. t.now) texts.now ≡ lines text.now }
-    ensures { OnOk result (out.new.items ≡ out.old.items ++ fault_text name.now (map (λ t. t.now) texts.now) fault) }
+    ensures { OnOk result (out.new.items ≡ out.old.items ++ fault_text notation name.now (map (λ t. t.now) texts.now) fault) }
 {
     match fault {
-        FeedFault::BadLine(line) => push_wrong_line(out, name, texts, line, 30),
-        FeedFault::OutOfOrder(line) => push_early(out, name, texts, line),
-        FeedFault::TooMany => push_surplus(out, name, texts, surplus_line(text), 32),
-        FeedFault::WrongCounter(line) => push_wrong_line(out, name, texts, line, 33),
-        FeedFault::TooManySeries(line) => push_surplus(out, name, texts, line, 35),
+        FeedFault::BadLine(line) => push_wrong_line(out, notation, name, texts, line, 30),
+        FeedFault::OutOfOrder(line) => push_early(out, notation, name, texts, line),
+        FeedFault::TooMany => push_surplus(out, notation, name, texts, surplus_line(text), 32),
+        FeedFault::WrongCounter(line) => push_wrong_line(out, notation, name, texts, line, 33),
+        FeedFault::TooManySeries(line) => push_surplus(out, notation, name, texts, line, 35),
         FeedFault::NoMemory | FeedFault::ReadFailed | FeedFault::TooLong => Ok(()),
     }
 }
@@ -100,90 +108,107 @@ fn push_fault(
 // Appends the lines of a fault of a number on a line.
 fn push_wrong(
     out: &mut Vec<u8>,
+    notation: Notation,
     name: &[u8],
     texts: &[&[u8]],
     line: u32,
     number: u8,
     wrong: &Wrong<'_>,
+    place: Option<Place<'_>>,
 ) -> Result<(), AllocError>
-    ensures { OnOk result (out.new.items ≡ out.old.items ++ wrong_text name.now (map (λ t. t.now) texts.now) line number (wrong_in wrong.now)) }
+    ensures { OnOk result (out.new.items ≡ out.old.items ++ wrong_text notation name.now (map (λ t. t.now) texts.now) line number (wrong_in wrong.now) (option_map place_in place.entry)) }
 {
     let text = text_at(texts, line);
-    push_wrong_at(out, name, text, &parts_of(text), line, number, wrong)
+    let parts = reading_of(Language::Standard, text);
+    push_wrong_at(
+        out, notation, name, text, &parts, line, number, wrong, place,
+    )
 }
 
 // Appends the lines of a fault of a number on a line, which has a number too and some fields.
 #[tactic(auto, unfolding(crate::specs::FeedReport::wrong_at))]
 fn push_wrong_at(
     out: &mut Vec<u8>,
+    notation: Notation,
     name: &[u8],
     text: &[u8],
-    parts: &Line<'_>,
+    parts: &Reading<'_>,
     line: u32,
     number: u8,
     wrong: &Wrong<'_>,
+    place: Option<Place<'_>>,
 ) -> Result<(), AllocError>
-    ensures { OnOk result (out.new.items ≡ out.old.items ++ wrong_at name.now text.now (parts_in parts.now) line number (wrong_in wrong.now)) }
+    ensures { OnOk result (out.new.items ≡ out.old.items ++ wrong_at notation name.now text.now (parts_in parts.now) line number (wrong_in wrong.now) (option_map place_in place.entry)) }
 {
-    let finding = Finding {
-        line,
+    let told = Told {
+        severity: Severity::Error,
         number,
+        line,
         span: wrong.span,
-        taken_by: None,
     };
-    let (beside, cause) = (wrong.beside, &wrong.cause);
-    push_caused(
+    push_finding(
         out,
+        notation,
         name,
         text,
         parts,
-        beside,
-        Severity::Error,
-        &finding,
-        cause,
+        wrong.beside,
+        place,
+        &told,
+        &wrong.cause,
     )
 }
 
 // Appends the lines of a fault of a line that is no input and no series, or whose counter does not take the sequence.
 fn push_wrong_line(
     out: &mut Vec<u8>,
+    notation: Notation,
     name: &[u8],
     texts: &[&[u8]],
     line: u32,
     number: u8,
 ) -> Result<(), AllocError>
     ensures { OnOk result (out.new.items ≡ out.old.items
-        ++ wrong_text name.now (map (λ t. t.now) texts.now) line number (wrong_line (text_at (map (λ t. t.now) texts.now) line))) }
+        ++ wrong_text notation name.now (map (λ t. t.now) texts.now) line number (wrong_line (text_at (map (λ t. t.now) texts.now) line)) None) }
 {
     let wrong = wrong_line(text_at(texts, line));
-    push_wrong(out, name, texts, line, number, &wrong)
+    push_wrong(out, notation, name, texts, line, number, &wrong, None)
 }
 
 // Appends the lines of a fault of a line that is one too many.
 fn push_surplus(
     out: &mut Vec<u8>,
+    notation: Notation,
     name: &[u8],
     texts: &[&[u8]],
     line: u32,
     number: u8,
 ) -> Result<(), AllocError>
     ensures { OnOk result (out.new.items ≡ out.old.items
-        ++ wrong_text name.now (map (λ t. t.now) texts.now) line number (wrong_field (text_at (map (λ t. t.now) texts.now) line) 0 (said (meaning number)))) }
+        ++ wrong_text notation name.now (map (λ t. t.now) texts.now) line number (wrong_field (text_at (map (λ t. t.now) texts.now) line) 0 (said (meaning number))) None) }
 {
     let wrong = wrong_field(text_at(texts, line), 0, Cause::said(meaning(number)));
-    push_wrong(out, name, texts, line, number, &wrong)
+    push_wrong(out, notation, name, texts, line, number, &wrong, None)
 }
 
 // Appends the lines of a fault of a line whose cycle is below that of an earlier one.
 #[tactic(auto, using(words::proofs::Digits::short_decimal))]
-fn push_early(out: &mut Vec<u8>, name: &[u8], texts: &[&[u8]], line: u32) -> Result<(), AllocError>
+fn push_early(
+    out: &mut Vec<u8>,
+    notation: Notation,
+    name: &[u8],
+    texts: &[&[u8]],
+    line: u32,
+) -> Result<(), AllocError>
     ensures { OnOk result (out.new.items ≡ out.old.items
-        ++ wrong_text name.now (map (λ t. t.now) texts.now) line 31 (early (map (λ t. t.now) texts.now) line)) }
+        ++ wrong_text notation name.now (map (λ t. t.now) texts.now) line 31 (early (map (λ t. t.now) texts.now) line) (Some (earlier_place (map (λ t. t.now) texts.now) line))) }
 {
+    let earlier = last_before(texts, line);
     let mut digits = ArrayVec::<u8, DIGITS>::new();
-    push_decimal(&mut digits, last_before(texts, line));
+    push_decimal(&mut digits, earlier);
+    let place = Some(place_of(Language::Standard, texts, earlier));
     let wrong = early_line(text_at(texts, line), digits.as_slice());
-    push_wrong(out, name, texts, line, 31, &wrong)
+    push_wrong(out, notation, name, texts, line, 31, &wrong, place)
 }
 
 // A line whose cycle is below that of an earlier one, the number of which has some digits.
@@ -221,9 +246,16 @@ fn wrong_line(text: &[u8]) -> Wrong<'_>
             cause: long_cause(text),
         }
     } else {
-        let slip = line_slip(before_comment(text));
-        wrong_field(text, slip.place, slip.cause)
+        slipped(text, line_slip(before_comment(text)))
     }
+}
+
+// A line that is refused at one of its fields.
+fn slipped(text: &[u8], slip: Slip) -> Wrong<'_>
+    ensures { wrong_in result ≡ slipped text.now slip }
+{
+    let cause = slip_cause(slip.why, field_text(text, slip.field));
+    wrong_field(text, slip.field, cause)
 }
 
 // A line that is wrong at one of its fields.
@@ -263,8 +295,8 @@ fn field_text(text: &[u8], place: u8) -> &[u8]
     }
 }
 
-// The field of a line that is so many after the first.
-fn field_after(text: &[u8], place: u8) -> Option<Field<'_>>
+/// The field of a line that is so many after the first.
+pub(crate) fn field_after(text: &[u8], place: u8) -> Option<Field<'_>>
     ensures { option_map piece result ≡ slice_get (fields text.now) place }
 {
     let mut from = 0;

@@ -1,60 +1,55 @@
 //! The faults and the warnings of a source as lines of text.
 
-ghost use Rattle.std.specs.Prelude.{◌≡◌, ◌≤◌, ◌++◌, ◌==◌, map, length, decimal, flat_map, [], if◌then◌else◌, OnOk, IfOk};
+ghost use Rattle.std.specs.Prelude.{◌≡◌, ◌≤◌, ◌++◌, ◌==◌, map, length, decimal, flat_map, [], if◌then◌else◌, OnOk, IfOk, Some};
 ghost use Rattle.std.specs.Option.{option_map};
 ghost use Rattle.agc_text.specs.Lines.{lines};
+ghost use Rattle.yayul.specs.Readings.{parts_in};
 ghost use Rattle.faults.specs.Kinds.{kind_of_source};
-ghost use Rattle.faults.specs.Warnings.{parts_in};
 ghost use Rattle.faults.specs.Causes.{below_cause};
-ghost use Rattle.faults.specs.Report.{caused_text, text_at, shown_finding, shown_line, beside_text, line_beside, needs_value, line_below, as_label, told_by_line, may_be_label, with_label, labels_of, sought_labels, takes_label, has_label, first_line, count_before, as_warning, merged, counted, count_text, interpretive_text, warned_before, listed_from, listed_around, told_around, told_text, refused_file, report};
+ghost use Rattle.json_text.specs.declared.notation.Notation.TheVariants.{Text};
+ghost use Rattle.faults.specs.Objects.{place_of};
+ghost use Rattle.faults.specs.Report.{as_error, told_in, text_at, shown_error, shown_warning, shown_line, beside_text, listed, is_early, line_beside, needs_value, line_below, as_label, told_by_line, may_be_label, with_label, labels_of, sought_labels, takes_label, has_label, first_line, count_before, counted, count_text, interpretive_text, warned_before, listed_from, listed_around, told_around, told_text, refused_file, report};
 
-use crate::causes::{below_cause, holds, label_refusers, near_label, text_of};
-use crate::flight_causes::equalities;
+use crate::causes::{below_cause, holds, near_label, text_of};
 use crate::interpretive::{count_before_first, first_and_others, interpretive_cause};
 use crate::kinds::push_kind_of_source;
-use crate::mistakes::{add_field, has_operator};
+use crate::mistakes::add_field;
 use crate::names::NameSet;
-use crate::parts::{is_count, is_digits, parts_for};
+use crate::objects::{place_of, push_count_object};
 use crate::refusals::meaning;
-use crate::texts::{DIGITS, push_caused, push_finding, push_number};
-use agc_text::{Line, next_line};
+use crate::roles::{is_equals, refuses_label};
+use crate::texts::{DIGITS, push_error, push_finding, push_number, push_warning};
+use crate::told::{Told, Warning};
+use agc_text::next_line;
 use arrayvec::ArrayVec;
+use json_text::Notation;
 use std::alloc::{AllocError, Global};
 use words::push_decimal;
-use yayul::{Finding, Language};
+use yayul::{FaultKind, Finding, Language, Reading, is_count, is_digits, reading_of};
 
 /// The most faults of a source that are told with labels of other lines.
 const MOST_FAULTS: usize = 100;
 
-/// The number of the fault that a symbol has no value yet.
-const USED_TOO_EARLY: u8 = 18;
-
-/// Whether what is found bars a source from assembling.
-#[derive(Clone, Copy, PartialEq, Eq, Debug, Drop)]
-pub enum Severity {
-    /// A fault, which does.
-    Error,
-    /// What is likely a mistake, and does not.
-    Warning,
-}
-
 /// The lines of the faults and the warnings of a source of a language, which has this name, in the order of lines, and what is said where it has faults and is a
-/// file of another kind.
+/// file of another kind; as text, or as JSON in an object each.
 #[tactic(auto, unfolding(crate::specs::Report::report))]
 pub fn report(
     alloc: Global,
+    notation: Notation,
     language: Language,
     name: &[u8],
     source: &[u8],
     faults: &[Finding],
-    warnings: &[Finding],
+    warnings: &[Warning],
 ) -> Result<Vec<u8>, AllocError>
-    ensures { IfOk result (λ text. text.items ≡ report language name.now source.now faults.now warnings.now) }
+    ensures { IfOk result (λ text. text.items ≡ report notation language name.now source.now faults.now warnings.now) }
 {
     let texts = line_texts(alloc, source)?;
     let mut out = Vec::new(alloc);
-    push_told(alloc, &mut out, language, name, &texts, faults, warnings)?;
-    push_kind(&mut out, name, source, &texts, faults)?;
+    push_told(
+        alloc, &mut out, notation, language, name, &texts, faults, warnings,
+    )?;
+    push_kind(&mut out, notation, name, source, &texts, faults)?;
     Ok(out)
 }
 
@@ -63,36 +58,40 @@ pub fn report(
 fn push_told(
     alloc: Global,
     out: &mut Vec<u8>,
+    notation: Notation,
     language: Language,
     name: &[u8],
     texts: &[&[u8]],
     faults: &[Finding],
-    warnings: &[Finding],
+    warnings: &[Warning],
 ) -> Result<(), AllocError>
-    ensures { OnOk result (out.new.items ≡ out.old.items ++ told_text language name.now (map (λ t. t.now) texts.now) faults.now warnings.now) }
+    ensures { OnOk result (out.new.items ≡ out.old.items ++ told_text notation language name.now (map (λ t. t.now) texts.now) faults.now warnings.now) }
 {
     let (earlier, rest) = faults.split_at(count_before_first(language, texts, faults));
-    push_told_around(alloc, out, language, name, texts, earlier, rest, warnings)
+    push_told_around(
+        alloc, out, notation, language, name, texts, earlier, rest, warnings,
+    )
 }
 
 // Appends those of some faults, and of faults of which the first is of the interpretive language.
 fn push_told_around(
     alloc: Global,
     out: &mut Vec<u8>,
+    notation: Notation,
     language: Language,
     name: &[u8],
     texts: &[&[u8]],
     earlier: &[Finding],
     rest: &[Finding],
-    warnings: &[Finding],
+    warnings: &[Warning],
 ) -> Result<(), AllocError>
-    ensures { OnOk result (out.new.items ≡ out.old.items ++ told_around language name.now (map (λ t. t.now) texts.now) earlier.now rest.now warnings.now) }
+    ensures { OnOk result (out.new.items ≡ out.old.items ++ told_around notation language name.now (map (λ t. t.now) texts.now) earlier.now rest.now warnings.now) }
 {
     let told = first_and_others(alloc, texts, rest)?;
     let labels = sought_labels(alloc, language, texts, earlier.len() + told.len())?;
     let count = rest.len().saturating_sub(told.len()) + 1;
     push_around(
-        alloc, out, language, name, &labels, texts, count, earlier, &told, warnings,
+        alloc, out, notation, language, name, &labels, texts, count, earlier, &told, warnings,
     )
 }
 
@@ -100,6 +99,7 @@ fn push_told_around(
 fn push_around(
     alloc: Global,
     out: &mut Vec<u8>,
+    notation: Notation,
     language: Language,
     name: &[u8],
     labels: &NameSet,
@@ -107,17 +107,21 @@ fn push_around(
     count: usize,
     earlier: &[Finding],
     rest: &[Finding],
-    warnings: &[Finding],
+    warnings: &[Warning],
 ) -> Result<(), AllocError>
-    ensures { OnOk result (out.new.items ≡ out.old.items ++ listed_around language name.now labels.now (map (λ t. t.now) texts.now) count earlier.now rest.now warnings.now) }
+    ensures { OnOk result (out.new.items ≡ out.old.items ++ listed_around notation language name.now labels.now (map (λ t. t.now) texts.now) count earlier.now rest.now warnings.now) }
 {
     let (warned, left) = warnings.split_at(warned_before(rest, warnings));
-    push_merged(out, language, name, labels, texts, earlier, warned)?;
-    push_from(alloc, out, language, name, labels, texts, count, rest, left)
+    push_merged(
+        out, notation, language, name, labels, texts, earlier, warned,
+    )?;
+    push_from(
+        alloc, out, notation, language, name, labels, texts, count, rest, left,
+    )
 }
 
 // How many of some warnings stand before the line of the first of some faults, all where there is none.
-fn warned_before(faults: &[Finding], warnings: &[Finding]) -> usize
+fn warned_before(faults: &[Finding], warnings: &[Warning]) -> usize
     ensures value { result ≡ warned_before faults.now warnings.now }
     ensures within { result ≤ length warnings.now }
 {
@@ -131,22 +135,27 @@ fn warned_before(faults: &[Finding], warnings: &[Finding]) -> usize
 fn push_from(
     alloc: Global,
     out: &mut Vec<u8>,
+    notation: Notation,
     language: Language,
     name: &[u8],
     labels: &NameSet,
     texts: &[&[u8]],
     count: usize,
     faults: &[Finding],
-    warnings: &[Finding],
+    warnings: &[Warning],
 ) -> Result<(), AllocError>
-    ensures { OnOk result (out.new.items ≡ out.old.items ++ listed_from language name.now labels.now (map (λ t. t.now) texts.now) count faults.now warnings.now) }
+    ensures { OnOk result (out.new.items ≡ out.old.items ++ listed_from notation language name.now labels.now (map (λ t. t.now) texts.now) count faults.now warnings.now) }
 {
     match faults.split_first() {
         Some((first, others)) => {
-            push_interpretive(alloc, out, language, name, texts, count, first)?;
-            push_merged(out, language, name, labels, texts, others, warnings)
+            push_interpretive(alloc, out, notation, language, name, texts, count, first)?;
+            push_merged(
+                out, notation, language, name, labels, texts, others, warnings,
+            )
         }
-        None => push_merged(out, language, name, labels, texts, faults, warnings),
+        None => push_merged(
+            out, notation, language, name, labels, texts, faults, warnings,
+        ),
     }
 }
 
@@ -154,25 +163,27 @@ fn push_from(
 fn push_interpretive(
     alloc: Global,
     out: &mut Vec<u8>,
+    notation: Notation,
     language: Language,
     name: &[u8],
     texts: &[&[u8]],
     count: usize,
     first: &Finding,
 ) -> Result<(), AllocError>
-    ensures { OnOk result (out.new.items ≡ out.old.items ++ interpretive_text language name.now (map (λ t. t.now) texts.now) count first.now) }
+    ensures { OnOk result (out.new.items ≡ out.old.items ++ interpretive_text notation language name.now (map (λ t. t.now) texts.now) count first.now) }
 {
     let text = text_at(texts, first.line);
     let mut lines = Vec::new(alloc);
     push_counted(&mut lines, count, b"line")?;
-    push_caused(
+    push_finding(
         out,
+        notation,
         name,
         text,
-        &parts_for(language, text),
+        &reading_of(language, text),
         &lines,
-        Severity::Error,
-        first,
+        None,
+        &Told::error(first),
         &interpretive_cause(),
     )
 }
@@ -180,27 +191,36 @@ fn push_interpretive(
 // Appends what is said of a source with faults that is a file of another kind.
 fn push_kind(
     out: &mut Vec<u8>,
+    notation: Notation,
     name: &[u8],
     source: &[u8],
     texts: &[&[u8]],
     faults: &[Finding],
 ) -> Result<(), AllocError>
     requires { map (λ t. t.now) texts.now ≡ lines source.now }
-    ensures { OnOk result (out.new.items ≡ out.old.items ++ (if length faults.now == 0 then [] else kind_of_source name.now source.now)) }
+    ensures { OnOk result (out.new.items ≡ out.old.items ++ (if length faults.now == 0 then [] else kind_of_source notation name.now source.now)) }
 {
     if faults.is_empty() {
         Ok(())
     } else {
-        push_kind_of_source(out, name, source, texts)
+        push_kind_of_source(out, notation, name, source, texts)
     }
 }
 
-/// How many faults and how many warnings there are, as a line of text.
-pub fn counts(alloc: Global, faults: usize, warnings: usize) -> Result<Vec<u8>, AllocError>
-    ensures { IfOk result (λ text. text.items ≡ count_text faults warnings) }
+/// How many faults and how many warnings there are, as a line of text or as JSON in an object.
+pub fn counts(
+    alloc: Global,
+    notation: Notation,
+    faults: usize,
+    warnings: usize,
+) -> Result<Vec<u8>, AllocError>
+    ensures { IfOk result (λ text. text.items ≡ count_text notation faults warnings) }
 {
     let mut out = Vec::new(alloc);
-    push_counts(&mut out, faults, warnings)?;
+    match notation {
+        Notation::Text => push_counts(&mut out, faults, warnings)?,
+        Notation::Json => push_count_object(&mut out, faults, warnings)?,
+    }
     Ok(out)
 }
 
@@ -235,7 +255,7 @@ fn sought_labels(
 ) -> Result<NameSet, AllocError>
     ensures { IfOk result (λ labels. labels ≡ sought_labels language (map (λ t. t.now) texts.now) count) }
 {
-    if count <= MOST_FAULTS {
+    if (1..=MOST_FAULTS).contains(&count) {
         labels_of(alloc, language, texts)
     } else {
         Ok(NameSet::new(alloc))
@@ -248,13 +268,13 @@ fn labels_of(alloc: Global, language: Language, texts: &[&[u8]]) -> Result<NameS
 {
     let mut labels = NameSet::new(alloc);
     for text in texts {
-        add_label(&mut labels, &parts_for(language, text))?;
+        add_label(&mut labels, &reading_of(language, text))?;
     }
     Ok(labels)
 }
 
 // Adds the label of a line, where the line may have one and it may have the form of one.
-fn add_label(labels: &mut NameSet, parts: &Line<'_>) -> Result<(), AllocError>
+fn add_label(labels: &mut NameSet, parts: &Reading<'_>) -> Result<(), AllocError>
     ensures { OnOk result (labels.new ≡ with_label labels.old (parts_in parts.now)) }
 {
     if may_be_label(text_of(parts.label)) && takes_label(parts) {
@@ -287,108 +307,125 @@ pub(crate) fn line_texts(alloc: Global, source: &[u8]) -> Result<Vec<&[u8]>, All
 // Appends the lines of faults and warnings, in the order of lines.
 fn push_merged(
     out: &mut Vec<u8>,
+    notation: Notation,
     language: Language,
     name: &[u8],
     labels: &NameSet,
     texts: &[&[u8]],
     faults: &[Finding],
-    warnings: &[Finding],
+    warnings: &[Warning],
 ) -> Result<(), AllocError>
-    ensures { OnOk result (out.new.items ≡ out.old.items ++ flat_map (shown_finding language name.now labels.now (map (λ t. t.now) texts.now)) (merged faults.now warnings.now)) }
+    ensures { OnOk result (out.new.items ≡ out.old.items ++ listed notation language name.now labels.now (map (λ t. t.now) texts.now) faults.now warnings.now) }
 {
     let mut rest = warnings;
     for fault in faults {
         let (earlier, later) = rest.split_at(count_before(fault.line, rest));
-        push_warnings(out, language, name, labels, texts, earlier)?;
-        push_shown_finding(out, language, name, labels, texts, Severity::Error, fault)?;
+        push_warnings(out, notation, language, name, texts, earlier)?;
+        push_shown_error(out, notation, language, name, labels, texts, fault)?;
         rest = later;
     }
-    push_warnings(out, language, name, labels, texts, rest)
+    push_warnings(out, notation, language, name, texts, rest)
 }
 
-// How many of some findings in order stand before a line.
-fn count_before(line: u32, findings: &[Finding]) -> usize
-    ensures value { result ≡ count_before line findings.now }
-    ensures within { result ≤ length findings.now }
+// How many of some warnings in order stand before a line.
+fn count_before(line: u32, warnings: &[Warning]) -> usize
+    ensures value { result ≡ count_before line warnings.now }
+    ensures within { result ≤ length warnings.now }
 {
-    for (index, finding) in findings.iter().enumerate() {
-        if line <= finding.line {
+    for (index, warning) in warnings.iter().enumerate() {
+        if line <= warning.line {
             return index;
         }
     }
-    findings.len()
+    warnings.len()
 }
 
 // Appends the lines of some warnings.
 fn push_warnings(
     out: &mut Vec<u8>,
+    notation: Notation,
     language: Language,
     name: &[u8],
-    labels: &NameSet,
     texts: &[&[u8]],
-    warnings: &[Finding],
+    warnings: &[Warning],
 ) -> Result<(), AllocError>
-    ensures { OnOk result (out.new.items ≡ out.old.items ++ flat_map (shown_finding language name.now labels.now (map (λ t. t.now) texts.now)) (map as_warning warnings.now)) }
+    ensures { OnOk result (out.new.items ≡ out.old.items ++ flat_map (shown_warning notation language name.now (map (λ t. t.now) texts.now)) warnings.now) }
 {
     for warning in warnings {
-        push_shown_finding(
-            out,
-            language,
-            name,
-            labels,
-            texts,
-            Severity::Warning,
-            warning,
-        )?;
+        push_shown_warning(out, notation, language, name, texts, warning)?;
     }
     Ok(())
 }
 
-// Appends the lines of a finding.
-fn push_shown_finding(
+// Appends the lines of a warning.
+fn push_shown_warning(
     out: &mut Vec<u8>,
+    notation: Notation,
+    language: Language,
+    name: &[u8],
+    texts: &[&[u8]],
+    warning: &Warning,
+) -> Result<(), AllocError>
+    ensures { OnOk result (out.new.items ≡ out.old.items ++ shown_warning notation language name.now (map (λ t. t.now) texts.now) warning.now) }
+{
+    let text = text_at(texts, warning.line);
+    push_warning(
+        out,
+        notation,
+        name,
+        text,
+        &reading_of(language, text),
+        warning,
+    )
+}
+
+// Appends the lines of a fault.
+fn push_shown_error(
+    out: &mut Vec<u8>,
+    notation: Notation,
     language: Language,
     name: &[u8],
     labels: &NameSet,
     texts: &[&[u8]],
-    severity: Severity,
-    finding: &Finding,
+    fault: &Finding,
 ) -> Result<(), AllocError>
-    ensures { OnOk result (out.new.items ≡ out.old.items ++ shown_finding language name.now labels.now (map (λ t. t.now) texts.now) (severity, finding.now)) }
+    ensures { OnOk result (out.new.items ≡ out.old.items ++ shown_error notation language name.now labels.now (map (λ t. t.now) texts.now) fault.now) }
 {
-    let text = text_at(texts, finding.line);
+    let text = text_at(texts, fault.line);
     push_shown_line(
         out,
+        notation,
         language,
         name,
         labels,
         texts,
         text,
-        &parts_for(language, text),
-        severity,
-        finding,
+        &reading_of(language, text),
+        fault,
     )
 }
 
-// Appends the lines of a finding of a line with some fields: an E18 names the line below that defines its symbol.
+// Appends the lines of a fault of a line with some fields: an E18 names the line below that defines its symbol.
 #[tactic(auto, unfolding(crate::specs::Report::shown_line))]
 fn push_shown_line(
     out: &mut Vec<u8>,
+    notation: Notation,
     language: Language,
     name: &[u8],
     labels: &NameSet,
     texts: &[&[u8]],
     text: &[u8],
-    parts: &Line<'_>,
-    severity: Severity,
-    finding: &Finding,
+    parts: &Reading<'_>,
+    fault: &Finding,
 ) -> Result<(), AllocError>
-    ensures { OnOk result (out.new.items ≡ out.old.items ++ shown_line language name.now labels.now (map (λ t. t.now) texts.now) text.now (parts_in parts.now) (severity, finding.now)) }
+    ensures { OnOk result (out.new.items ≡ out.old.items ++ shown_line notation language name.now labels.now (map (λ t. t.now) texts.now) text.now (parts_in parts.now) fault.now) }
 {
-    match line_below(language, labels, texts, parts, finding) {
-        Some(line) => push_below(out, name, text, parts, severity, finding, line),
+    match line_below(language, labels, texts, parts, fault) {
+        Some(line) => push_below(
+            out, notation, language, name, texts, text, parts, fault, line,
+        ),
         None => push_beside(
-            out, language, name, labels, texts, text, parts, severity, finding,
+            out, notation, language, name, labels, texts, text, parts, fault,
         ),
     }
 }
@@ -397,28 +434,25 @@ fn push_shown_line(
 #[tactic(auto, using(words::proofs::Digits::short_decimal))]
 fn push_below(
     out: &mut Vec<u8>,
+    notation: Notation,
+    language: Language,
     name: &[u8],
+    texts: &[&[u8]],
     text: &[u8],
-    parts: &Line<'_>,
-    severity: Severity,
-    finding: &Finding,
+    parts: &Reading<'_>,
+    fault: &Finding,
     line: u64,
 ) -> Result<(), AllocError>
-    ensures { OnOk result (out.new.items ≡ out.old.items ++ caused_text name.now text.now (parts_in parts.now) (decimal line) severity finding.now below_cause) }
+    ensures { OnOk result (out.new.items ≡ out.old.items
+        ++ told_in notation name.now text.now (parts_in parts.now) (decimal line) (Some (place_of language (map (λ t. t.now) texts.now) line)) (as_error fault.now) below_cause) }
 {
     let mut digits = ArrayVec::<u8, DIGITS>::new();
     push_decimal(&mut digits, line);
+    let place = Some(place_of(language, texts, line));
     let line = digits.as_slice();
-    push_caused(
-        out,
-        name,
-        text,
-        parts,
-        line,
-        severity,
-        finding,
-        &below_cause(),
-    )
+    let told = Told::error(fault);
+    let cause = below_cause();
+    push_finding(out, notation, name, text, parts, line, place, &told, &cause)
 }
 
 // The first line that has the symbol of an E18 as its label, where that stands below.
@@ -426,58 +460,70 @@ fn line_below(
     language: Language,
     labels: &NameSet,
     texts: &[&[u8]],
-    parts: &Line<'_>,
-    finding: &Finding,
+    parts: &Reading<'_>,
+    fault: &Finding,
 ) -> Option<u64>
-    ensures { result ≡ line_below language labels.now (map (λ t. t.now) texts.now) (parts_in parts.now) finding.now }
+    ensures { result ≡ line_below language labels.now (map (λ t. t.now) texts.now) (parts_in parts.now) fault.now }
 {
     let symbol = text_of(parts.operand);
-    if finding.number != USED_TOO_EARLY || !needs_value(language, parts) || !labels.has(symbol) {
+    if !is_early(fault.kind) || !needs_value(language, parts) || !labels.has(symbol) {
         return None;
     }
     let line = first_line(language, texts, symbol);
-    if u64::from(finding.line) < line {
+    if u64::from(fault.line) < line {
         Some(line)
     } else {
         None
     }
 }
 
+// Whether a fault is that no earlier line defines a symbol.
+fn is_early(kind: FaultKind) -> bool
+    ensures { result ≡ is_early kind }
+{
+    matches!(kind, FaultKind::UsedTooEarly)
+}
+
 // Whether a symbol needs its value on a line that names it: not on one of a flight source whose label may wait for that.
-fn needs_value(language: Language, parts: &Line<'_>) -> bool
+fn needs_value(language: Language, parts: &Reading<'_>) -> bool
     ensures { result ≡ needs_value language (parts_in parts.now) }
 {
     match language {
         Language::Standard => true,
-        Language::Flight => !has_operator(equalities(), parts),
+        Language::Flight => !is_equals(parts.role),
     }
 }
 
-// Appends the lines of a finding of a line with some fields, with what it is told with from other lines.
+// Appends the lines of a fault of a line with some fields, with what it is told with from other lines.
 #[tactic(auto, using(words::proofs::Digits::short_decimal), unfolding(crate::specs::Report::beside_text))]
 fn push_beside(
     out: &mut Vec<u8>,
+    notation: Notation,
     language: Language,
     name: &[u8],
     labels: &NameSet,
     texts: &[&[u8]],
     text: &[u8],
-    parts: &Line<'_>,
-    severity: Severity,
-    finding: &Finding,
+    parts: &Reading<'_>,
+    fault: &Finding,
 ) -> Result<(), AllocError>
-    ensures { OnOk result (out.new.items ≡ out.old.items ++ beside_text language name.now labels.now (map (λ t. t.now) texts.now) text.now (parts_in parts.now) (severity, finding.now)) }
+    ensures { OnOk result (out.new.items ≡ out.old.items ++ beside_text notation language name.now labels.now (map (λ t. t.now) texts.now) text.now (parts_in parts.now) fault.now) }
 {
-    match line_beside(language, labels, texts, parts, finding) {
+    match line_beside(language, labels, texts, parts, fault) {
         Some(line) => {
             let mut digits = ArrayVec::<u8, DIGITS>::new();
             push_decimal(&mut digits, line);
+            let place = Some(place_of(language, texts, line));
             let line = Some(digits.as_slice());
-            push_finding(out, language, name, text, parts, line, severity, finding)
+            push_error(
+                out, notation, language, name, text, parts, line, place, fault,
+            )
         }
         None => {
-            let near = near_label(labels, parts, finding);
-            push_finding(out, language, name, text, parts, near, severity, finding)
+            let near = near_label(labels, parts, fault.kind);
+            push_error(
+                out, notation, language, name, text, parts, near, None, fault,
+            )
         }
     }
 }
@@ -487,26 +533,28 @@ fn line_beside(
     language: Language,
     labels: &NameSet,
     texts: &[&[u8]],
-    parts: &Line<'_>,
-    finding: &Finding,
+    parts: &Reading<'_>,
+    fault: &Finding,
 ) -> Option<u64>
-    ensures { result ≡ line_beside language labels.now (map (λ t. t.now) texts.now) (parts_in parts.now) finding.now }
+    ensures { result ≡ line_beside language labels.now (map (λ t. t.now) texts.now) (parts_in parts.now) fault.now }
 {
-    match finding.taken_by {
+    match fault.taken_by {
         Some(line) => Some(u64::from(line)),
-        None => told_by_line(labels, parts, finding.number).map(|label| first_line(
+        None => told_by_line(labels, parts, fault.kind).map(|label| first_line(
             language, texts, label,
         )),
     }
 }
 
 // The label whose first line a fault is told with.
-fn told_by_line<'a>(labels: &NameSet, parts: &Line<'a>, number: u8) -> Option<&'a [u8]>
-    ensures { option_map (λ label. label.now) result ≡ told_by_line labels.now (parts_in parts.now) number }
+fn told_by_line<'a>(labels: &NameSet, parts: &Reading<'a>, kind: FaultKind) -> Option<&'a [u8]>
+    ensures { option_map (λ label. label.now) result ≡ told_by_line labels.now (parts_in parts.now) kind }
 {
-    match number {
-        14 => as_label(labels, text_of(parts.label)),
-        25 | 26 => as_label(labels, text_of(parts.operand)),
+    match kind {
+        FaultKind::TwiceDefined => as_label(labels, text_of(parts.label)),
+        FaultKind::WrongKindOfAddress | FaultKind::OutOfRange => {
+            as_label(labels, text_of(parts.operand))
+        }
         _ => None,
     }
 }
@@ -534,15 +582,15 @@ fn first_line(language: Language, texts: &[&[u8]], label: &[u8]) -> u64
 fn has_label(language: Language, text: &[u8], label: &[u8]) -> bool
     ensures { result ≡ has_label language label.now text.now }
 {
-    let parts = parts_for(language, text);
+    let parts = reading_of(language, text);
     text_of(parts.label) == label && takes_label(&parts)
 }
 
 // Whether a line may have a label: its operator, if any, takes one.
-fn takes_label(parts: &Line<'_>) -> bool
+fn takes_label(parts: &Reading<'_>) -> bool
     ensures { result ≡ takes_label (parts_in parts.now) }
 {
-    !has_operator(label_refusers(), parts)
+    !refuses_label(parts.role)
 }
 
 /// The line of a number; one that does not stand is empty.
@@ -557,7 +605,7 @@ pub(crate) fn text_at<'a>(texts: &[&'a [u8]], line: u32) -> &'a [u8]
 
 // Appends how many faults and how many warnings there are.
 fn push_counts(out: &mut Vec<u8>, faults: usize, warnings: usize) -> Result<(), AllocError>
-    ensures { OnOk result (out.new.items ≡ out.old.items ++ count_text faults warnings) }
+    ensures { OnOk result (out.new.items ≡ out.old.items ++ count_text Text faults warnings) }
 {
     push_counted(out, faults, b"error")?;
     out.extend_from_slice(b", ")?;

@@ -1,27 +1,29 @@
 //! What a fault of a flight source is in words, where these are others than those of the standard language.
 
-ghost use Rattle.std.specs.Prelude.{◌≡◌, map};
-ghost use Rattle.faults.specs.Warnings.{parts_in};
-ghost use Rattle.faults.specs.FlightCauses.{unsure_words, unsure_values, unsure_effects, comparisons, octal_words, double_octals, verb_nouns, decimals, double_decimals, equalities, fixed_constants, bank_words, downlist_words, channel_words, fixed_words, count_words, form_cause, signed_label_cause, has_signed_label, has_octal_alone, has_signed_alone, decimal_cause, flight_operand_cause, flight_label_cause, flight_operator_cause, flight_early_cause, waiting_cause, flight_kind_cause, is_moved_back, is_between_banks, flight_range_cause, flight_cause, is_of_flight, told_cause};
+ghost use Rattle.std.specs.Prelude.{◌≡◌};
+ghost use Rattle.yayul.specs.Readings.{parts_in};
+ghost use Rattle.faults.specs.FlightCauses.{unsure_operators, compares, form_cause, signed_label_cause, has_signed_label, has_octal_alone, has_signed_alone, decimal_cause, flight_operand_cause, flight_label_cause, flight_operator_cause, flight_early_cause, waiting_cause, flight_kind_cause, is_moved_back, is_between_banks, flight_range_cause, flight_cause, is_of_flight, is_of_form, told_cause};
 ghost use Rattle.faults.specs.Report.{flight_clause};
-ghost use Rattle.faults.specs.Views.{cause_in};
+ghost use Rattle.faults.specs.Views.{cause_in, entries};
 
 use crate::causes::{
-    Cause, bank_operators, begins, fault_cause, has_foreign_comment, holds, is_signed,
-    label_refusers, symbol_cause, text_of,
+    Cause, begins, fault_cause, has_foreign_comment, holds, is_signed, symbol_cause, text_of,
+    value_in,
 };
-use crate::mistakes::{erase_operators, has_operator};
 use crate::names::is_short;
-use crate::parts::is_count;
-use agc_text::{Line, Number, decimal_value, octal_value};
-use yayul::{Finding, Language, has_flight_form};
+use crate::roles::{
+    is_count_complement, is_decimal_pair, is_equals, is_erase, is_octal, is_octal_pair,
+    is_read_fixed, is_verb_noun, names_bank, refuses_label, takes_decimal, takes_low_bank,
+};
+use agc_text::{Number, decimal_value, octal_value};
+use yayul::{FaultKind, Finding, Language, Reading, has_flight_form, is_count};
 
 /// A fault of a line of a language in words, where a text from other lines stands for `~` or none does.
 pub(crate) fn told_cause(
     language: Language,
     near: bool,
     text: &[u8],
-    parts: &Line<'_>,
+    parts: &Reading<'_>,
     finding: &Finding,
 ) -> Cause
     ensures { cause_in result ≡ told_cause language near text.now (parts_in parts.now) finding.now }
@@ -29,17 +31,30 @@ pub(crate) fn told_cause(
     match language {
         Language::Standard => fault_cause(text, parts, near, finding).with_flight(is_of_flight(
             text,
-            finding.number,
+            finding.kind,
         )),
         Language::Flight => flight_cause(near, text, parts, finding),
     }
 }
 
-// Whether a number is that of a fault of a line's form, and the language of flight programs takes that form.
-fn is_of_flight(text: &[u8], number: u8) -> bool
-    ensures { result ≡ is_of_flight text.now number }
+// Whether a fault is one of a line's form, and the language of flight programs takes that form.
+fn is_of_flight(text: &[u8], kind: FaultKind) -> bool
+    ensures { result ≡ is_of_flight text.now kind }
 {
-    matches!(number, 11 | 13 | 15 | 16) && has_flight_form(text)
+    is_of_form(kind) && has_flight_form(text)
+}
+
+// Whether a fault is one of a line's form: its length, its label, its operator or its operand.
+fn is_of_form(kind: FaultKind) -> bool
+    ensures { result ≡ is_of_form kind }
+{
+    matches!(
+        kind,
+        FaultKind::LongLine
+            | FaultKind::BadLabel
+            | FaultKind::UnknownOperator
+            | FaultKind::BadOperand
+    )
 }
 
 impl Cause {
@@ -74,24 +89,26 @@ impl Cause {
 }
 
 // A fault of a line of a flight source in words.
-fn flight_cause(near: bool, text: &[u8], parts: &Line<'_>, finding: &Finding) -> Cause
+fn flight_cause(near: bool, text: &[u8], parts: &Reading<'_>, finding: &Finding) -> Cause
     ensures { cause_in result ≡ flight_cause near text.now (parts_in parts.now) finding.now }
 {
-    match finding.number {
-        11 => Cause::said(b"the line has more than 120 bytes before its comment"),
-        12 => Cause::said(b"the source has more than 262144 lines"),
-        13 => flight_label_cause(near, text, parts, finding),
-        15 => flight_operator_cause(near, text, parts, finding),
-        16 => flight_operand_cause(near, text, parts, finding),
-        18 => flight_early_cause(near, text, parts, finding),
-        25 => flight_kind_cause(near, text, parts, finding),
-        26 => flight_range_cause(near, text, parts, finding),
+    match finding.kind {
+        FaultKind::LongLine => {
+            Cause::said(b"the line has more than 120 bytes before its comment")
+        }
+        FaultKind::TooManyLines => Cause::said(b"the source has more than 262144 lines"),
+        FaultKind::BadLabel => flight_label_cause(near, text, parts, finding),
+        FaultKind::UnknownOperator => flight_operator_cause(near, text, parts, finding),
+        FaultKind::BadOperand => flight_operand_cause(near, text, parts, finding),
+        FaultKind::UsedTooEarly => flight_early_cause(near, text, parts, finding),
+        FaultKind::WrongKindOfAddress => flight_kind_cause(near, text, parts, finding),
+        FaultKind::OutOfRange => flight_range_cause(near, text, parts, finding),
         _ => fault_cause(text, parts, near, finding),
     }
 }
 
 // E13: a label without a label's form.
-fn flight_label_cause(near: bool, text: &[u8], parts: &Line<'_>, finding: &Finding) -> Cause
+fn flight_label_cause(near: bool, text: &[u8], parts: &Reading<'_>, finding: &Finding) -> Cause
     ensures { cause_in result ≡ flight_label_cause near text.now (parts_in parts.now) finding.now }
 {
     if has_signed_label(parts) {
@@ -102,22 +119,15 @@ fn flight_label_cause(near: bool, text: &[u8], parts: &Line<'_>, finding: &Findi
 }
 
 // E15: what is no operator.
-fn flight_operator_cause(near: bool, text: &[u8], parts: &Line<'_>, finding: &Finding) -> Cause
+fn flight_operator_cause(near: bool, text: &[u8], parts: &Reading<'_>, finding: &Finding) -> Cause
     ensures { cause_in result ≡ flight_operator_cause near text.now (parts_in parts.now) finding.now }
 {
-    if has_operator(unsure_words(), parts) {
+    if let Some(cure) = value_in(unsure_operators(), text_of(parts.operator)) {
         Cause::cured(
             b"% is not taken: what yaYUL makes of it is not known for sure",
-            b"OCT makes a word",
+            cure,
         )
-    } else if has_operator(unsure_values(), parts) {
-        Cause::cured(
-            b"% is not taken: what yaYUL makes of it is not known for sure",
-            b"EQUALS gives & a value",
-        )
-    } else if has_operator(unsure_effects(), parts) {
-        Cause::said(b"% is not taken: what yaYUL makes of it is not known for sure")
-    } else if has_operator(comparisons(), parts) {
+    } else if compares(parts) {
         Cause::cured(
             b"% is not taken",
             b"SYMBOLS in the listing has the values of & and @",
@@ -128,10 +138,10 @@ fn flight_operator_cause(near: bool, text: &[u8], parts: &Line<'_>, finding: &Fi
 }
 
 // E18: a symbol that has no value where it is asked for.
-fn flight_early_cause(near: bool, text: &[u8], parts: &Line<'_>, finding: &Finding) -> Cause
+fn flight_early_cause(near: bool, text: &[u8], parts: &Reading<'_>, finding: &Finding) -> Cause
     ensures { cause_in result ≡ flight_early_cause near text.now (parts_in parts.now) finding.now }
 {
-    if has_operator(equalities(), parts) {
+    if is_equals(parts.role) {
         waiting_cause(near, parts)
     } else {
         fault_cause(text, parts, near, finding)
@@ -139,7 +149,7 @@ fn flight_early_cause(near: bool, text: &[u8], parts: &Line<'_>, finding: &Findi
 }
 
 // E13: a label that has a sign and no name's form.
-fn signed_label_cause(parts: &Line<'_>) -> Cause
+fn signed_label_cause(parts: &Reading<'_>) -> Cause
     ensures { cause_in result ≡ signed_label_cause (parts_in parts.now) }
 {
     if is_short(text_of(parts.label)) {
@@ -149,16 +159,16 @@ fn signed_label_cause(parts: &Line<'_>) -> Cause
     }
 }
 
-fn has_signed_label(parts: &Line<'_>) -> bool
+fn has_signed_label(parts: &Reading<'_>) -> bool
     ensures { result ≡ has_signed_label (parts_in parts.now) }
 {
     is_signed(text_of(parts.label))
-        && !has_operator(label_refusers(), parts)
+        && !refuses_label(parts.role)
         && !holds(b'$', text_of(parts.label))
 }
 
 // E16 of a decimal constant.
-fn decimal_cause(parts: &Line<'_>) -> Cause
+fn decimal_cause(parts: &Reading<'_>) -> Cause
     ensures { cause_in result ≡ decimal_cause (parts_in parts.now) }
 {
     if holds(b'*', text_of(parts.offset)) {
@@ -166,7 +176,7 @@ fn decimal_cause(parts: &Line<'_>) -> Cause
             b"a scale with a star is not taken: what yaYUL makes of it is not known for sure",
             b"work the constant out, and write it by OCT",
         )
-    } else if has_operator(double_decimals(), parts)
+    } else if is_decimal_pair(parts.role)
         && decimal_value(text_of(parts.operand)).is_some()
         && parts.offset.is_none()
     {
@@ -180,17 +190,17 @@ fn decimal_cause(parts: &Line<'_>) -> Cause
 }
 
 // E16 of an operand.
-fn flight_operand_cause(near: bool, text: &[u8], parts: &Line<'_>, finding: &Finding) -> Cause
+fn flight_operand_cause(near: bool, text: &[u8], parts: &Reading<'_>, finding: &Finding) -> Cause
     ensures { cause_in result ≡ flight_operand_cause near text.now (parts_in parts.now) finding.now }
 {
     if has_foreign_comment(parts) {
         fault_cause(text, parts, near, finding)
-    } else if has_operator(erase_operators(), parts) {
+    } else if is_erase(parts.role) {
         Cause::cured(
             b"ERASE takes nothing, or a plus sign and a number: what yaYUL makes of a range is not known for sure",
             b"ERASE reserves one word, ERASE +1 two",
         )
-    } else if has_operator(bank_operators(), parts) && parts.operand.is_none() {
+    } else if names_bank(parts.role) && parts.operand.is_none() {
         Cause::said(
             b"% without a bank goes on in that of the location, which is in erasable memory",
         )
@@ -202,19 +212,19 @@ fn flight_operand_cause(near: bool, text: &[u8], parts: &Line<'_>, finding: &Fin
 }
 
 // E16 of an operand that stands and has not the form that is asked for.
-fn form_cause(near: bool, text: &[u8], parts: &Line<'_>, finding: &Finding) -> Cause
+fn form_cause(near: bool, text: &[u8], parts: &Reading<'_>, finding: &Finding) -> Cause
     ensures { cause_in result ≡ form_cause near text.now (parts_in parts.now) finding.now }
 {
-    if has_operator(decimals(), parts) {
+    if takes_decimal(parts.role) {
         decimal_cause(parts)
     } else if has_octal_alone(parts) {
         Cause::cured(
             b"% takes octal digits, 0 to 7, or a sign and such digits, and @ is neither",
             b"DEC takes decimal digits",
         )
-    } else if has_operator(double_octals(), parts) {
+    } else if is_octal_pair(parts.role) {
         Cause::said(b"2OCT takes ten octal digits, 0 to 7, in one field")
-    } else if has_operator(verb_nouns(), parts) {
+    } else if is_verb_noun(parts.role) {
         Cause::said(b"VN takes four decimal digits, two of the verb and two of the noun")
     } else if has_signed_alone(parts) {
         Cause::said(b"@ is no symbol, which has 8 characters at most, and no number")
@@ -224,21 +234,21 @@ fn form_cause(near: bool, text: &[u8], parts: &Line<'_>, finding: &Finding) -> C
 }
 
 // Whether the operator takes octal digits, and no offset stands.
-fn has_octal_alone(parts: &Line<'_>) -> bool
+fn has_octal_alone(parts: &Reading<'_>) -> bool
     ensures { result ≡ has_octal_alone (parts_in parts.now) }
 {
-    has_operator(octal_words(), parts) && parts.offset.is_none()
+    is_octal(parts.role) && parts.offset.is_none()
 }
 
 // Whether the operand has a sign and is no count, and no offset stands.
-fn has_signed_alone(parts: &Line<'_>) -> bool
+fn has_signed_alone(parts: &Reading<'_>) -> bool
     ensures { result ≡ has_signed_alone (parts_in parts.now) }
 {
     is_signed(text_of(parts.operand)) && !is_count(text_of(parts.operand)) && parts.offset.is_none()
 }
 
 // E18 of a name that waits.
-fn waiting_cause(near: bool, parts: &Line<'_>) -> Cause
+fn waiting_cause(near: bool, parts: &Reading<'_>) -> Cause
     ensures { cause_in result ≡ waiting_cause near (parts_in parts.now) }
 {
     symbol_cause(
@@ -249,25 +259,19 @@ fn waiting_cause(near: bool, parts: &Line<'_>) -> Cause
 }
 
 // E25: another kind of place, or a channel.
-fn flight_kind_cause(near: bool, text: &[u8], parts: &Line<'_>, finding: &Finding) -> Cause
+fn flight_kind_cause(near: bool, text: &[u8], parts: &Reading<'_>, finding: &Finding) -> Cause
     ensures { cause_in result ≡ flight_kind_cause near text.now (parts_in parts.now) finding.now }
 {
-    if has_operator(fixed_constants(), parts) && octal_value(text_of(parts.operand)).is_some() {
+    if is_read_fixed(parts.role) && octal_value(text_of(parts.operand)).is_some() {
         Cause::cured(
             b"CAF of an erasable place is not taken: what yaYUL makes of it is not known for sure",
             b"CA @",
         )
-    } else if has_operator(bank_words(), parts) {
+    } else if takes_low_bank(parts.role) {
         Cause::said(
             b"% takes a fixed place of a bank below 30, and @^ is none: what yaYUL adds from bank 30 on is not known for sure",
         )
-    } else if has_operator(downlist_words(), parts) {
-        Cause::said(b"% takes an erasable place, and @^ is none")
-    } else if has_operator(channel_words(), parts) {
-        Cause::said(b"% takes a channel, 0 to 777, and @^ is none")
-    } else if has_operator(fixed_words(), parts) {
-        Cause::said(b"% takes a fixed place, and @^ is none")
-    } else if has_operator(count_words(), parts) {
+    } else if is_count_complement(parts.role) {
         Cause::said(b"% takes a word of erasable memory, and @^ is not there")
     } else {
         fault_cause(text, parts, near, finding)
@@ -275,12 +279,12 @@ fn flight_kind_cause(near: bool, text: &[u8], parts: &Line<'_>, finding: &Findin
 }
 
 // E26: a number out of its range.
-fn flight_range_cause(near: bool, text: &[u8], parts: &Line<'_>, finding: &Finding) -> Cause
+fn flight_range_cause(near: bool, text: &[u8], parts: &Reading<'_>, finding: &Finding) -> Cause
     ensures { cause_in result ≡ flight_range_cause near text.now (parts_in parts.now) finding.now }
 {
-    if has_operator(decimals(), parts) {
+    if takes_decimal(parts.role) {
         Cause::said(b"this is more than % holds: what yaYUL makes of it is not known for sure")
-    } else if has_operator(octal_words(), parts) {
+    } else if is_octal(parts.role) {
         Cause::said(b"a word holds 77777 at most, and @ is more")
     } else if is_moved_back(parts) {
         Cause::said(
@@ -296,7 +300,7 @@ fn flight_range_cause(near: bool, text: &[u8], parts: &Line<'_>, finding: &Findi
 }
 
 // Octal digits of an address in the window, moved back.
-fn is_moved_back(parts: &Line<'_>) -> bool
+fn is_moved_back(parts: &Reading<'_>) -> bool
     ensures { result ≡ is_moved_back (parts_in parts.now) }
 {
     let is_address =
@@ -305,7 +309,7 @@ fn is_moved_back(parts: &Line<'_>) -> bool
 }
 
 // Octal digits that name no place, between those of bank 1 and those of bank 4.
-fn is_between_banks(parts: &Line<'_>) -> bool
+fn is_between_banks(parts: &Reading<'_>) -> bool
     ensures { result ≡ is_between_banks (parts_in parts.now) }
 {
     let is_between =
@@ -313,135 +317,31 @@ fn is_between_banks(parts: &Line<'_>) -> bool
     is_between && parts.offset.is_none()
 }
 
-const UNSURE_WORDS: [&str; 9] = [
-    "MM", "EDRUPT", "DNPTR", "-DNPTR", "2FCADR", "2BCADR", "BBCON*", "DEC*", "2DEC*",
+// That which compares.
+fn compares(parts: &Reading<'_>) -> bool
+    ensures { result ≡ compares (parts_in parts.now) }
+{
+    text_of(parts.operator) == b"CHECK=".as_slice()
+}
+
+const UNSURE_OPERATORS: [(&str, &str); 13] = [
+    ("MM", "OCT makes a word"),
+    ("EDRUPT", "OCT makes a word"),
+    ("DNPTR", "OCT makes a word"),
+    ("-DNPTR", "OCT makes a word"),
+    ("2FCADR", "OCT makes a word"),
+    ("2BCADR", "OCT makes a word"),
+    ("BBCON*", "OCT makes a word"),
+    ("DEC*", "OCT makes a word"),
+    ("2DEC*", "OCT makes a word"),
+    ("=ECADR", "EQUALS gives & a value"),
+    ("=MINUS", "EQUALS gives & a value"),
+    ("=PLUS", "EQUALS gives & a value"),
+    ("SBANK=", ""),
 ];
 
-const UNSURE_VALUES: [&str; 3] = ["=ECADR", "=MINUS", "=PLUS"];
-
-const UNSURE_EFFECTS: [&str; 1] = ["SBANK="];
-
-const COMPARISONS: [&str; 1] = ["CHECK="];
-
-const OCTAL_WORDS: [&str; 2] = ["OCT", "OCTAL"];
-
-const DOUBLE_OCTALS: [&str; 1] = ["2OCT"];
-
-const VERB_NOUNS: [&str; 1] = ["VN"];
-
-const DECIMALS: [&str; 2] = ["DEC", "2DEC"];
-
-const DOUBLE_DECIMALS: [&str; 1] = ["2DEC"];
-
-const EQUALITIES: [&str; 2] = ["EQUALS", "="];
-
-const FIXED_CONSTANTS: [&str; 1] = ["CAF"];
-
-const BANK_WORDS: [&str; 2] = ["BBCON", "-2CADR"];
-
-const DOWNLIST_WORDS: [&str; 12] = [
-    "1DNADR", "2DNADR", "3DNADR", "4DNADR", "5DNADR", "6DNADR", "-1DNADR", "-2DNADR", "-3DNADR",
-    "-4DNADR", "-5DNADR", "-6DNADR",
-];
-
-const CHANNEL_WORDS: [&str; 1] = ["DNCHAN"];
-
-const FIXED_WORDS: [&str; 1] = ["-CADR"];
-
-const COUNT_WORDS: [&str; 1] = ["-CCS"];
-
-fn unsure_words() -> &'static [&'static str]
-    ensures { map (λ name. name.now) result.now ≡ unsure_words }
+fn unsure_operators() -> &'static [(&'static str, &'static str)]
+    ensures { entries result.now ≡ unsure_operators }
 {
-    &UNSURE_WORDS
-}
-
-fn unsure_values() -> &'static [&'static str]
-    ensures { map (λ name. name.now) result.now ≡ unsure_values }
-{
-    &UNSURE_VALUES
-}
-
-fn unsure_effects() -> &'static [&'static str]
-    ensures { map (λ name. name.now) result.now ≡ unsure_effects }
-{
-    &UNSURE_EFFECTS
-}
-
-fn comparisons() -> &'static [&'static str]
-    ensures { map (λ name. name.now) result.now ≡ comparisons }
-{
-    &COMPARISONS
-}
-
-fn octal_words() -> &'static [&'static str]
-    ensures { map (λ name. name.now) result.now ≡ octal_words }
-{
-    &OCTAL_WORDS
-}
-
-fn double_octals() -> &'static [&'static str]
-    ensures { map (λ name. name.now) result.now ≡ double_octals }
-{
-    &DOUBLE_OCTALS
-}
-
-fn verb_nouns() -> &'static [&'static str]
-    ensures { map (λ name. name.now) result.now ≡ verb_nouns }
-{
-    &VERB_NOUNS
-}
-
-fn decimals() -> &'static [&'static str]
-    ensures { map (λ name. name.now) result.now ≡ decimals }
-{
-    &DECIMALS
-}
-
-fn double_decimals() -> &'static [&'static str]
-    ensures { map (λ name. name.now) result.now ≡ double_decimals }
-{
-    &DOUBLE_DECIMALS
-}
-
-pub(crate) fn equalities() -> &'static [&'static str]
-    ensures { map (λ name. name.now) result.now ≡ equalities }
-{
-    &EQUALITIES
-}
-
-fn fixed_constants() -> &'static [&'static str]
-    ensures { map (λ name. name.now) result.now ≡ fixed_constants }
-{
-    &FIXED_CONSTANTS
-}
-
-fn bank_words() -> &'static [&'static str]
-    ensures { map (λ name. name.now) result.now ≡ bank_words }
-{
-    &BANK_WORDS
-}
-
-fn downlist_words() -> &'static [&'static str]
-    ensures { map (λ name. name.now) result.now ≡ downlist_words }
-{
-    &DOWNLIST_WORDS
-}
-
-fn channel_words() -> &'static [&'static str]
-    ensures { map (λ name. name.now) result.now ≡ channel_words }
-{
-    &CHANNEL_WORDS
-}
-
-fn fixed_words() -> &'static [&'static str]
-    ensures { map (λ name. name.now) result.now ≡ fixed_words }
-{
-    &FIXED_WORDS
-}
-
-fn count_words() -> &'static [&'static str]
-    ensures { map (λ name. name.now) result.now ≡ count_words }
-{
-    &COUNT_WORDS
+    &UNSURE_OPERATORS
 }

@@ -1,20 +1,28 @@
 //! Likely mistakes in where a program goes on: to a constant, or from a vector into the next.
 
 ghost use Rattle.std.specs.Prelude.{◌≡◌, ◌≤◌, ◌++◌, map, false, OnOk};
-ghost use Rattle.faults.specs.Warnings.{parts_in, constant_operators, moving_operators, still_operators, gives_word, is_instruction, leaving_operators, storing_operators, jumping_names, is_jump_place, leaves, goes_on_to_instruction, end_warnings, is_vector, setting_operators, sets_vector, double_operators, word_count, is_overrun, vector_warnings, filled_after, before_next, at_start};
+ghost use Rattle.yayul.specs.Readings.{parts_in};
+ghost use Rattle.faults.specs.Warnings.{gives_word, is_instruction, is_jump_register, is_jump_place, leaves, goes_on_to_instruction, end_warnings, is_vector, sets_vector, word_count, is_overrun, vector_warnings, filled_after, before_next, at_start};
 ghost use Rattle.faults.specs.Warnings.{is_among};
 ghost use Rattle.agc_text.specs.Digits.{digits_value};
+ghost use Rattle.agc_text.specs.Tables.{value_in};
 ghost use Rattle.agc_text.specs.Views.{piece};
+ghost use Rattle.faults.specs.Registers.{registers};
 ghost use Rattle.std.specs.Option.{option_map, option_map_or};
 
-use crate::mistakes::{has_alone, has_operator, indexed_after, is_register_number, warn_if};
-use crate::names::{NameSet, is_among};
-use crate::operators::is_operator;
+use crate::causes::value_in;
+use crate::mistakes::{has_alone, indexed_after, is_register_number, warn_if};
+use crate::names::NameSet;
+use crate::registers::registers;
+use crate::roles::{
+    gives_two, is_constant, is_leaving, is_setloc, keeps_location, moves_location, stores,
+};
 use crate::standing::{bank_after, leads_on, place_after};
 use crate::switched::{Region, region_after};
-use agc_text::{Field, Line, Number, octal_value};
+use crate::told::Warning;
+use agc_text::{Field, Number, octal_value};
 use std::alloc::AllocError;
-use yayul::Finding;
+use yayul::Reading;
 
 /// How many words a vector has.
 const VECTOR_WORDS: u8 = 4;
@@ -52,7 +60,7 @@ impl Before {
     }
 
     /// What stands after a line.
-    pub(crate) fn next(self, parts: &Line<'_>) -> Before
+    pub(crate) fn next(self, parts: &Reading<'_>) -> Before
         ensures { result ≡ before_next self (parts_in parts.now) }
     {
         Before {
@@ -71,10 +79,10 @@ impl Before {
 }
 
 // How many words a vector has after a line.
-fn filled_after(filled: Option<u8>, parts: &Line<'_>) -> Option<u8>
+fn filled_after(filled: Option<u8>, parts: &Reading<'_>) -> Option<u8>
     ensures { result ≡ filled_after filled (parts_in parts.now) }
 {
-    if has_operator(moving_operators(), parts) {
+    if moves_location(parts.role) {
         return if sets_vector(parts) { Some(0) } else { None };
     }
     match filled {
@@ -85,11 +93,11 @@ fn filled_after(filled: Option<u8>, parts: &Line<'_>) -> Option<u8>
 }
 
 /// How many words a line gives.
-pub(crate) fn word_count(parts: &Line<'_>) -> u8
+pub(crate) fn word_count(parts: &Reading<'_>) -> u8
     ensures count { result ≡ word_count (parts_in parts.now) }
     ensures few { result ≤ 2 }
 {
-    if has_operator(double_operators(), parts) {
+    if gives_two(parts.role) {
         2
     } else if gives_word(parts) {
         1
@@ -102,8 +110,8 @@ pub(crate) fn word_count(parts: &Line<'_>) -> u8
 pub(crate) fn warn_of_vector(
     before: Before,
     line: u32,
-    parts: &Line<'_>,
-    found: &mut Vec<Finding>,
+    parts: &Reading<'_>,
+    found: &mut Vec<Warning>,
 ) -> Result<(), AllocError>
     ensures { OnOk result (found.new.items ≡ found.old.items ++ vector_warnings before line (parts_in parts.now)) }
 {
@@ -123,11 +131,11 @@ fn is_overrun(before: Before) -> bool
 }
 
 // SETLOC and the place of a vector.
-fn sets_vector(parts: &Line<'_>) -> bool
+fn sets_vector(parts: &Reading<'_>) -> bool
     ensures { result ≡ sets_vector (parts_in parts.now) }
 {
     match parts.operand {
-        Some(operand) => has_alone(setting_operators(), parts) && is_vector(operand.text),
+        Some(operand) => has_alone(is_setloc(parts.role), parts) && is_vector(operand.text),
         None => false,
     }
 }
@@ -143,16 +151,16 @@ fn is_vector(text: &[u8]) -> bool
 pub(crate) fn warn_of_end(
     read: &NameSet,
     before: Before,
-    after: &[Line<'_>],
+    after: &[Reading<'_>],
     line: u32,
-    parts: &Line<'_>,
-    found: &mut Vec<Finding>,
+    parts: &Reading<'_>,
+    found: &mut Vec<Warning>,
 ) -> Result<(), AllocError>
     ensures { OnOk result (found.new.items ≡ found.old.items ++ end_warnings read.now before (map parts_in after.now) line (parts_in parts.now)) }
 {
     match parts.operator {
         Some(operator) => {
-            let ends = is_operator(operator.text)
+            let ends = parts.role.is_some()
                 && is_instruction(parts)
                 && !leaves(parts)
                 && !is_read(read, parts)
@@ -168,7 +176,7 @@ pub(crate) fn warn_of_end(
 }
 
 // Whether the label of a line is among those that are read.
-fn is_read(read: &NameSet, parts: &Line<'_>) -> bool
+fn is_read(read: &NameSet, parts: &Reading<'_>) -> bool
     ensures { result ≡ option_map_or (λ l. is_among read.now l.text) (parts_in parts.now).label false }
 {
     match parts.label {
@@ -178,14 +186,14 @@ fn is_read(read: &NameSet, parts: &Line<'_>) -> bool
 }
 
 // Whether of some lines the first that gives words or moves the location to another place gives an instruction.
-fn goes_on_to_instruction(place: Option<u32>, bank: Option<u32>, lines: &[Line<'_>]) -> bool
+fn goes_on_to_instruction(place: Option<u32>, bank: Option<u32>, lines: &[Reading<'_>]) -> bool
     ensures { result ≡ goes_on_to_instruction place bank (map parts_in lines.now) }
 {
     for parts in lines {
         if leads_on(place, bank, parts) {
             continue;
         }
-        if gives_word(parts) || has_operator(moving_operators(), parts) {
+        if gives_word(parts) || moves_location(parts.role) {
             return is_instruction(parts);
         }
     }
@@ -193,26 +201,24 @@ fn goes_on_to_instruction(place: Option<u32>, bank: Option<u32>, lines: &[Line<'
 }
 
 /// Operators that give words.
-pub(crate) fn gives_word(parts: &Line<'_>) -> bool
+pub(crate) fn gives_word(parts: &Reading<'_>) -> bool
     ensures { result ≡ gives_word (parts_in parts.now) }
 {
-    parts.operator.is_some()
-        && !(has_operator(moving_operators(), parts) || has_operator(still_operators(), parts))
+    parts.operator.is_some() && !(moves_location(parts.role) || keeps_location(parts.role))
 }
 
 /// Instructions.
-pub(crate) fn is_instruction(parts: &Line<'_>) -> bool
+pub(crate) fn is_instruction(parts: &Reading<'_>) -> bool
     ensures { result ≡ is_instruction (parts_in parts.now) }
 {
-    gives_word(parts) && !has_operator(constant_operators(), parts)
+    gives_word(parts) && !is_constant(parts.role)
 }
 
 // Whether the next word is not reached from this one.
-fn leaves(parts: &Line<'_>) -> bool
+fn leaves(parts: &Reading<'_>) -> bool
     ensures { result ≡ leaves (parts_in parts.now) }
 {
-    has_operator(leaving_operators(), parts)
-        || (has_operator(storing_operators(), parts) && names_jump_place(parts.operand))
+    is_leaving(parts.role) || (stores(parts.role) && names_jump_place(parts.operand))
 }
 
 // Whether a field is a place whose change may lead elsewhere.
@@ -220,73 +226,23 @@ fn names_jump_place(field: Option<Field<'_>>) -> bool
     ensures { result ≡ option_map_or is_jump_place (option_map piece field.entry) false }
 {
     match field {
-        Some(field) => is_among(jumping_names(), field.text) || is_register_number(field.text),
+        Some(field) => is_jump_name(field.text) || is_register_number(field.text),
         None => false,
     }
 }
 
-const CONSTANT_OPERATORS: [&str; 7] = ["OCT", "DEC", "ADRES", "ECADR", "CADR", "FCADR", "2CADR"];
-
-const MOVING_OPERATORS: [&str; 4] = ["SETLOC", "BANK", "BLOCK", "ERASE"];
-
-const STILL_OPERATORS: [&str; 3] = ["EQUALS", "=", "EBANK="];
-
-const LEAVING_OPERATORS: [&str; 10] = [
-    "TC", "TCR", "TCF", "RETURN", "RESUME", "DTCB", "DTCF", "TCAA", "XLQ", "XXALQ",
-];
-
-const STORING_OPERATORS: [&str; 5] = ["TS", "XCH", "LXCH", "QXCH", "DXCH"];
-
-const JUMPING_NAMES: [&str; 5] = ["Z", "FB", "FBANK", "BB", "BBANK"];
-
-const SETTING_OPERATORS: [&str; 1] = ["SETLOC"];
-
-const DOUBLE_OPERATORS: [&str; 1] = ["2CADR"];
-
-fn constant_operators() -> &'static [&'static str]
-    ensures { map (λ name. name.now) result.now ≡ constant_operators }
+// Whether a text is the name of a register whose change may lead elsewhere.
+fn is_jump_name(text: &[u8]) -> bool
+    ensures { result ≡ option_map_or is_jump_register (value_in registers text.now) false }
 {
-    &CONSTANT_OPERATORS
+    match value_in(registers(), text) {
+        Some(place) => is_jump_register(place),
+        None => false,
+    }
 }
 
-fn moving_operators() -> &'static [&'static str]
-    ensures { map (λ name. name.now) result.now ≡ moving_operators }
+fn is_jump_register(place: &[u8]) -> bool
+    ensures { result ≡ is_jump_register place.now }
 {
-    &MOVING_OPERATORS
-}
-
-pub(crate) fn still_operators() -> &'static [&'static str]
-    ensures { map (λ name. name.now) result.now ≡ still_operators }
-{
-    &STILL_OPERATORS
-}
-
-fn leaving_operators() -> &'static [&'static str]
-    ensures { map (λ name. name.now) result.now ≡ leaving_operators }
-{
-    &LEAVING_OPERATORS
-}
-
-pub(crate) fn storing_operators() -> &'static [&'static str]
-    ensures { map (λ name. name.now) result.now ≡ storing_operators }
-{
-    &STORING_OPERATORS
-}
-
-fn jumping_names() -> &'static [&'static str]
-    ensures { map (λ name. name.now) result.now ≡ jumping_names }
-{
-    &JUMPING_NAMES
-}
-
-pub(crate) fn setting_operators() -> &'static [&'static str]
-    ensures { map (λ name. name.now) result.now ≡ setting_operators }
-{
-    &SETTING_OPERATORS
-}
-
-fn double_operators() -> &'static [&'static str]
-    ensures { map (λ name. name.now) result.now ≡ double_operators }
-{
-    &DOUBLE_OPERATORS
+    place == b"4".as_slice() || place == b"5".as_slice() || place == b"6".as_slice()
 }

@@ -2,21 +2,16 @@
 
 ghost use Rattle.std.specs.Prelude.{◌≡◌, ◌≤◌, ◌++◌, ◌+◌, drop, length, map, IfOk, OnOk};
 ghost use Rattle.std.specs.List.{position_or_len};
-ghost use Rattle.faults.specs.Warnings.{parts_in};
-ghost use Rattle.faults.specs.Interpretive.{has_field, interpretive_operators, exit_operators, parts_at, is_interpretive, is_operand_alone, next_said, operand_line, is_of_interpreter, others, first_and_others, count_before_first, interpretive_cause};
+ghost use Rattle.yayul.specs.Readings.{parts_in};
+ghost use Rattle.faults.specs.Interpretive.{has_field, interpretive_operators, is_exit, parts_at, is_interpretive, is_of_operator, is_operand_alone, next_said, operand_line, is_of_interpreter, others, first_and_others, count_before_first, interpretive_cause};
 ghost use Rattle.faults.specs.Views.{cause_in};
 
-use crate::causes::Cause;
+use crate::causes::{Cause, text_of};
 use crate::findings::text_at;
 use crate::kinds::has_field;
 use crate::mistakes::has_operator;
-use crate::parts::{is_count, parts_for};
-use agc_text::Line;
 use std::alloc::{AllocError, Global};
-use yayul::{Finding, Language};
-
-/// The number of the fault that an operator is none.
-const UNKNOWN_OPERATOR: u8 = 15;
+use yayul::{FaultKind, Finding, Language, Reading, is_count, reading_of};
 
 /// What is said of the lines: `~` stands for how many they are.
 pub(crate) fn interpretive_cause() -> Cause
@@ -95,7 +90,7 @@ fn is_interpretive(language: Language, texts: &[&[u8]], fault: &Finding) -> bool
     match language {
         Language::Standard => false,
         Language::Flight => {
-            fault.number == UNKNOWN_OPERATOR
+            is_of_operator(fault.kind)
                 && has_operator(interpretive_operators(), &parts_at(texts, fault.line))
         }
     }
@@ -106,13 +101,20 @@ fn is_of_interpreter(texts: &[&[u8]], operand: u64, fault: &Finding) -> bool
     ensures { result ≡ is_of_interpreter (map (λ t. t.now) texts.now) operand fault.now }
 {
     is_interpretive(Language::Flight, texts, fault)
-        || (fault.number == UNKNOWN_OPERATOR
+        || (is_of_operator(fault.kind)
             && u64::from(fault.line) == operand
             && is_operand_alone(&parts_at(texts, fault.line)))
 }
 
+// Whether a fault is that an operator is none.
+fn is_of_operator(kind: FaultKind) -> bool
+    ensures { result ≡ is_of_operator kind }
+{
+    matches!(kind, FaultKind::UnknownOperator)
+}
+
 // Whether one field stands on a line, or one and an offset, behind a blank.
-fn is_operand_alone(parts: &Line<'_>) -> bool
+fn is_operand_alone(parts: &Reading<'_>) -> bool
     ensures { result ≡ is_operand_alone (parts_in parts.now) }
 {
     let moved = match parts.operand {
@@ -126,11 +128,18 @@ fn is_operand_alone(parts: &Line<'_>) -> bool
 fn operand_line(texts: &[&[u8]], line: u32) -> u64
     ensures { result ≡ operand_line (map (λ t. t.now) texts.now) line }
 {
-    if has_operator(exit_operators(), &parts_at(texts, line)) {
+    if is_exit(&parts_at(texts, line)) {
         0
     } else {
         next_said(texts, line)
     }
+}
+
+// EXIT, after which lines of the machine's own language stand.
+fn is_exit(parts: &Reading<'_>) -> bool
+    ensures { result ≡ is_exit (parts_in parts.now) }
+{
+    text_of(parts.operator) == b"EXIT".as_slice()
 }
 
 // The number of the first line after another that has a field, or of the one after the last.
@@ -148,10 +157,10 @@ fn lines_after<'a, 'b>(texts: &'b [&'a [u8]], count: usize) -> &'b [&'a [u8]]
 }
 
 // The fields of a line of a flight source, by its number.
-fn parts_at<'a>(texts: &[&'a [u8]], line: u32) -> Line<'a>
+fn parts_at<'a>(texts: &[&'a [u8]], line: u32) -> Reading<'a>
     ensures { parts_in result ≡ parts_at (map (λ t. t.now) texts.now) line }
 {
-    parts_for(Language::Flight, text_at(texts, line))
+    reading_of(Language::Flight, text_at(texts, line))
 }
 
 // How many of some lines stand before the first that has a field.
@@ -185,16 +194,8 @@ const INTERPRETIVE_OPERATORS: [&str; 164] = [
     "XSU,1", "XSU,2", "TIX,1", "TIX,2", "SSP",
 ];
 
-const EXIT_OPERATORS: [&str; 1] = ["EXIT"];
-
 fn interpretive_operators() -> &'static [&'static str]
     ensures { map (λ name. name.now) result.now ≡ interpretive_operators }
 {
     &INTERPRETIVE_OPERATORS
-}
-
-fn exit_operators() -> &'static [&'static str]
-    ensures { map (λ name. name.now) result.now ≡ exit_operators }
-{
-    &EXIT_OPERATORS
 }

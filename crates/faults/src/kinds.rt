@@ -3,13 +3,15 @@
 ghost use Rattle.std.specs.Prelude.{◌≡◌, ◌++◌, ◌==◌, map, length, not, OnOk};
 ghost use Rattle.agc_text.specs.Fields.{fields, runs, texts};
 ghost use Rattle.agc_text.specs.Lines.{lines};
+ghost use Rattle.json_text.specs.declared.notation.Notation.TheVariants.{Text};
 ghost use Rattle.faults.specs.Kinds.{is_input, is_image, begins_series, is_of_feed, is_of_source, first_said, note, kind_of_source, kind_of_feed};
 
-use crate::mistakes::{has_operator, operator_names, parts_of};
-use crate::slips::CYCLE_DIGITS;
-use agc_text::{before_comment, decimal, split_field};
-use feed::parse_line;
+use crate::objects::push_file_object;
+use agc_text::{before_comment, split_field};
+use feed::{is_cycle, parse_line};
+use json_text::Notation;
 use std::alloc::AllocError;
+use yayul::{Language, reading_of};
 
 /// The bytes of a rope image.
 const IMAGE_LENGTH: usize = 73_728;
@@ -18,22 +20,25 @@ const IMAGE_LENGTH: usize = 73_728;
 #[tactic(auto, unfolding(crate::specs::Kinds::kind_of_source))]
 pub(crate) fn push_kind_of_source(
     out: &mut Vec<u8>,
+    notation: Notation,
     name: &[u8],
     text: &[u8],
     texts: &[&[u8]],
 ) -> Result<(), AllocError>
     requires { map (λ t. t.now) texts.now ≡ lines text.now }
-    ensures { OnOk result (out.new.items ≡ out.old.items ++ kind_of_source name.now text.now) }
+    ensures { OnOk result (out.new.items ≡ out.old.items ++ kind_of_source notation name.now text.now) }
 {
     if is_image(text) {
         push_note(
             out,
+            notation,
             name,
             b"this is a rope image, and no source: run, trace, cover and debug take it with --image",
         )?;
     } else if is_of_feed(first_said(texts)) {
         push_note(
             out,
+            notation,
             name,
             b"this is a feed, and no source: it stands after the source",
         )?;
@@ -45,28 +50,50 @@ pub(crate) fn push_kind_of_source(
 #[tactic(auto, unfolding(crate::specs::Kinds::kind_of_feed))]
 pub(crate) fn push_kind_of_feed(
     out: &mut Vec<u8>,
+    notation: Notation,
     name: &[u8],
     text: &[u8],
     texts: &[&[u8]],
 ) -> Result<(), AllocError>
     requires { map (λ t. t.now) texts.now ≡ lines text.now }
-    ensures { OnOk result (out.new.items ≡ out.old.items ++ kind_of_feed name.now text.now) }
+    ensures { OnOk result (out.new.items ≡ out.old.items ++ kind_of_feed notation name.now text.now) }
 {
     if is_image(text) {
         push_note(
             out,
+            notation,
             name,
             b"this is a rope image, and no feed: run, trace, cover and debug take it with --image, before the feed",
         )?;
     } else if is_of_source(first_said(texts)) {
-        push_note(out, name, b"this is a source, and no feed: it stands first")?;
+        push_note(
+            out,
+            notation,
+            name,
+            b"this is a source, and no feed: it stands first",
+        )?;
     }
     Ok(())
 }
 
-// Appends what is said of a file.
-fn push_note(out: &mut Vec<u8>, name: &[u8], words: &[u8]) -> Result<(), AllocError>
-    ensures { OnOk result (out.new.items ≡ out.old.items ++ note name.now words.now) }
+// Appends what is said of a file, in a notation.
+fn push_note(
+    out: &mut Vec<u8>,
+    notation: Notation,
+    name: &[u8],
+    words: &[u8],
+) -> Result<(), AllocError>
+    ensures { OnOk result (out.new.items ≡ out.old.items ++ note notation name.now words.now) }
+{
+    match notation {
+        Notation::Text => push_note_text(out, name, words),
+        Notation::Json => push_file_object(out, name, words),
+    }
+}
+
+// The same as text.
+fn push_note_text(out: &mut Vec<u8>, name: &[u8], words: &[u8]) -> Result<(), AllocError>
+    ensures { OnOk result (out.new.items ≡ out.old.items ++ note Text name.now words.now) }
 {
     out.extend_from_slice(name)?;
     out.extend_from_slice(b": ")?;
@@ -106,14 +133,14 @@ fn begins_series(text: &[u8]) -> bool
     let Some((second, _)) = split_field(rest) else {
         return false;
     };
-    first == "EVERY".as_bytes() && decimal(second, CYCLE_DIGITS).is_some()
+    first == "EVERY".as_bytes() && is_cycle(second)
 }
 
 // An operator of the source language, after a label or without one.
 fn is_of_source(text: &[u8]) -> bool
     ensures { result ≡ is_of_source text.now }
 {
-    has_operator(operator_names(), &parts_of(text))
+    reading_of(Language::Standard, text).role.is_some()
 }
 
 // The first line that has a field; one without a byte where none has one.

@@ -6,17 +6,19 @@ ghost use Rattle.std.specs.Option.{option_map};
 ghost use Rattle.agc_text.specs.Fields.{fields, label_of};
 ghost use Rattle.agc_text.specs.Views.{piece};
 ghost use Rattle.yayul.specs.Survey.{field_at, span_of};
-ghost use Rattle.faults.specs.Warnings.{parts_of, parts_for, parts_in, is_among, has_operator, has_alone, warned_if, at_field, operator_names, label_warnings, readers, is_register_number, index_operators, indexed_after, number_warnings, pair_operators, erase_operators, reserves_one, with_field, with_single, pair_warnings, unused_warnings, name_warnings, flow_warnings, operand_warnings, erasable_warnings, fixed_warnings, word_readers, with_read, banks_after, names_of, at_start, line_warnings, lines_apart, warned_lines, warnings};
+ghost use Rattle.yayul.specs.Readings.{parts_in};
+ghost use Rattle.faults.specs.Warnings.{is_among, has_operator, has_alone, warned_if, at_field, label_warnings, is_register_number, indexed_after, number_warnings, reserves_one, with_field, with_single, pair_warnings, unused_warnings, name_warnings, flow_warnings, operand_warnings, erasable_warnings, fixed_warnings, with_read, banks_after, names_of, at_start, line_warnings, lines_apart, warned_lines, warnings};
 
-use crate::flow::{Before, is_instruction, still_operators, warn_of_end, warn_of_vector};
+use crate::flow::{Before, is_instruction, warn_of_end, warn_of_vector};
 use crate::names::{NameSet, is_among, is_short};
-use crate::operators::is_operator_in;
-use crate::parts::parts_for;
+use crate::outputs::warn_of_output;
 use crate::registers::warn_of_register;
+use crate::roles::{is_erase, is_index, keeps_location, reads, reads_word, takes_pair};
 use crate::switched::{Banks, Region, is_common};
-use agc_text::{Field, Line, Number, next_line, octal_value};
+use crate::told::Warning;
+use agc_text::{Field, Number, next_line, octal_value};
 use std::alloc::{AllocError, Global};
-use yayul::{Finding, Language, Span, most_lines};
+use yayul::{Language, Reading, Span, is_operator, most_lines, reading_of};
 
 /// How many lines are looked at, at most.
 const LINES: usize = 262_145;
@@ -28,7 +30,7 @@ pub fn warnings(
     language: Language,
     source: &[u8],
     unused: bool,
-) -> Result<Vec<Finding>, AllocError>
+) -> Result<Vec<Warning>, AllocError>
     ensures { IfOk result (λ found. found.items ≡ warnings language unused source.now) }
 {
     let lines = lines_apart(alloc, language, source)?;
@@ -43,7 +45,7 @@ fn lines_apart(
     alloc: Global,
     language: Language,
     source: &[u8],
-) -> Result<Vec<Line<'_>>, AllocError>
+) -> Result<Vec<Reading<'_>>, AllocError>
     ensures lines { IfOk result (λ lines. map parts_in lines.items ≡ lines_apart language source.now) }
     ensures few { IfOk result (λ lines. length lines.items ≤ LINES) }
 {
@@ -53,7 +55,7 @@ fn lines_apart(
         let Some((text, after)) = next_line(rest) else {
             return Ok(lines);
         };
-        lines.push(parts_for(language, text))?;
+        lines.push(reading_of(language, text))?;
         rest = after;
     }
     Ok(lines)
@@ -91,7 +93,7 @@ impl Drop for Names {
 
 impl Names {
     // The names of some lines.
-    fn of(alloc: Global, lines: &[Line<'_>]) -> Result<Names, AllocError>
+    fn of(alloc: Global, lines: &[Reading<'_>]) -> Result<Names, AllocError>
         ensures { IfOk result (λ names. names ≡ names_of (map parts_in lines.now)) }
     {
         let mut names = Names {
@@ -111,7 +113,7 @@ impl Names {
     }
 
     // Adds the names of a line.
-    fn note(&mut self, parts: &Line<'_>) -> Result<(), AllocError>
+    fn note(&mut self, parts: &Reading<'_>) -> Result<(), AllocError>
         ensures singles { OnOk result (self.new.singles ≡ with_single self.old.singles (parts_in parts.now)) }
         ensures operands { OnOk result (self.new.operands ≡ with_field self.old.operands (option_map piece parts.now.operand)) }
         ensures read { OnOk result (self.new.read ≡ with_read self.old.read (parts_in parts.now)) }
@@ -120,7 +122,7 @@ impl Names {
         if reserves_one(parts) {
             add_field(&mut self.singles, parts.label)?;
         }
-        if reads_word(parts) {
+        if reads_word(parts.role) {
             add_field(&mut self.read, parts.operand)?;
         }
         add_field(&mut self.operands, parts.operand)?;
@@ -132,8 +134,8 @@ impl Names {
         &self,
         language: Language,
         unused: bool,
-        lines: &[Line<'_>],
-        found: &mut Vec<Finding>,
+        lines: &[Reading<'_>],
+        found: &mut Vec<Warning>,
     ) -> Result<(), AllocError>
         requires { length lines.now ≤ LINES }
         ensures { OnOk result (found.new.items ≡ found.old.items ++ warned_lines language unused self.now at_start 1 (map parts_in lines.now)) }
@@ -154,10 +156,10 @@ impl Names {
         language: Language,
         unused: bool,
         before: Before,
-        after: &[Line<'_>],
+        after: &[Reading<'_>],
         line: u32,
-        parts: &Line<'_>,
-        found: &mut Vec<Finding>,
+        parts: &Reading<'_>,
+        found: &mut Vec<Warning>,
     ) -> Result<(), AllocError>
         ensures { OnOk result (found.new.items ≡ found.old.items ++ line_warnings language unused self.now before (map parts_in after.now) line (parts_in parts.now)) }
     {
@@ -173,8 +175,8 @@ impl Names {
         unused: bool,
         before: Before,
         line: u32,
-        parts: &Line<'_>,
-        found: &mut Vec<Finding>,
+        parts: &Reading<'_>,
+        found: &mut Vec<Warning>,
     ) -> Result<(), AllocError>
         ensures { OnOk result (found.new.items ≡ found.old.items ++ name_warnings language unused self.now before line (parts_in parts.now)) }
     {
@@ -191,10 +193,10 @@ impl Names {
         &self,
         language: Language,
         before: Before,
-        after: &[Line<'_>],
+        after: &[Reading<'_>],
         line: u32,
-        parts: &Line<'_>,
-        found: &mut Vec<Finding>,
+        parts: &Reading<'_>,
+        found: &mut Vec<Warning>,
     ) -> Result<(), AllocError>
         ensures { OnOk result (found.new.items ≡ found.old.items ++ flow_warnings language self.now before (map parts_in after.now) line (parts_in parts.now)) }
     {
@@ -209,23 +211,24 @@ impl Names {
         &self,
         before: Before,
         line: u32,
-        parts: &Line<'_>,
-        found: &mut Vec<Finding>,
+        parts: &Reading<'_>,
+        found: &mut Vec<Warning>,
     ) -> Result<(), AllocError>
         ensures { OnOk result (found.new.items ≡ found.old.items ++ operand_warnings self.now before line (parts_in parts.now)) }
     {
         warn_of_number(before.indexed, line, parts, found)?;
         warn_of_pair(&self.singles, line, parts, found)?;
         self.warn_of_erasable(line, parts, found)?;
-        self.warn_of_fixed(before.region, line, parts, found)
+        self.warn_of_fixed(before.region, line, parts, found)?;
+        warn_of_output(line, parts, found)
     }
 
     // Appends that of a word in a switched erasable bank, where no line sets EB.
     fn warn_of_erasable(
         &self,
         line: u32,
-        parts: &Line<'_>,
-        found: &mut Vec<Finding>,
+        parts: &Reading<'_>,
+        found: &mut Vec<Warning>,
     ) -> Result<(), AllocError>
         ensures { OnOk result (found.new.items ≡ found.old.items ++ erasable_warnings self.now line (parts_in parts.now)) }
     {
@@ -245,8 +248,8 @@ impl Names {
         &self,
         region: Region,
         line: u32,
-        parts: &Line<'_>,
-        found: &mut Vec<Finding>,
+        parts: &Reading<'_>,
+        found: &mut Vec<Warning>,
     ) -> Result<(), AllocError>
         ensures { OnOk result (found.new.items ≡ found.old.items ++ fixed_warnings self.now region line (parts_in parts.now)) }
     {
@@ -264,18 +267,11 @@ impl Names {
 }
 
 // The lines after the one at an index.
-fn lines_after<'a, 'b>(lines: &'a [Line<'b>], index: usize) -> &'a [Line<'b>]
+fn lines_after<'a, 'b>(lines: &'a [Reading<'b>], index: usize) -> &'a [Reading<'b>]
     requires { index < length lines.now }
     ensures { result.now ≡ drop (index + 1) lines.now }
 {
     &lines[index + 1..]
-}
-
-/// A line taken apart.
-pub(crate) fn parts_of(text: &[u8]) -> Line<'_>
-    ensures { parts_in result ≡ parts_of text.now }
-{
-    Line::of(text)
 }
 
 /// Adds a field to some names, where it stands.
@@ -294,7 +290,7 @@ pub(crate) fn warn_if(
     line: u32,
     number: u8,
     field: Field<'_>,
-    found: &mut Vec<Finding>,
+    found: &mut Vec<Warning>,
 ) -> Result<(), AllocError>
     ensures { OnOk result (found.new.items ≡ found.old.items ++ warned_if condition line number (piece field.entry)) }
 {
@@ -303,19 +299,14 @@ pub(crate) fn warn_if(
             start: field.start,
             width: field.text.len(),
         };
-        found.push(Finding {
-            line,
-            number,
-            span,
-            taken_by: None,
-        })?;
+        found.push(Warning { line, number, span })?;
     }
     Ok(())
 }
 
 /// Whether the operator is one of some. It is brought into its callers with its names.
 #[inline(always)]
-pub(crate) fn has_operator(names: &[&str], parts: &Line<'_>) -> bool
+pub(crate) fn has_operator(names: &[&str], parts: &Reading<'_>) -> bool
     ensures { result ≡ has_operator (map (λ name. name.now) names.now) (parts_in parts.now) }
 {
     match parts.operator {
@@ -324,31 +315,24 @@ pub(crate) fn has_operator(names: &[&str], parts: &Line<'_>) -> bool
     }
 }
 
-/// Whether the operator is one of some, and no offset stands.
-pub(crate) fn has_alone(names: &[&str], parts: &Line<'_>) -> bool
-    ensures { result ≡ has_alone (map (λ name. name.now) names.now) (parts_in parts.now) }
+/// Whether this is so of the operator, and no offset stands.
+pub(crate) fn has_alone(condition: bool, parts: &Reading<'_>) -> bool
+    ensures { result ≡ has_alone condition (parts_in parts.now) }
 {
-    has_operator(names, parts) && parts.offset.is_none()
-}
-
-// Operators that read a word.
-fn reads_word(parts: &Line<'_>) -> bool
-    ensures { result ≡ has_operator word_readers (parts_in parts.now) }
-{
-    has_operator(word_readers(), parts)
+    condition && parts.offset.is_none()
 }
 
 // An operator's name as a label.
 fn warn_of_label(
     language: Language,
     line: u32,
-    parts: &Line<'_>,
-    found: &mut Vec<Finding>,
+    parts: &Reading<'_>,
+    found: &mut Vec<Warning>,
 ) -> Result<(), AllocError>
     ensures { OnOk result (found.new.items ≡ found.old.items ++ label_warnings language line (parts_in parts.now)) }
 {
     match parts.label {
-        Some(label) => warn_if(is_operator_in(language, label.text), line, 1, label, found),
+        Some(label) => warn_if(is_operator(language, label.text), line, 1, label, found),
         None => Ok(()),
     }
 }
@@ -357,8 +341,8 @@ fn warn_of_label(
 fn warn_of_unused(
     operands: &NameSet,
     line: u32,
-    parts: &Line<'_>,
-    found: &mut Vec<Finding>,
+    parts: &Reading<'_>,
+    found: &mut Vec<Warning>,
 ) -> Result<(), AllocError>
     ensures { OnOk result (found.new.items ≡ found.old.items ++ unused_warnings operands.now line (parts_in parts.now)) }
 {
@@ -372,11 +356,11 @@ fn warn_of_unused(
 }
 
 /// Whether a word that adds to the next address stands last before the word that follows a line.
-pub(crate) fn indexed_after(indexed: bool, parts: &Line<'_>) -> bool
+pub(crate) fn indexed_after(indexed: bool, parts: &Reading<'_>) -> bool
     ensures { result ≡ indexed_after indexed (parts_in parts.now) }
 {
-    if parts.operator.is_some() && !has_operator(still_operators(), parts) {
-        has_operator(index_operators(), parts)
+    if parts.operator.is_some() && !keeps_location(parts.role) {
+        is_index(parts.role)
     } else {
         indexed
     }
@@ -386,15 +370,17 @@ pub(crate) fn indexed_after(indexed: bool, parts: &Line<'_>) -> bool
 fn warn_of_number(
     indexed: bool,
     line: u32,
-    parts: &Line<'_>,
-    found: &mut Vec<Finding>,
+    parts: &Reading<'_>,
+    found: &mut Vec<Warning>,
 ) -> Result<(), AllocError>
     ensures { OnOk result (found.new.items ≡ found.old.items ++ number_warnings indexed line (parts_in parts.now)) }
 {
     match parts.operand {
         Some(operand) => {
-            let reads = !indexed && has_alone(readers(), parts) && is_register_number(operand.text);
-            warn_if(reads, line, 2, operand, found)
+            let is_read = !indexed
+                && has_alone(reads(parts.role), parts)
+                && is_register_number(operand.text);
+            warn_if(is_read, line, 2, operand, found)
         }
         None => Ok(()),
     }
@@ -404,14 +390,14 @@ fn warn_of_number(
 fn warn_of_pair(
     singles: &NameSet,
     line: u32,
-    parts: &Line<'_>,
-    found: &mut Vec<Finding>,
+    parts: &Reading<'_>,
+    found: &mut Vec<Warning>,
 ) -> Result<(), AllocError>
     ensures { OnOk result (found.new.items ≡ found.old.items ++ pair_warnings singles.now line (parts_in parts.now)) }
 {
     match parts.operand {
         Some(operand) => {
-            let lacks_one = has_alone(pair_operators(), parts) && singles.has(operand.text);
+            let lacks_one = has_alone(takes_pair(parts.role), parts) && singles.has(operand.text);
             warn_if(lacks_one, line, 3, operand, found)
         }
         None => Ok(()),
@@ -419,10 +405,10 @@ fn warn_of_pair(
 }
 
 /// ERASE without an operand.
-pub(crate) fn reserves_one(parts: &Line<'_>) -> bool
+pub(crate) fn reserves_one(parts: &Reading<'_>) -> bool
     ensures { result ≡ reserves_one (parts_in parts.now) }
 {
-    has_operator(erase_operators(), parts) && parts.operand.is_none()
+    is_erase(parts.role) && parts.operand.is_none()
 }
 
 /// Octal digits of a place that a register or a counter has.
@@ -430,65 +416,4 @@ pub(crate) fn is_register_number(text: &[u8]) -> bool
     ensures { result ≡ is_register_number text.now }
 {
     matches!(octal_value(text), Some(Number::Small(number)) if number < 0o61)
-}
-
-const READERS: [&str; 10] = [
-    "CA", "CAE", "CS", "AD", "MASK", "MSK", "CCS", "MP", "DV", "SU",
-];
-
-const WORD_READERS: [&str; 15] = [
-    "CA", "CAE", "CS", "AD", "MASK", "MSK", "CCS", "MP", "DV", "SU", "CAF", "DCA", "DCS", "INDEX",
-    "NDX",
-];
-
-const INDEX_OPERATORS: [&str; 2] = ["INDEX", "NDX"];
-
-const PAIR_OPERATORS: [&str; 4] = ["DXCH", "DAS", "DCA", "DCS"];
-
-const ERASE_OPERATORS: [&str; 1] = ["ERASE"];
-
-const OPERATOR_NAMES: [&str; 71] = [
-    "SETLOC", "BANK", "BLOCK", "ERASE", "EQUALS", "=", "EBANK=", "OCT", "DEC", "ADRES", "ECADR",
-    "CADR", "FCADR", "2CADR", "TC", "TCR", "CCS", "TCF", "DAS", "LXCH", "INCR", "ADS", "CA", "CAE",
-    "CAF", "CS", "INDEX", "NDX", "DXCH", "TS", "XCH", "AD", "MASK", "MSK", "READ", "WRITE", "RAND",
-    "WAND", "ROR", "WOR", "RXOR", "DV", "BZF", "MSU", "QXCH", "AUG", "DIM", "DCA", "DCS", "SU",
-    "BZMF", "MP", "RELINT", "INHINT", "EXTEND", "RESUME", "XXALQ", "XLQ", "RETURN", "DDOUBL", "ZL",
-    "COM", "DTCF", "DTCB", "OVSK", "TCAA", "DOUBLE", "ZQ", "DCOM", "SQUARE", "NOOP",
-];
-
-fn readers() -> &'static [&'static str]
-    ensures { map (λ name. name.now) result.now ≡ readers }
-{
-    &READERS
-}
-
-fn word_readers() -> &'static [&'static str]
-    ensures { map (λ name. name.now) result.now ≡ word_readers }
-{
-    &WORD_READERS
-}
-
-fn index_operators() -> &'static [&'static str]
-    ensures { map (λ name. name.now) result.now ≡ index_operators }
-{
-    &INDEX_OPERATORS
-}
-
-fn pair_operators() -> &'static [&'static str]
-    ensures { map (λ name. name.now) result.now ≡ pair_operators }
-{
-    &PAIR_OPERATORS
-}
-
-pub(crate) fn erase_operators() -> &'static [&'static str]
-    ensures { map (λ name. name.now) result.now ≡ erase_operators }
-{
-    &ERASE_OPERATORS
-}
-
-#[tactic(auto, unfolding(yayul::specs::Operators::operators))]
-pub(crate) fn operator_names() -> &'static [&'static str]
-    ensures { map (λ name. name.now) result.now ≡ operator_names }
-{
-    &OPERATOR_NAMES
 }

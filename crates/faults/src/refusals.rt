@@ -4,9 +4,9 @@ ghost use Rattle.std.specs.Prelude.{◌≡◌, false, MatchOption};
 ghost use Rattle.faults.specs.Refusals.{meaning, is_told};
 
 /// The numbers, rising.
-pub const NUMBERS: [u8; 30] = [
+pub const NUMBERS: [u8; 36] = [
     2, 3, 4, 5, 6, 7, 10, 11, 12, 13, 14, 15, 16, 17, 18, 19, 20, 21, 22, 23, 24, 25, 26, 30, 31,
-    32, 33, 34, 35, 36,
+    32, 33, 34, 35, 36, 40, 41, 42, 50, 51, 52,
 ];
 
 /// A number of a refusal: and what draws it.
@@ -52,6 +52,12 @@ pub fn refusal_of(number: u8) -> Option<Refusal>
         34 => CAUSES_34,
         35 => CAUSES_35,
         36 => CAUSES_36,
+        40 => CAUSES_40,
+        41 => CAUSES_41,
+        42 => CAUSES_42,
+        50 => CAUSES_50,
+        51 => CAUSES_51,
+        52 => CAUSES_52,
         _ => return None,
     };
     Some(Refusal { number, causes })
@@ -93,6 +99,12 @@ pub fn meaning(number: u8) -> &'static [u8]
         34 => b"a source, a feed or a table of names has more than 8,388,608 bytes",
         35 => b"the feed has more than 16 series",
         36 => b"a line of the table of names is no name with its place",
+        40 => b"a session makes no more steps than 1,099,511,627,774",
+        41 => b"the session has not made this step yet",
+        42 => b"the cycle of the input has passed already",
+        50 => b"the line is no command of the session",
+        51 => b"the command has more than 80 bytes",
+        52 => b"16 breakpoints stand, and there are no more",
         _ => b"",
     }
 }
@@ -271,6 +283,10 @@ const CAUSES_16: &[u8] =
   >  OCT 1 one
   Cure: # before the comment
 
+- several numbers behind OCT or DEC
+  >  DEC 10, 20, 30
+  Cure: a line for each number
+
 - a fourth field
   >  CA 5 +1 +1
   Cure: one offset is the most
@@ -317,7 +333,7 @@ const CAUSES_17: &[u8] =
 
 - a symbol that is defined nowhere
   >  CA NOSUCH
-  Cure: define it: NAME EQUALS NUMBER, NAME ERASE under a SETLOC of an erasable place, or as the label of its word
+  Cure: a word that changes: NAME ERASE, among lines after SETLOC 100; a number: NAME DEC 5, behind the last jump; where to go: NAME in the first column of that line; a channel: NAME EQUALS 11
 
 - a register, a counter or a vector without its own EQUALS
   >  CA A
@@ -327,6 +343,11 @@ const CAUSES_17: &[u8] =
     X OCT 1
   >  CA X+1
   Cure: CA X +1
+
+- a colon behind a label: FIVE: is the symbol
+    FIVE: OCT 5
+  >  CA FIVE
+  Cure: FIVE OCT 5, the label without a colon
 
 - a comma: X,1 is a symbol
     X OCT 1
@@ -501,7 +522,7 @@ const CAUSES_25: &[u8] =
 - an extracode of 10 bits on fixed memory, as SU, DV, MSU
      EXTEND
   >  SU 4000
-  Cure: copy the word to erasable memory first: CA, TS
+  Cure: CS and AD subtract a constant: X less K is CS K, AD X; for the others copy the word to erasable memory first: CA, TS
 
 - TCF to erasable memory
   >  TCF 100
@@ -703,4 +724,43 @@ const CAUSES_36: &[u8] = b"
 - a carriage return, or another byte that is not allowed
   > LOOP 4001\\r
   Cure: tr -d '\\r' < FILE > NEW
+";
+
+const CAUSES_40: &[u8] = b"
+- step, run or on, where this many steps are made
+  Cure: back and goto lead to each step that was made
+";
+
+const CAUSES_41: &[u8] = b"
+- goto, changed or differs with a step above the last that was made
+  Cure: step or run first: they make new steps
+";
+
+const CAUSES_42: &[u8] = b"
+- add of an input whose cycle is not above the cycles of the last step that was made
+  Cure: a later cycle; or begin the session anew, and add before run. agcws whatif tries inputs at any cycle
+";
+
+const CAUSES_50: &[u8] = b"
+- a word that is no command; commands are written in small letters
+  Cure: help, in a session of agcws debug --extended, lists the commands
+
+- a field too many, or one that is missing or of another form
+  Cure: agcws debug --extended says after E50 COMMAND what is wrong; help and a command tell its form
+
+- a number of a place, a channel or a word with a digit 8 or 9
+  Cure: they are octal; steps and cycles are decimal
+
+- a symbol that the source does not define, or one of fixed memory where a word that changes is asked for
+  Cure: sym and its name tell what it stands for
+";
+
+const CAUSES_51: &[u8] = b"
+- a line above 80 bytes, its comment too
+  Cure: a shorter comment, or none
+";
+
+const CAUSES_52: &[u8] = b"
+- a breakpoint 17
+  Cure: clear takes all away, and clear i, in agcws debug --extended, that with the number i
 ";

@@ -3,31 +3,32 @@
 ghost use Rattle.std.specs.Prelude.{◌≡◌, ◌++◌, false, map, OnOk};
 ghost use Rattle.std.specs.Option.{option_map_or};
 ghost use Rattle.agc_text.specs.Tables.{value_in};
+ghost use Rattle.yayul.specs.Readings.{parts_in};
 ghost use Rattle.faults.specs.Registers.{registers};
 ghost use Rattle.faults.specs.Views.{entries};
-ghost use Rattle.faults.specs.Warnings.{parts_in, is_same_number, common_names, is_elsewhere, register_warnings};
+ghost use Rattle.faults.specs.Warnings.{is_same_number, is_zero, is_elsewhere, register_warnings};
 
 use crate::causes::value_in;
-use crate::mistakes::{has_alone, has_operator, warn_if};
-use crate::names::is_among;
+use crate::mistakes::{has_alone, warn_if};
+use crate::roles::is_equals;
 use crate::standing::{is_same_known, small_number};
-use crate::switched::value_operators;
-use agc_text::{Line, Number, octal_value};
+use crate::told::Warning;
+use agc_text::{Number, octal_value};
 use std::alloc::AllocError;
-use yayul::Finding;
+use yayul::Reading;
 
 /// A register's name that stands for another place.
 pub(crate) fn warn_of_register(
     place: Option<u32>,
     line: u32,
-    parts: &Line<'_>,
-    found: &mut Vec<Finding>,
+    parts: &Reading<'_>,
+    found: &mut Vec<Warning>,
 ) -> Result<(), AllocError>
     ensures { OnOk result (found.new.items ≡ found.old.items ++ register_warnings place line (parts_in parts.now)) }
 {
     match parts.label {
         Some(label) => {
-            let taken = !is_among(common_names(), label.text) && is_taken(place, label.text, parts);
+            let taken = !is_zero(label.text) && is_taken(place, label.text, parts);
             warn_if(taken, line, 7, label, found)
         }
         None => Ok(()),
@@ -35,7 +36,7 @@ pub(crate) fn warn_of_register(
 }
 
 // Whether a register's name stands for another place on a line.
-fn is_taken(place: Option<u32>, name: &[u8], parts: &Line<'_>) -> bool
+fn is_taken(place: Option<u32>, name: &[u8], parts: &Reading<'_>) -> bool
     ensures { result ≡ option_map_or (λ register. is_elsewhere place register (parts_in parts.now)) (value_in registers name.now) false }
 {
     match value_in(registers(), name) {
@@ -46,15 +47,15 @@ fn is_taken(place: Option<u32>, name: &[u8], parts: &Line<'_>) -> bool
 
 // Whether a line gives another number than that of a register; or stands for a place or has a word, and its place is not known to
 // be the register's.
-fn is_elsewhere(place: Option<u32>, register: &[u8], parts: &Line<'_>) -> bool
+fn is_elsewhere(place: Option<u32>, register: &[u8], parts: &Reading<'_>) -> bool
     ensures { result ≡ is_elsewhere place register.now (parts_in parts.now) }
 {
-    if !has_operator(value_operators(), parts) {
+    if !is_equals(parts.role) {
         return !is_same_known(place, small_number(octal_value(register)));
     }
     match parts.operand {
         Some(operand) => {
-            has_alone(value_operators(), parts)
+            has_alone(is_equals(parts.role), parts)
                 && octal_value(operand.text).is_some()
                 && !is_same_number(operand.text, register)
         }
@@ -70,8 +71,6 @@ fn is_same_number(a: &[u8], b: &[u8]) -> bool
         _ => false,
     }
 }
-
-const COMMON_NAMES: [&str; 1] = ["ZERO"];
 
 const REGISTERS: [(&str, &str); 36] = [
     ("A", "0"),
@@ -112,10 +111,11 @@ const REGISTERS: [(&str, &str); 36] = [
     ("INLINK", "45"),
 ];
 
-fn common_names() -> &'static [&'static str]
-    ensures { map (λ name. name.now) result.now ≡ common_names }
+// ZERO, which is often a constant.
+fn is_zero(text: &[u8]) -> bool
+    ensures { result ≡ is_zero text.now }
 {
-    &COMMON_NAMES
+    text == b"ZERO".as_slice()
 }
 
 pub(crate) fn registers() -> &'static [(&'static str, &'static str)]

@@ -3,25 +3,27 @@
 ghost use Rattle.std.specs.Prelude.{◌≡◌, ◌||◌, map, option_and_then};
 ghost use Rattle.std.specs.Option.{option_map};
 ghost use Rattle.agc_text.specs.Views.{piece};
-ghost use Rattle.faults.specs.Warnings.{parts_in, number_in, number_beside, place_past, place_after, bank_after, is_same_known, leads_on, small_number};
+ghost use Rattle.yayul.specs.Readings.{parts_in};
+ghost use Rattle.faults.specs.Warnings.{number_in, number_beside, place_past, place_after, bank_after, is_same_known, leads_on, small_number};
 
-use crate::causes::bank_operators;
-use crate::flow::{setting_operators, word_count};
-use crate::mistakes::{erase_operators, has_alone, has_operator, reserves_one};
-use agc_text::{Field, Line, Number, octal_value};
+use crate::flow::word_count;
+use crate::mistakes::{has_alone, reserves_one};
+use crate::roles::{is_erase, is_setloc, names_bank};
+use agc_text::{Field, Number, octal_value};
+use yayul::Reading;
 
 /// One past the last place of bank 3, as SETLOC takes it.
 const END: u32 = 0o10000;
 
 /// The number of the place that follows a line, by that of the place before it.
-pub(crate) fn place_after(place: Option<u32>, parts: &Line<'_>) -> Option<u32>
+pub(crate) fn place_after(place: Option<u32>, parts: &Reading<'_>) -> Option<u32>
     ensures { result ≡ place_after place (parts_in parts.now) }
 {
-    if has_operator(setting_operators(), parts) {
-        number_beside(setting_operators(), parts)
-    } else if has_operator(bank_operators(), parts) {
+    if is_setloc(parts.role) {
+        number_beside(is_setloc(parts.role), parts)
+    } else if names_bank(parts.role) {
         None
-    } else if has_operator(erase_operators(), parts) {
+    } else if is_erase(parts.role) {
         if reserves_one(parts) {
             place_past(1, place)
         } else {
@@ -33,24 +35,24 @@ pub(crate) fn place_after(place: Option<u32>, parts: &Line<'_>) -> Option<u32>
 }
 
 /// The bank behind whose words the next stands, after a line.
-pub(crate) fn bank_after(bank: Option<u32>, parts: &Line<'_>) -> Option<u32>
+pub(crate) fn bank_after(bank: Option<u32>, parts: &Reading<'_>) -> Option<u32>
     ensures { result ≡ bank_after bank (parts_in parts.now) }
 {
-    if has_operator(setting_operators(), parts) {
+    if is_setloc(parts.role) {
         None
-    } else if has_operator(bank_operators(), parts) {
-        number_beside(bank_operators(), parts)
+    } else if names_bank(parts.role) {
+        number_beside(names_bank(parts.role), parts)
     } else {
         bank
     }
 }
 
 /// Whether a line leads to the place where it stands.
-pub(crate) fn leads_on(place: Option<u32>, bank: Option<u32>, parts: &Line<'_>) -> bool
+pub(crate) fn leads_on(place: Option<u32>, bank: Option<u32>, parts: &Reading<'_>) -> bool
     ensures { result ≡ leads_on place bank (parts_in parts.now) }
 {
-    is_same_known(place, number_beside(setting_operators(), parts))
-        || is_same_known(bank, number_beside(bank_operators(), parts))
+    is_same_known(place, number_beside(is_setloc(parts.role), parts))
+        || is_same_known(bank, number_beside(names_bank(parts.role), parts))
 }
 
 /// Whether two numbers are known and the same.
@@ -73,11 +75,11 @@ fn place_past(count: u8, place: Option<u32>) -> Option<u32>
     }
 }
 
-// The number of a line's operand, where its operator is one of some and no offset stands.
-fn number_beside(names: &[&str], parts: &Line<'_>) -> Option<u32>
-    ensures { result ≡ number_beside (map (λ name. name.now) names.now) (parts_in parts.now) }
+// The number of a line's operand, where this is so of its operator and no offset stands.
+fn number_beside(condition: bool, parts: &Reading<'_>) -> Option<u32>
+    ensures { result ≡ number_beside condition (parts_in parts.now) }
 {
-    if has_alone(names, parts) {
+    if has_alone(condition, parts) {
         number_in(parts.operand)
     } else {
         None

@@ -4,14 +4,15 @@ ghost use Rattle.std.specs.Prelude.{◌≡◌, map, false, OnOk};
 ghost use Rattle.std.specs.List.{list_any};
 ghost use Rattle.std.specs.Option.{option_map, option_map_or};
 ghost use Rattle.agc_text.specs.Views.{piece};
-ghost use Rattle.faults.specs.Warnings.{parts_in, region_of_place, region_of_bank, region_at, region_after, is_common, is_switched_erasable, is_switched_fixed, value_operators, with_erasable, with_fixed, is_bank_place, is_bank_number, is_bank_field, with_bank_name, far_operators, with_stored, banks_after, no_banks, may_set_erasable, may_set_fixed};
+ghost use Rattle.yayul.specs.Readings.{parts_in};
+ghost use Rattle.faults.specs.Warnings.{region_of_place, region_of_bank, region_at, region_after, is_common, is_switched_erasable, is_switched_fixed, with_erasable, with_fixed, is_bank_place, is_bank_number, is_bank_field, with_bank_name, with_stored, banks_after, no_banks, may_set_erasable, may_set_fixed};
 
-use crate::causes::bank_operators;
-use crate::flow::{setting_operators, storing_operators};
-use crate::mistakes::{add_field, erase_operators, has_alone, has_operator};
+use crate::mistakes::{add_field, has_alone};
 use crate::names::NameSet;
-use agc_text::{Field, Line, Number, octal_value};
+use crate::roles::{is_equals, is_erase, is_setloc, names_bank, sets_bank, stores};
+use agc_text::{Field, Number, octal_value};
 use std::alloc::{AllocError, Global};
+use yayul::Reading;
 
 /// Where words stand.
 #[derive(Clone, Copy, Drop)]
@@ -71,7 +72,7 @@ impl Banks {
     }
 
     /// Adds what a line says.
-    pub(crate) fn note(&mut self, parts: &Line<'_>) -> Result<(), AllocError>
+    pub(crate) fn note(&mut self, parts: &Reading<'_>) -> Result<(), AllocError>
         ensures { OnOk result (self.new ≡ banks_after self.old (parts_in parts.now)) }
     {
         add_erasable(self.region, &mut self.erasable, parts)?;
@@ -79,7 +80,7 @@ impl Banks {
         add_bank_name(BankRegister::Eb, &mut self.erasable_registers, parts)?;
         add_bank_name(BankRegister::Fb, &mut self.fixed_registers, parts)?;
         add_stored(&mut self.stored, parts)?;
-        self.far = self.far || has_operator(far_operators(), parts);
+        self.far = self.far || sets_bank(parts.role);
         self.region = region_after(self.region, parts);
         Ok(())
     }
@@ -119,20 +120,20 @@ fn is_bank_field(register: BankRegister, names: &NameSet, text: &[u8]) -> bool
     is_bank_number(register, text) || names.has(text)
 }
 
-fn add_erasable(region: Region, names: &mut NameSet, parts: &Line<'_>) -> Result<(), AllocError>
+fn add_erasable(region: Region, names: &mut NameSet, parts: &Reading<'_>) -> Result<(), AllocError>
     ensures { OnOk result (names.new ≡ with_erasable region names.old (parts_in parts.now)) }
 {
-    if is_switched_erasable(region) && has_operator(erase_operators(), parts) {
+    if is_switched_erasable(region) && is_erase(parts.role) {
         add_field(names, parts.label)
     } else {
         Ok(())
     }
 }
 
-fn add_fixed(region: Region, names: &mut NameSet, parts: &Line<'_>) -> Result<(), AllocError>
+fn add_fixed(region: Region, names: &mut NameSet, parts: &Reading<'_>) -> Result<(), AllocError>
     ensures { OnOk result (names.new ≡ with_fixed region names.old (parts_in parts.now)) }
 {
-    if is_switched_fixed(region) && !has_operator(value_operators(), parts) {
+    if is_switched_fixed(region) && !is_equals(parts.role) {
         add_field(names, parts.label)
     } else {
         Ok(())
@@ -143,11 +144,11 @@ fn add_fixed(region: Region, names: &mut NameSet, parts: &Line<'_>) -> Result<()
 fn add_bank_name(
     register: BankRegister,
     names: &mut NameSet,
-    parts: &Line<'_>,
+    parts: &Reading<'_>,
 ) -> Result<(), AllocError>
     ensures { OnOk result (names.new ≡ with_bank_name register names.old (parts_in parts.now)) }
 {
-    if has_alone(value_operators(), parts) && names_bank_place(register, parts.operand) {
+    if has_alone(is_equals(parts.role), parts) && names_bank_place(register, parts.operand) {
         add_field(names, parts.label)
     } else {
         Ok(())
@@ -155,10 +156,10 @@ fn add_bank_name(
 }
 
 // Adds where a line stores.
-fn add_stored(names: &mut NameSet, parts: &Line<'_>) -> Result<(), AllocError>
+fn add_stored(names: &mut NameSet, parts: &Reading<'_>) -> Result<(), AllocError>
     ensures { OnOk result (names.new ≡ with_stored names.old (parts_in parts.now)) }
 {
-    if has_operator(storing_operators(), parts) {
+    if stores(parts.role) {
         add_field(names, parts.operand)
     } else {
         Ok(())
@@ -196,14 +197,14 @@ fn is_bank_place(register: BankRegister, number: u32) -> bool
 }
 
 /// Where words stand after a line.
-pub(crate) fn region_after(region: Region, parts: &Line<'_>) -> Region
+pub(crate) fn region_after(region: Region, parts: &Reading<'_>) -> Region
     ensures { result ≡ region_after region (parts_in parts.now) }
 {
-    if has_alone(setting_operators(), parts) {
+    if has_alone(is_setloc(parts.role), parts) {
         region_at_place(parts.operand)
-    } else if has_operator(setting_operators(), parts) {
+    } else if is_setloc(parts.role) {
         Region::Elsewhere
-    } else if has_operator(bank_operators(), parts) {
+    } else if names_bank(parts.role) {
         region_at_bank(parts.operand)
     } else {
         region
@@ -275,20 +276,4 @@ fn is_switched_fixed(region: Region) -> bool
     ensures { result ≡ is_switched_fixed region }
 {
     matches!(region, Region::SwitchedFixed)
-}
-
-const VALUE_OPERATORS: [&str; 2] = ["EQUALS", "="];
-
-const FAR_OPERATORS: [&str; 2] = ["DTCB", "DTCF"];
-
-pub(crate) fn value_operators() -> &'static [&'static str]
-    ensures { map (λ name. name.now) result.now ≡ value_operators }
-{
-    &VALUE_OPERATORS
-}
-
-fn far_operators() -> &'static [&'static str]
-    ensures { map (λ name. name.now) result.now ≡ far_operators }
-{
-    &FAR_OPERATORS
 }

@@ -3,20 +3,22 @@
 ghost use Rattle.std.specs.Prelude.{◌≡◌, ◌≤◌, ◌++◌, map, take, length, replicate, decimal, unwrap_or, [], OnOk};
 ghost use Rattle.std.specs.List.{position_or_len};
 ghost use Rattle.std.specs.Option.{option_map};
-ghost use Rattle.faults.specs.Warnings.{parts_in};
+ghost use Rattle.yayul.specs.Readings.{parts_in};
 ghost use Rattle.faults.specs.Shown.{shown_byte};
 ghost use Rattle.faults.specs.Causes.{filled, filled_byte, is_mark, of_line};
-ghost use Rattle.faults.specs.Views.{cause_in};
-ghost use Rattle.faults.specs.Report.{margin_byte, numbered, shown_part, row_text, marks_text, place_text, kind_text, cause_of, caused_text, message_text, cure_text, finding_text};
+ghost use Rattle.faults.specs.Views.{cause_in, place_in};
+ghost use Rattle.faults.specs.Report.{margin_byte, numbered, shown_part, row_text, marks_text, place_text, kind_text, caused_text, message_text, cure_text, error_text, told_in, warning_text};
 
 use crate::causes::{Cause, text_of, warning_cause};
-use crate::findings::Severity;
 use crate::flight_causes::told_cause;
-use agc_text::{Line, is_text};
+use crate::objects::{Place, push_object};
+use crate::told::{Severity, Told, Warning};
+use agc_text::is_text;
 use arrayvec::ArrayVec;
+use json_text::Notation;
 use std::alloc::AllocError;
 use words::push_decimal;
-use yayul::{Finding, Language, Span};
+use yayul::{Finding, Language, Reading, Span};
 
 /// How many digits a number has at most.
 pub(crate) const DIGITS: usize = 20;
@@ -27,19 +29,14 @@ const MOST_SHOWN: usize = 120;
 /// How many columns the number of a line has.
 const NUMBER_WIDTH: usize = 5;
 
-// Appends where a fault stands.
-fn push_place(
-    out: &mut Vec<u8>,
-    name: &[u8],
-    text: &[u8],
-    finding: &Finding,
-) -> Result<(), AllocError>
-    ensures { OnOk result (out.new.items ≡ out.old.items ++ place_text name.now text.now finding.now) }
+// Appends where a fault or a warning stands.
+fn push_place(out: &mut Vec<u8>, name: &[u8], text: &[u8], told: &Told) -> Result<(), AllocError>
+    ensures { OnOk result (out.new.items ≡ out.old.items ++ place_text name.now text.now told.now) }
 {
-    let column = finding.span.start.min(text.len()) + 1;
+    let column = told.span.start.min(text.len()) + 1;
     out.extend_from_slice(name)?;
     out.extend_from_slice(b":")?;
-    push_number(out, u64::from(finding.line))?;
+    push_number(out, u64::from(told.line))?;
     out.extend_from_slice(b":")?;
     push_number(out, column as u64)
 }
@@ -54,36 +51,18 @@ fn kind_text(severity: Severity) -> &'static [u8]
     }
 }
 
-// Why it is one, and how it is mended.
-fn cause_of(
-    language: Language,
-    severity: Severity,
-    near: bool,
-    text: &[u8],
-    parts: &Line<'_>,
-    finding: &Finding,
-) -> Cause
-    ensures { cause_in result ≡ cause_of language severity near text.now (parts_in parts.now) finding.now }
-{
-    match severity {
-        Severity::Error => told_cause(language, near, text, parts, finding),
-        Severity::Warning => warning_cause(parts, finding.number),
-    }
-}
-
 // Appends what a finding is, and why.
 fn push_message(
     out: &mut Vec<u8>,
-    parts: &Line<'_>,
+    parts: &Reading<'_>,
     label: &[u8],
-    severity: Severity,
-    finding: &Finding,
+    told: &Told,
     cause: &Cause,
 ) -> Result<(), AllocError>
-    ensures { OnOk result (out.new.items ≡ out.old.items ++ message_text (parts_in parts.now) label.now severity finding.now (cause_in cause.now)) }
+    ensures { OnOk result (out.new.items ≡ out.old.items ++ message_text (parts_in parts.now) label.now told.now (cause_in cause.now)) }
 {
-    out.extend_from_slice(kind_text(severity))?;
-    push_number(out, u64::from(finding.number))?;
+    out.extend_from_slice(kind_text(told.severity))?;
+    push_number(out, u64::from(told.number))?;
     out.extend_from_slice(b": ")?;
     push_filled(out, parts, cause.other, label, cause.words)?;
     out.extend_from_slice(b"\n")?;
@@ -93,7 +72,7 @@ fn push_message(
 // Appends how a finding is mended, where that is sure.
 fn push_cure(
     out: &mut Vec<u8>,
-    parts: &Line<'_>,
+    parts: &Reading<'_>,
     label: &[u8],
     cause: &Cause,
 ) -> Result<(), AllocError>
@@ -108,10 +87,10 @@ fn push_cure(
     Ok(())
 }
 
-// Appends a text with all that its marks stand for.
-fn push_filled(
+/// Appends a text with all that its marks stand for.
+pub(crate) fn push_filled(
     out: &mut Vec<u8>,
-    parts: &Line<'_>,
+    parts: &Reading<'_>,
     other: &[u8],
     label: &[u8],
     text: &[u8],
@@ -158,7 +137,7 @@ fn is_mark(byte: u8) -> bool
 // Appends what a byte of a text stands for.
 fn push_filled_byte(
     out: &mut Vec<u8>,
-    parts: &Line<'_>,
+    parts: &Reading<'_>,
     other: &[u8],
     label: &[u8],
     byte: u8,
@@ -203,11 +182,11 @@ pub(crate) fn front(text: &[u8], most: usize) -> &[u8]
     &text[..most.min(text.len())]
 }
 
-// Appends the line of a fault.
-fn push_row(out: &mut Vec<u8>, text: &[u8], finding: &Finding) -> Result<(), AllocError>
-    ensures { OnOk result (out.new.items ≡ out.old.items ++ row_text text.now finding.now) }
+// Appends the line that a fault or a warning stands on.
+fn push_row(out: &mut Vec<u8>, text: &[u8], told: &Told) -> Result<(), AllocError>
+    ensures { OnOk result (out.new.items ≡ out.old.items ++ row_text text.now told.now) }
 {
-    push_numbered(out, finding.line)?;
+    push_numbered(out, told.line)?;
     out.extend_from_slice(b" | ")?;
     push_shown(out, text)?;
     out.extend_from_slice(b"\n")?;
@@ -215,10 +194,10 @@ fn push_row(out: &mut Vec<u8>, text: &[u8], finding: &Finding) -> Result<(), All
 }
 
 // Appends carets, where a fault stands.
-fn push_marks(out: &mut Vec<u8>, text: &[u8], finding: &Finding) -> Result<(), AllocError>
-    ensures { OnOk result (out.new.items ≡ out.old.items ++ marks_text text.now finding.now) }
+fn push_marks(out: &mut Vec<u8>, text: &[u8], told: &Told) -> Result<(), AllocError>
+    ensures { OnOk result (out.new.items ≡ out.old.items ++ marks_text text.now told.now) }
 {
-    let Span { start, width } = finding.span;
+    let Span { start, width } = told.span;
     out.extend_from_slice(b"      | ")?;
     push_margin(out, front(text, start))?;
     let within = width.min(text.len().saturating_sub(start));
@@ -227,29 +206,58 @@ fn push_marks(out: &mut Vec<u8>, text: &[u8], finding: &Finding) -> Result<(), A
     Ok(())
 }
 
-/// Appends the lines of a fault.
-pub(crate) fn push_finding(
+/// Appends the lines of a fault, with a text from other lines or none, and the place that it is from.
+pub(crate) fn push_error(
     out: &mut Vec<u8>,
+    notation: Notation,
     language: Language,
     name: &[u8],
     text: &[u8],
-    parts: &Line<'_>,
+    parts: &Reading<'_>,
     near: Option<&[u8]>,
-    severity: Severity,
-    finding: &Finding,
+    place: Option<Place<'_>>,
+    fault: &Finding,
 ) -> Result<(), AllocError>
-    ensures { OnOk result (out.new.items ≡ out.old.items ++ finding_text language name.now text.now (parts_in parts.now) (option_map (λ label. label.now) near.entry) severity finding.now) }
+    ensures { OnOk result (out.new.items ≡ out.old.items
+        ++ error_text notation language name.now text.now (parts_in parts.now) (option_map (λ label. label.now) near.entry) (option_map place_in place.entry) fault.now) }
 {
-    let cause = cause_of(language, severity, near.is_some(), text, parts, finding);
-    push_caused(
+    let cause = told_cause(language, near.is_some(), text, parts, fault);
+    let label = label_of(near);
+    push_finding(
         out,
+        notation,
         name,
         text,
         parts,
-        label_of(near),
-        severity,
-        finding,
-        &cause,
+        label,
+        place,
+        &Told::error(fault),
+        &cause.without_colon(label, parts),
+    )
+}
+
+/// Appends the lines of a warning.
+#[tactic(auto, unfolding(crate::specs::Report::warning_text))]
+pub(crate) fn push_warning(
+    out: &mut Vec<u8>,
+    notation: Notation,
+    name: &[u8],
+    text: &[u8],
+    parts: &Reading<'_>,
+    warning: &Warning,
+) -> Result<(), AllocError>
+    ensures { OnOk result (out.new.items ≡ out.old.items ++ warning_text notation name.now text.now (parts_in parts.now) warning.now) }
+{
+    push_finding(
+        out,
+        notation,
+        name,
+        text,
+        parts,
+        b"",
+        None,
+        &Told::warning(warning),
+        &warning_cause(parts, warning.number),
     )
 }
 
@@ -263,24 +271,44 @@ fn label_of(near: Option<&[u8]>) -> &[u8]
     }
 }
 
-/// Appends the lines of a fault with why it is one, and a text from other lines.
-pub(crate) fn push_caused(
+/// Appends what is told of a line in a notation, with why, a text from other lines, and the place that it is from.
+pub(crate) fn push_finding(
+    out: &mut Vec<u8>,
+    notation: Notation,
+    name: &[u8],
+    text: &[u8],
+    parts: &Reading<'_>,
+    label: &[u8],
+    place: Option<Place<'_>>,
+    told: &Told,
+    cause: &Cause,
+) -> Result<(), AllocError>
+    ensures { OnOk result (out.new.items ≡ out.old.items
+        ++ told_in notation name.now text.now (parts_in parts.now) label.now (option_map place_in place.entry) told.now (cause_in cause.now)) }
+{
+    match notation {
+        Notation::Text => push_caused(out, name, text, parts, label, told, cause),
+        Notation::Json => push_object(out, name, text, parts, label, place, told, cause),
+    }
+}
+
+// Appends the lines of what is told of a line, with why, and a text from other lines.
+fn push_caused(
     out: &mut Vec<u8>,
     name: &[u8],
     text: &[u8],
-    parts: &Line<'_>,
+    parts: &Reading<'_>,
     label: &[u8],
-    severity: Severity,
-    finding: &Finding,
+    told: &Told,
     cause: &Cause,
 ) -> Result<(), AllocError>
-    ensures { OnOk result (out.new.items ≡ out.old.items ++ caused_text name.now text.now (parts_in parts.now) label.now severity finding.now (cause_in cause.now)) }
+    ensures { OnOk result (out.new.items ≡ out.old.items ++ caused_text name.now text.now (parts_in parts.now) label.now told.now (cause_in cause.now)) }
 {
-    push_place(out, name, text, finding)?;
-    push_message(out, parts, label, severity, finding, cause)?;
+    push_place(out, name, text, told)?;
+    push_message(out, parts, label, told, cause)?;
     let shown = shown_part(text);
-    push_row(out, shown, finding)?;
-    push_marks(out, shown, finding)?;
+    push_row(out, shown, told)?;
+    push_marks(out, shown, told)?;
     push_cure(out, parts, label, cause)
 }
 

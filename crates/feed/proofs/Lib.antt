@@ -1,6 +1,8 @@
 mod LineSteps
 mod Whole
 mod Rows
+mod SlipRows
+mod SlipLaws
 pub mod Sorting
 mod SourceLaws
 mod Merging

@@ -2,6 +2,7 @@ pub mod Counters
 pub mod Faults
 pub mod Names
 pub mod Statements
+pub mod Slips
 pub mod Merged
 pub mod Order
 pub mod CountsTaken

@@ -82,8 +82,15 @@ impl Counter {
         self.row().asks
     }
 
+    /// Its name in a feed.
+    pub fn name(self) -> &'static [u8]
+        ensures { result.now ≡ (row_of self).name }
+    {
+        self.row().name
+    }
+
     /// Whether it takes a sequence.
-    pub(crate) fn takes(self, sequence: Sequence) -> bool
+    pub fn takes(self, sequence: Sequence) -> bool
         ensures { result ≡ takes self sequence }
     {
         self.row().takes.contains(&sequence)

@@ -13,6 +13,7 @@ mod merge;
 mod names;
 mod reading;
 mod series_cursor;
+mod slip;
 mod statement;
 
 pub use counter::Asks;
@@ -24,5 +25,6 @@ pub use list::{AddFault, Feed};
 pub use merge::MOST_SERIES;
 pub use names::counter_of;
 pub use reading::read;
+pub use slip::{Slip, Why, is_cycle, line_slip};
 pub use statement::{parse_line, word_in};
 pub use words::MOST_BYTES;

@@ -1,6 +1,6 @@
 //! The inputs of a run.
 
-ghost use Rattle.std.specs.Prelude.{◌≡◌, ◌≢◌, ◌≤◌, ◌<◌, ◌+◌, ◌^◌, ℕ, List, [], true, Some, None, Err, OnOk, OnErr, IfSome, filter, map, slice_get, slice_index};
+ghost use Rattle.std.specs.Prelude.{◌≡◌, ◌≢◌, ◌≤◌, ◌<◌, ◌+◌, ◌^◌, ℕ, List, [], true, Some, None, Err, OnOk, OnErr, IfOk, IfSome, filter, map, slice_get, slice_index};
 ghost use Rattle.feed.specs.Added.{AddsLast, TakenBelow};
 ghost use Rattle.feed.specs.Feed.{most_inputs};
 ghost use Rattle.feed.specs.CountsTaken.{CountsTaken, is_from, number_from, AreInputs};
@@ -82,11 +82,37 @@ impl Feed {
         }
     }
 
+    /// The same inputs again, or `NoMemory`.
+    pub fn copied(&self, alloc: Global) -> Result<Feed, AddFault>
+        ensures ok { IfOk result (λ feed. feed ≡ self.now) }
+        ensures err { OnErr result (result ≡ Err AddFault.NoMemory) }
+    {
+        let mut plain = Vec::new(alloc);
+        match plain.extend_from_slice(&self.plain) {
+            Ok(()) => Ok(Feed {
+                plain,
+                sources: copied_sources(&self.sources),
+                known: self.known,
+                due_at: self.due_at,
+                kept: self.kept,
+                line: self.line,
+            }),
+            Err(_) => Err(AddFault::NoMemory),
+        }
+    }
+
     /// Whether it is known that no input is due for a machine that took `taken`, up to `cycles`: two comparisons.
     pub fn is_none_due(&self, taken: usize, cycles: u64) -> bool
         ensures { result ≡ true → due self.now taken cycles ≡ None }
     {
         taken == self.known && cycles < self.due_at
+    }
+
+    /// The cycle up to which it is known that no input is due for a machine that took `taken`; 0 where nothing is known.
+    pub fn none_due_before(&self, taken: usize) -> u64
+        ensures { (cycles : ℕ) → cycles < result → due self.now taken cycles ≡ None }
+    {
+        if taken == self.known { self.due_at } else { 0 }
     }
 
     /// The next input for a machine that took `taken`, by its counts so many from each series, where its cycle is at most
@@ -195,6 +221,19 @@ impl Feed {
         }
         next
     }
+}
+
+// The same sources again.
+fn copied_sources(
+    sources: &ArrayVec<SeriesCursor, MOST_SERIES>,
+) -> ArrayVec<SeriesCursor, MOST_SERIES>
+    ensures { result.items ≡ sources.now.items }
+{
+    let mut copy = ArrayVec::new();
+    for source in sources.as_slice() {
+        copy.push(source.copied());
+    }
+    copy
 }
 
 // What an entry gives, where it stands and its cycle has come.

@@ -44,6 +44,18 @@ impl SeriesCursor {
         }
     }
 
+    // The same source again.
+    pub(crate) fn copied(&self) -> SeriesCursor
+        ensures { result ≡ self.now }
+    {
+        SeriesCursor {
+            rule: self.rule,
+            number: self.number,
+            cycle: self.cycle,
+            before: self.before,
+        }
+    }
+
     // The cycles of entry `number` and of the one before it.
     fn cycles(&mut self, number: u32) -> (u64, u64)
         ensures same { self.new ≡ self.old }

@@ -15,7 +15,7 @@ use space::Chan;
 use words::Word;
 
 /// The most digits of a cycle.
-const CYCLE_DIGITS: usize = 15;
+pub(crate) const CYCLE_DIGITS: usize = 15;
 
 /// The most digits of the other numbers of a rule.
 const FACTOR_DIGITS: usize = 9;
@@ -144,7 +144,7 @@ fn rule_in(text: &[u8]) -> Result<Rule, LineFault>
 }
 
 // A number that makes the cycles of a series.
-fn factor_in(field: &[u8]) -> Option<u64>
+pub(crate) fn factor_in(field: &[u8]) -> Option<u64>
     ensures value { result ≡ factor_in field.now }
     ensures below { IfSome result (λ n. n < 10 ^ 9) }
     ensures some { IfSome result (λ n. 0 < n) }
@@ -242,7 +242,7 @@ fn pulse_of(counter: Option<Counter>, sequence: Option<Sequence>) -> Result<Inpu
 }
 
 // The channel of some octal digits, where it takes inputs: all do but L and Q.
-fn channel_in(field: &[u8]) -> Option<Chan>
+pub(crate) fn channel_in(field: &[u8]) -> Option<Chan>
     ensures { result ≡ channel_in field.now }
 {
     match octal(field, OCTAL_DIGITS) {
@@ -270,7 +270,7 @@ pub fn word_in(field: &[u8]) -> Option<Word>
 }
 
 // The interrupt of some decimal digits.
-fn request_in(field: &[u8]) -> Option<Input>
+pub(crate) fn request_in(field: &[u8]) -> Option<Input>
     ensures { result ≡ request_in field.now }
 {
     match decimal(field, REQUEST_DIGITS) {

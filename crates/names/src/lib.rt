@@ -8,5 +8,5 @@ mod near;
 mod table;
 
 pub use laws::names_tell_places;
-pub use lines::{Line, line_of_word, named_line, write_named_words};
+pub use lines::{Line, line_of_word, named_instruction, named_line, write_named_words};
 pub use table::{TableFault, names_in};

@@ -109,6 +109,23 @@ fn extracode_before(rope: &Rope, bank: Bank, offset: Offset) -> bool
     extra
 }
 
+/// The instruction that a word is.
+pub fn named_instruction<N: Names>(
+    rope: &Rope,
+    names: &N,
+    bank: Bank,
+    offset: Offset,
+    extra: bool,
+) -> Line
+    requires { extra ≡ extracode_at rope.now bank offset }
+    ensures items { result.items ≡ named_instruction (N.table names.now) rope.now bank offset }
+    ensures short { array_vec_len result ≤ 25 }
+{
+    let mut line = ArrayVec::new();
+    push_instruction(&mut line, rope, names, bank, offset, extra);
+    line
+}
+
 /// Appends the instruction that a word is.
 #[tactic(auto, unfolding(crate::specs::NamedLines::named_instruction))]
 fn push_instruction<N: Names>(

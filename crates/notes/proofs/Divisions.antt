@@ -8,7 +8,7 @@ use Rattle.cpu.specs.Codes.{Range, basic_rows, code_of, no_range, row_of, serves
 abbrev is_division : Range → Bool
 is_division r = same_name (row_of r.instruction).name (codes "DV")
 
-neither : (b c : Bool) → (b || c) ≡ false → (b ≡ false) × (c ≡ false)
+pub neither : (b c : Bool) → (b || c) ≡ false → (b ≡ false) × (c ≡ false)
 neither true c e = absurd (cc)
 neither false c e = (refl, e)
 

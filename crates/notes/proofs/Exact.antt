@@ -11,14 +11,15 @@ use Rattle.cpu.specs.State.{Scenario}
 use Rattle.yayul.specs.Named.{Named}
 use Rattle.notes.specs.declared.kind.Kind.{Kind}
 use Rattle.notes.specs.Notes.{happens}
+use Rattle.notes.specs.Past.{seen}
 use Rattle.notes.specs.RunNotes.{FirstStep, NotesAreExact, SomeStep, here, happens_at, times, told}
 
 -- none of some steps
-none_of_steps : (named : Named) (scenario : Scenario) (kind : Kind) (a : Account) (n : ℕ) → times named scenario kind a n ≡ 0 → (t : ℕ) → t < n → happens_at named scenario kind a (run scenario t) ≡ false
+none_of_steps : (named : Named) (scenario : Scenario) (kind : Kind) (a : Account) (n : ℕ) → times named scenario kind a n ≡ 0 → (t : ℕ) → t < n → happens_at named scenario kind a (seen scenario t) ≡ false
 unfolding times
 none_of_steps named scenario kind a zero e t lt = absurd (omega (arith, lt))
 none_of_steps named scenario kind a (suc n) e t lt =
-    elim (cases_Bool (happens_at named scenario kind a (run scenario n))) [
+    elim (cases_Bool (happens_at named scenario kind a (seen scenario n))) [
       | inl hit ↦
           let more : times named scenario kind a n + 1 ≡ 0 = rw hit at e in
           absurd (omega (arith, more))
@@ -31,7 +32,7 @@ none_of_steps named scenario kind a (suc n) e t lt =
     ]
 
 -- and the other way round
-never : (named : Named) (scenario : Scenario) (kind : Kind) (a : Account) (n : ℕ) → ((t : ℕ) → t < n → happens_at named scenario kind a (run scenario t) ≡ false) → times named scenario kind a n ≡ 0
+never : (named : Named) (scenario : Scenario) (kind : Kind) (a : Account) (n : ℕ) → ((t : ℕ) → t < n → happens_at named scenario kind a (seen scenario t) ≡ false) → times named scenario kind a n ≡ 0
 unfolding times
 never named scenario kind a zero none = refl
 never named scenario kind a (suc n) none =
@@ -39,12 +40,12 @@ never named scenario kind a (suc n) none =
     rw (none n (omega arith), before) refl
 
 -- what happens is counted
-some : (named : Named) (scenario : Scenario) (kind : Kind) (a : Account) (n t : ℕ) → t < n → happens_at named scenario kind a (run scenario t) ≡ true → 1 ≤ times named scenario kind a n
+some : (named : Named) (scenario : Scenario) (kind : Kind) (a : Account) (n t : ℕ) → t < n → happens_at named scenario kind a (seen scenario t) ≡ true → 1 ≤ times named scenario kind a n
 unfolding times
 some named scenario kind a zero t lt hit = absurd (omega (arith, lt))
 some named scenario kind a (suc n) t lt hit =
     elim (eqb_tells t n) [
-      | inl last ↦ let here : happens_at named scenario kind a (run scenario n) ≡ true = rw last.1 at hit in rw here (omega arith)
+      | inl last ↦ let here : happens_at named scenario kind a (seen scenario n) ≡ true = rw last.1 at hit in rw here (omega arith)
       | inr apart ↦ let before = some named scenario kind a n t (omega (arith, lt, apart.1)) hit in omega (arith, before)
     ]
 
@@ -53,7 +54,7 @@ found : (named : Named) (scenario : Scenario) (kind : Kind) (a : Account) (n : �
 unfolding times
 found named scenario kind a zero h = absurd (omega (arith, h))
 found named scenario kind a (suc n) h =
-    elim (cases_Bool (happens_at named scenario kind a (run scenario n))) [
+    elim (cases_Bool (happens_at named scenario kind a (seen scenario n))) [
       | inl hit ↦ record { step = n; within = omega arith; happens = hit }
       | inr miss ↦
           let before : 1 ≤ times named scenario kind a n + 0 = rw miss at h in
@@ -71,14 +72,14 @@ one_account Waiting = refl
 one_account (Place (Erasable p)) = same_number p
 one_account (Place (Fixed bank offset)) = rw (same_number bank, same_number offset) refl
 
-happens_here : (named : Named) (scenario : Scenario) (kind : Kind) (t : ℕ) → happens named scenario kind (run scenario t) ≡ true → happens_at named scenario kind (here scenario (run scenario t)) (run scenario t) ≡ true
+happens_here : (named : Named) (scenario : Scenario) (kind : Kind) (t : ℕ) → happens named scenario kind (seen scenario t) ≡ true → happens_at named scenario kind (here scenario (run scenario t)) (seen scenario t) ≡ true
 happens_here named scenario kind t hit = rw (hit, one_account (here scenario (run scenario t))) refl
 
 -- what is told happens for the first time
 first_told : (named : Named) (scenario : Scenario) (kind : Kind) (n t : ℕ) → t < n → (nat_le 1 (told named scenario n t kind) ≡ true) → FirstStep named scenario kind t
 unfolding told
 first_told named scenario kind n t lt e =
-    elim (cases_Bool (happens named scenario kind (run scenario t))) [
+    elim (cases_Bool (happens named scenario kind (seen scenario t))) [
       | inl hit ↦
           elim (eqb_tells (times named scenario kind (here scenario (run scenario t)) t) 0) [
             | inl none ↦ record { happens = hit; first = none_of_steps named scenario kind (here scenario (run scenario t)) t none.1 }

@@ -12,6 +12,7 @@ use Rattle.feed.specs.Merged.{due}
 use Rattle.feed.specs.declared.input.Counter.{Counter}
 use Rattle.feed.specs.declared.input.Input.{Input}
 use Rattle.feed.specs.declared.input.Input.TheVariants.{Count, Word, Interrupt}
+use Rattle.json_text.specs.declared.notation.Notation.{Notation}
 use Rattle.words.specs.declared.counters.Carry.{Carry}
 use Rattle.words.specs.declared.counters.Carry.TheVariants.{No, Plus, Minus, ShiftedOut}
 use Rattle.words.specs.Numbers.{extend}
@@ -242,9 +243,9 @@ keeps_more scenario n old new before e =
     }
 
 -- the lines of what is kept are those of the run
-pub kept_is : (scenario : Scenario) (n cycles : ℕ) (waits : Waits) → Keeps scenario n waits → cycles ≡ (run scenario n).cycles → kept_text cycles waits ≡ waits_text scenario n
+pub kept_is : (notation : Notation) (scenario : Scenario) (n cycles : ℕ) (waits : Waits) → Keeps scenario n waits → cycles ≡ (run scenario n).cycles → kept_text notation cycles waits ≡ waits_text notation scenario n
 unfolding waits_text
-kept_is scenario n cycles waits keeps e =
+kept_is notation scenario n cycles waits keeps e =
     rw (
       e,
       keeps.since 1 (omega arith),
@@ -260,20 +261,20 @@ kept_is scenario n cycles waits keeps e =
     ) refl
 
 -- the lines of one interrupt after another
-kept_first : (cycles : ℕ) (waits : Waits) (k n : ℕ) → k ≤ 10 → n ≡ 11 - k → kept_from cycles waits k n ≡ wait_text cycles k (get_or waits k None) ++ kept_from cycles waits (k + 1) (11 - (k + 1))
-kept_first cycles waits k zero le e = absurd (omega (arith, le, e))
-kept_first cycles waits k (suc n) le e = ap (λ m. wait_text cycles k (get_or waits k None) ++ kept_from cycles waits (k + 1) m) (omega (arith, le, e))
+kept_first : (notation : Notation) (cycles : ℕ) (waits : Waits) (k n : ℕ) → k ≤ 10 → n ≡ 11 - k → kept_from notation cycles waits k n ≡ wait_text notation cycles k (get_or waits k None) ++ kept_from notation cycles waits (k + 1) (11 - (k + 1))
+kept_first notation cycles waits k zero le e = absurd (omega (arith, le, e))
+kept_first notation cycles waits k (suc n) le e = ap (λ m. wait_text notation cycles k (get_or waits k None) ++ kept_from notation cycles waits (k + 1) m) (omega (arith, le, e))
 
-pub kept_more : (cycles : ℕ) (waits : Waits) (k j : ℕ) (lines new all : List ℕ) (m : Option Moment) → k ≤ 10 → lines ++ kept_from cycles waits k (11 - k) ≡ all → new ≡ lines ++ wait_text cycles j m
-    → j ≡ k → m ≡ get_or waits j None → new ++ kept_from cycles waits (k + 1) (11 - (k + 1)) ≡ all
-kept_more cycles waits k j lines new all m le before e same since =
-    let rest = kept_from cycles waits (k + 1) (11 - (k + 1)) in
-    ap (λ text. text ++ rest) (e ∙ ap (λ (x : Option Moment). lines ++ wait_text cycles j x) since ∙ ap (λ i. lines ++ wait_text cycles i (get_or waits i None)) same)
-    ∙ append_assoc lines (wait_text cycles k (get_or waits k None)) rest
-    ∙ ap (λ text. lines ++ text) (sym (kept_first cycles waits k (11 - k) le refl)) ∙ before
+pub kept_more : (notation : Notation) (cycles : ℕ) (waits : Waits) (k j : ℕ) (lines new all : List ℕ) (m : Option Moment) → k ≤ 10 → lines ++ kept_from notation cycles waits k (11 - k) ≡ all → new ≡ lines ++ wait_text notation cycles j m
+    → j ≡ k → m ≡ get_or waits j None → new ++ kept_from notation cycles waits (k + 1) (11 - (k + 1)) ≡ all
+kept_more notation cycles waits k j lines new all m le before e same since =
+    let rest = kept_from notation cycles waits (k + 1) (11 - (k + 1)) in
+    ap (λ text. text ++ rest) (e ∙ ap (λ (x : Option Moment). lines ++ wait_text notation cycles j x) since ∙ ap (λ i. lines ++ wait_text notation cycles i (get_or waits i None)) same)
+    ∙ append_assoc lines (wait_text notation cycles k (get_or waits k None)) rest
+    ∙ ap (λ text. lines ++ text) (sym (kept_first notation cycles waits k (11 - k) le refl)) ∙ before
 
-pub kept_last : (cycles : ℕ) (waits : Waits) (k : ℕ) (lines all : List ℕ) → k ≡ 11 → lines ++ kept_from cycles waits k (11 - k) ≡ all → lines ≡ all
-kept_last cycles waits k lines all e before = sym (append-nil lines) ∙ ap (λ i. lines ++ kept_from cycles waits i (11 - i)) (sym e) ∙ before
+pub kept_last : (notation : Notation) (cycles : ℕ) (waits : Waits) (k : ℕ) (lines all : List ℕ) → k ≡ 11 → lines ++ kept_from notation cycles waits k (11 - k) ≡ all → lines ≡ all
+kept_last notation cycles waits k lines all e before = sym (append-nil lines) ∙ ap (λ i. lines ++ kept_from notation cycles waits i (11 - i)) (sym e) ∙ before
 
 -- ## What a line says
 -- since when it is asked for: from then on without a break

@@ -1,22 +1,32 @@
 -- Notes worked by hand.
-use Rattle.std.proofs.Common.{◌≡◌, [], ◌∷◌, ◌++◌, true, false, refl, ap, ◌∙◌, unwrap_or, Some, None}
+use Rattle.std.proofs.Common.{◌≡◌, ℕ, Bool, [], ◌∷◌, ◌++◌, true, false, refl, ap, ◌∙◌, unwrap_or, Some, None}
 use Rattle.std.specs.Fmt.{digits}
 use Rattle.std.specs.FinSet.{contains}
 use Rattle.std.specs.Prelude.{codes}
 use Rattle.words.specs.Products.{quotient_fits}
 use Rattle.space.specs.declared.place.Linear.TheVariants.{Erasable, Fixed}
 use Rattle.cpu.specs.declared.account.Account.TheVariants.{Waiting, Place}
-use Rattle.cpu.specs.declared.next_step.NextStep.TheVariants.{Enters, Executes}
+use Rattle.cpu.specs.declared.next_step.NextStep.TheVariants.{Takes, Enters, Executes}
+use Rattle.json_text.specs.declared.notation.Notation.TheVariants.{Text, Json}
 use Rattle.cpu.specs.Run.{run}
 use Rattle.cpu.specs.Codes.{basic_rows, code_of}
 use Rattle.cpu.specs.Effects.{place_in}
 use Rattle.cpu.specs.State.{Scenario, State}
 use Rattle.yayul.specs.Named.{Named}
-use Rattle.notes.specs.declared.kind.Kind.TheVariants.{Quotient, Skip}
-use Rattle.notes.specs.Counted.{counted_more, left_after, taken}
-use Rattle.notes.specs.Notes.{is_code_in_erasable, is_elsewhere, place_named, reaches_other}
-use Rattle.notes.specs.RunNotes.{end_text, note_line, told_line, where_of}
-use Rattle.notes.specs.Waits.{asked_at, is_long, kept_text, wait_line, waits_since}
+use Rattle.notes.specs.declared.kind.Kind.TheVariants.{Quotient, Skip, NotKept}
+use Rattle.notes.specs.Counted.{counted_more, is_first, left_after, taken}
+use Rattle.rope.specs.Places.{Words, word_at}
+use Rattle.space.specs.Cells.{get}
+use Rattle.cpu.specs.declared.next_step.Fetched.{Fetched}
+use Rattle.feed.specs.declared.input.Input.TheVariants.{Word}
+use Rattle.words.specs.Numerals.{octal_text}
+use Rattle.notes.specs.Unread.{unread_at, unread_line, unread_object}
+use Rattle.notes.specs.Past.{came_first, enters_shared, entered_at, executes_shared, is_lost, loses, marked, no_past, overwrites, reads_on, unread_by}
+use Rattle.notes.specs.Notes.{is_ccs, is_code_in_erasable, is_elsewhere, is_one_way, place_named, reaches_other}
+use Rattle.json_text.specs.Strings.{escaped, escaped_byte}
+use Rattle.trace.specs.StepMembers.{step_members}
+use Rattle.notes.specs.RunNotes.{end_text, note_line, note_object, told_line, where_of}
+use Rattle.notes.specs.Waits.{asked_at, is_long, kept_text, wait_line, wait_object, waits_since}
 use Rattle.notes.proofs.LongWaits.{since_more}
 
 -- 5 in A and 0 in L divided by 1 does not fit, nor does 1 by 1, nor what is divided by 0; 1 divided by 2 does, and so do 5 in L by 1 and -1 by 2
@@ -82,6 +92,40 @@ under_e3 s e = rw e refl
 with_an_index : (s : State) → reaches_other one_named s (record { place = Fixed 0 1; word = 0o31403; extra = false; waited = false; added = Some 0 }) ≡ false
 with_an_index s = refl
 
+-- CCS A at 02,4002, whose way of +0 is TCF 4010 and that of -0 TCF 4006; whose way of +0 is TCF 4006, where that of -0 is; and whose ways are one word
+two_ways : (rope : Words) → word_at rope 2 4 ≡ 0o14010 → word_at rope 2 6 ≡ 0o14006 → is_one_way rope 0o4002 2 2 ≡ false
+two_ways rope second fourth = rw (second, fourth) refl
+
+led_there : (rope : Words) → word_at rope 2 4 ≡ 0o14006 → word_at rope 2 6 ≡ 0o30000 → is_one_way rope 0o4002 2 2 ≡ true
+led_there rope second fourth = rw (second, fourth) refl
+
+one_word : (rope : Words) → word_at rope 2 4 ≡ 0o14010 → word_at rope 2 6 ≡ 0o14010 → is_one_way rope 0o4002 2 2 ≡ true
+one_word rope second fourth = rw (second, fourth) refl
+
+-- 10000 is CCS A, and under extracode DV A; 12000 is none
+of_ccs : is_ccs (record { place = Fixed 2 2; word = 0o10000; extra = false; waited = false; added = None }) ≡ true
+of_ccs = refl
+
+of_division : is_ccs (record { place = Fixed 2 2; word = 0o10000; extra = true; waited = false; added = None }) ≡ false
+of_division = refl
+
+of_tcf : is_ccs (record { place = Fixed 2 2; word = 0o12000; extra = false; waited = false; added = None }) ≡ false
+of_tcf = refl
+
+-- before any interrupt nothing is lost, and a handler that has set ZRUPT to 4003 for 4002 may leave A at 1
+nothing_found : (s : State) → is_lost s None ≡ false
+nothing_found s = refl
+
+gone_elsewhere : (s : State) → get s.cells 0o15 ≡ 0o4003 → is_lost s (Some (record { a = 0; l = 0; q = 0; eb = 0; fb = 0; superbank = 0; back = 0o4002 })) ≡ false
+gone_elsewhere s e = rw e refl
+
+changed_a : (s : State) → get s.cells 0o15 ≡ 0o4002 → get s.cells 0 ≡ 1 → is_lost s (Some (record { a = 0; l = 0; q = 0; eb = 0; fb = 0; superbank = 0; back = 0o4002 })) ≡ true
+changed_a s e a = rw (e, a) refl
+
+-- EXTEND before RESUME makes it another instruction
+under_extracode : (s : State) → loses s no_past (record { place = Fixed 2 2; word = 0o50017; extra = true; waited = false; added = None }) ≡ false
+under_extracode s = refl
+
 -- T3RUPT is entered at 4014; a word that RESUME brought is nowhere
 entry : where_of (Enters 3) ≡ Place (Fixed 2 0o14)
 entry = refl
@@ -99,6 +143,12 @@ counted = refl
 not_counted : counted_more (4 ∷ 7 ∷ 0 ∷ []) 1 false ≡ 4 ∷ 7 ∷ 0 ∷ []
 not_counted = refl
 
+first_there : is_first (4 ∷ 7 ∷ 0 ∷ []) 2 true ≡ true
+first_there = refl
+
+not_first : is_first (4 ∷ 7 ∷ 0 ∷ []) 1 true ≡ false
+not_first = refl
+
 taken_once : taken (4 ∷ 7 ∷ 0 ∷ []) 1 true ≡ 7
 taken_once = refl
 
@@ -110,14 +160,18 @@ of_dv : note_line Quotient (codes "02,4004  10100  DV D               ") 5 13 1 
 unfolding note_line digits
 of_dv = refl
 
-of_nothing : told_line Skip (codes "02,4004  10100  DV D               ") 5 13 0 ≡ []
+of_resume : note_line NotKept (codes "02,4016  50017  RESUME             ") 21 39 1 ≡ codes "NOTE NOTKEPT    02,4016  50017  RESUME             STEP 21 CYCLES 39 TIMES 1" ++ 10 ∷ []
+unfolding note_line digits
+of_resume = refl
+
+of_nothing : told_line Text Skip (codes "02,4004  10100  DV D               ") 5 13 0 ≡ []
 of_nothing = refl
 
-inside : end_text true 20 ≡ codes "NOTE INSIDE STEP 20" ++ 10 ∷ []
+inside : end_text Text true 20 ≡ codes "NOTE INSIDE STEP 20" ++ 10 ∷ []
 unfolding end_text digits
 inside = refl
 
-outside : end_text false 20 ≡ []
+outside : end_text Text false 20 ≡ []
 unfolding end_text
 outside = refl
 
@@ -155,7 +209,130 @@ unfolding wait_line digits
 of_waiting = refl
 
 -- of ten the two that wait long, in their order
-two_of_ten : kept_text 1000 (None ∷ None ∷ None ∷ Some (record { step = 12; cycles = 20 }) ∷ Some (record { step = 500; cycles = 900 }) ∷ None ∷ None ∷ None ∷ None ∷ None ∷ Some (record { step = 2; cycles = 4 }) ∷ [])
+two_of_ten : kept_text Text 1000 (None ∷ None ∷ None ∷ Some (record { step = 12; cycles = 20 }) ∷ Some (record { step = 500; cycles = 900 }) ∷ None ∷ None ∷ None ∷ None ∷ None ∷ Some (record { step = 2; cycles = 4 }) ∷ [])
     ≡ codes "NOTE WAITING T3RUPT STEP 12 CYCLES 20" ++ 10 ∷ codes "NOTE WAITING RUPT10 STEP 2 CYCLES 4" ++ 10 ∷ []
 unfolding wait_line digits
 two_of_ten = refl
+
+-- the same as JSON: the note of DV, at a place whose symbol has a quote
+object_of_dv : note_object Quotient (step_members (Some (codes "02,4004")) (Some (codes "Q\"")) (Some (codes "10100")) (codes "DV D")) 5 13 1
+    ≡ codes "{\"kind\":\"QUOTIENT\",\"place\":\"02,4004\",\"symbol\":\"Q\\\"\",\"word\":\"10100\",\"text\":\"DV D\",\"step\":5,\"cycles\":13,\"count\":1}" ++ 10 ∷ []
+unfolding note_object step_members digits escaped escaped_byte
+object_of_dv = refl
+
+object_of_nothing : told_line Json Skip (codes "x") 5 13 0 ≡ []
+object_of_nothing = refl
+
+inside_object : end_text Json true 20 ≡ codes "{\"kind\":\"INSIDE\",\"step\":20}" ++ 10 ∷ []
+unfolding end_text digits
+inside_object = refl
+
+waiting_object : wait_object 3 (record { step = 12; cycles = 20 }) ≡ codes "{\"kind\":\"WAITING\",\"interrupt\":\"T3RUPT\",\"step\":12,\"cycles\":20}" ++ 10 ∷ []
+unfolding wait_object digits
+waiting_object = refl
+
+-- READ 15, RXOR 15 and WAND 15 read channel 15; WRITE 15 does not, nor READ 16, the seventh instruction of channels, or TC 15 without EXTEND
+abbrev of_channel : ℕ → Bool → Fetched
+of_channel word extra = record { place = Fixed 2 2; word = word; extra = extra; waited = false; added = None }
+
+of_read : reads_on 0o15 (of_channel 0o15 true) ≡ true
+of_read = refl
+
+of_rxor : reads_on 0o15 (of_channel 0o6015 true) ≡ true
+of_rxor = refl
+
+of_wand : reads_on 0o15 (of_channel 0o3015 true) ≡ true
+of_wand = refl
+
+of_write : reads_on 0o15 (of_channel 0o1015 true) ≡ false
+of_write = refl
+
+of_another : reads_on 0o15 (of_channel 0o16 true) ≡ false
+of_another = refl
+
+of_the_seventh : reads_on 0o15 (of_channel 0o7015 true) ≡ false
+of_the_seventh = refl
+
+of_tc : reads_on 0o15 (of_channel 0o15 false) ≡ false
+of_tc = refl
+
+-- a key is unread from its word on until it is read
+after_a_key : unread_by 0o15 false (Takes (Word 0o15 4)) ≡ true
+after_a_key = refl
+
+after_another : unread_by 0o15 false (Takes (Word 0o16 4)) ≡ false
+after_another = refl
+
+after_an_entry : unread_by 0o15 true (Enters 5) ≡ true
+after_an_entry = refl
+
+after_a_read : unread_by 0o15 true (Executes (of_channel 0o15 true)) ≡ false
+after_a_read = refl
+
+-- a second key, where the first is unread and where it was read; and the first of the other keyboard
+second_key : overwrites (record no_past { first_key = true }) (Word 0o15 5) ≡ true
+second_key = refl
+
+first_key : overwrites no_past (Word 0o15 5) ≡ false
+first_key = refl
+
+other_key : overwrites (record no_past { first_key = true }) (Word 0o16 5) ≡ false
+other_key = refl
+
+-- T6RUPT is entered at 4004, RUPT10 at 4050; nothing at 4000, 4006, 4054, or in bank 3
+first_entry : entered_at (Fixed 2 0o4) ≡ Some 1
+first_entry = refl
+
+last_entry : entered_at (Fixed 2 0o50) ≡ Some 10
+last_entry = refl
+
+before_all : entered_at (Fixed 2 0) ≡ None
+before_all = refl
+
+within_one : entered_at (Fixed 2 0o6) ≡ None
+within_one = refl
+
+behind_all : entered_at (Fixed 2 0o54) ≡ None
+behind_all = refl
+
+in_bank_3 : entered_at (Fixed 3 0o4) ≡ None
+in_bank_3 = refl
+
+-- the program has come by 4010, where T5RUPT is entered then
+shared_entry : enters_shared (record no_past { passed = marked no_past.passed (Some 2) }) 2 ≡ true
+shared_entry = refl
+
+own_entry : enters_shared (record no_past { passed = marked no_past.passed (Some 2) }) 3 ≡ false
+own_entry = refl
+
+-- it comes there after T5RUPT was entered; within an interrupt it is the handler
+comes_there : (s : State) → s.inside ≡ false → executes_shared s (record no_past { entered = marked no_past.entered (Some 2) }) (record { place = Fixed 2 0o10; word = 0o30007; extra = false; waited = false; added = None }) ≡ true
+comes_there s out = rw out refl
+
+is_the_handler : (s : State) → s.inside ≡ true → executes_shared s (record no_past { entered = marked no_past.entered (Some 2) }) (record { place = Fixed 2 0o10; word = 0o30007; extra = false; waited = false; added = None }) ≡ false
+is_the_handler s served = rw served refl
+
+resumes_nothing : (s : State) → s.inside ≡ false → executes_shared s no_past (record { place = Fixed 2 0o100; word = 0o50017; extra = false; waited = false; added = None }) ≡ true
+resumes_nothing s out = rw out refl
+
+-- the first word on channel 1 of three comes after 9 cycles, and another one after 12
+came_once : came_first (None ∷ None ∷ None ∷ []) 1 9 ≡ None ∷ Some 9 ∷ None ∷ []
+came_once = refl
+
+came_again : came_first (None ∷ Some 9 ∷ None ∷ []) 1 12 ≡ None ∷ Some 9 ∷ None ∷ []
+came_again = refl
+
+-- a word after 20 cycles on channel 13: 853 later, 852 later, and where it was read
+of_unread : unread_at Text 873 0o13 (Some 20) false ≡ codes "NOTE UNREAD CHAN 013 CYCLES 20" ++ 10 ∷ []
+unfolding unread_line octal_text digits
+of_unread = refl
+
+unread_object_of : unread_at Json 873 0o13 (Some 20) false ≡ codes "{\"kind\":\"UNREAD\",\"channel\":\"013\",\"cycles\":20}" ++ 10 ∷ []
+unfolding unread_object octal_text digits
+unread_object_of = refl
+
+not_long_unread : unread_at Text 872 0o13 (Some 20) false ≡ []
+not_long_unread = refl
+
+read_there : unread_at Text 873 0o13 (Some 20) true ≡ []
+read_there = refl

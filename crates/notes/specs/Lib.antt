@@ -1,4 +1,6 @@
+pub mod Past
 pub mod Notes
+pub mod Unread
 pub mod RunNotes
 pub mod Waits
 pub mod Counted

@@ -1,5 +1,5 @@
 -- What happens in a step that is seldom meant.
-use Rattle.std.specs.Prelude.{ℕ, ◌*◌, ◌/◌, ◌==◌, ◌&&◌, Bool, true, false, not, List, codes, Option, Some, None, is_some}
+use Rattle.std.specs.Prelude.{ℕ, ◌+◌, ◌*◌, ◌/◌, ◌%◌, ◌==◌, ◌&&◌, ◌||◌, nat_le, nat_lt, Bool, true, false, not, List, codes, Option, Some, None, is_some}
 use Rattle.words.specs.Numbers.{correct}
 use Rattle.words.specs.Products.{quotient_fits}
 use Rattle.words.specs.Signs.{over}
@@ -7,18 +7,20 @@ use Rattle.agc_text.specs.Tables.{same_name}
 use Rattle.space.specs.Cells.{return_address, program_counter}
 use Rattle.space.specs.declared.place.Linear.{Linear}
 use Rattle.space.specs.declared.place.Linear.TheVariants.{Erasable, Fixed}
-use Rattle.rope.specs.Places.{Words, stands}
+use Rattle.rope.specs.Places.{Words, bank_words, stands, word_at}
 use Rattle.yayul.specs.Named.{Named, named_at}
 use Rattle.cpu.specs.declared.next_step.Fetched.{Fetched}
 use Rattle.cpu.specs.declared.next_step.NextStep.{NextStep}
-use Rattle.cpu.specs.declared.next_step.NextStep.TheVariants.{Enters, Executes}
+use Rattle.cpu.specs.declared.next_step.NextStep.TheVariants.{Takes, Enters, Executes}
 use Rattle.cpu.specs.Codes.{Code, code_of, row_of}
-use Rattle.cpu.specs.Effects.{accumulator_of, lower_of, place_in, value_at, has_overflow}
+use Rattle.cpu.specs.Effects.{accumulator_of, lower_of, next_address, place_in, value_at, has_overflow}
 use Rattle.cpu.specs.NextStep.{next_step}
 use Rattle.cpu.specs.Operands.{address_of}
 use Rattle.cpu.specs.State.{State, Scenario}
 use Rattle.notes.specs.declared.kind.Kind.{Kind}
-use Rattle.notes.specs.declared.kind.Kind.TheVariants.{Quotient, Skip, NoWord, InErasable, NoHandler, OtherBank}
+use Rattle.notes.specs.declared.kind.Kind.TheVariants.{Quotient, Skip, NoWord, InErasable, NoHandler, OtherBank, NotKept, MinusZero, Overwritten, Shared}
+use Rattle.notes.specs.declared.past.Past.{Past}
+use Rattle.notes.specs.Past.{Seen, comes_by, enters_shared, executes_shared, loses, overwrites}
 
 -- the instruction that is executed
 abbrev pub code_in : Fetched → Code
@@ -85,16 +87,60 @@ leads_elsewhere s _ _ = false
 abbrev pub reaches_other : Named → State → Fetched → Bool
 reaches_other named s f = not f.waited && not (is_some f.added) && leads_elsewhere s (place_named named f.place) (address_of (code_in f))
 
--- whether something of a kind happens in a step. A word that waited, as RESUME leaves it, stands nowhere
-abbrev pub happens_in : Named → Words → State → Kind → NextStep → Bool
-happens_in named rope s NoHandler (Enters k) = not (stands rope 2 (4 * k))
-happens_in named rope s NoWord (Executes f) = not f.waited && not (has_word rope f.place)
-happens_in named rope s InErasable (Executes f) = not f.waited && is_code_in_erasable f.place
-happens_in named rope s OtherBank (Executes f) = reaches_other named s f
-happens_in named rope s Skip (Executes f) = skips s f
-happens_in named rope s Quotient (Executes f) = divides rope s f
-happens_in named rope s kind step = false
+-- CCS, which has four ways: for what is above +0, +0, below -0, and -0
+abbrev pub is_ccs : Fetched → Bool
+is_ccs f = not f.extra && nat_le 0o10000 f.word && nat_lt f.word 0o12000
+
+-- whether what it reads is -0
+abbrev pub is_minus_zero : Words → State → Linear → Bool
+is_minus_zero rope s place = correct (value_at rope s place) == 0o77777
+
+abbrev pub counts_minus_zero : Words → State → Fetched → Bool
+counts_minus_zero rope s f = is_ccs f && is_minus_zero rope s (place_in s (f.word % 0o2000))
+
+-- the way of +0 and that of -0 are one: the same word stands there, or at that of +0 a TCF to the other
+abbrev pub is_one_way : Words → ℕ → ℕ → ℕ → Bool
+is_one_way rope z bank offset =
+    word_at rope bank (offset + 2) == word_at rope bank (offset + 4) || word_at rope bank (offset + 2) == 0o10000 + (z % 0o10000 + 4) % 0o10000
+
+abbrev pub has_two_ways : Words → State → Linear → Bool
+has_two_ways rope s (Erasable p) = false
+has_two_ways rope s (Fixed bank offset) = nat_lt (offset + 4) bank_words && not (is_one_way rope (next_address s) bank offset)
+
+-- CCS of -0 goes another way than +0 would. A word that waited is passed over
+abbrev pub parts_zeros : Words → State → Fetched → Bool
+parts_zeros rope s f = not f.waited && counts_minus_zero rope s f && has_two_ways rope s f.place
+
+-- whether something of a kind happens in a step, after what was before. A word that waited, as RESUME leaves it, stands nowhere
+abbrev pub happens_in : Named → Words → State → Past → Kind → NextStep → Bool
+happens_in named rope s p NoHandler (Enters k) = not (stands rope 2 (4 * k))
+happens_in named rope s p NoWord (Executes f) = not f.waited && not (has_word rope f.place)
+happens_in named rope s p InErasable (Executes f) = not f.waited && is_code_in_erasable f.place
+happens_in named rope s p OtherBank (Executes f) = reaches_other named s f
+happens_in named rope s p Skip (Executes f) = skips s f
+happens_in named rope s p Quotient (Executes f) = divides rope s f
+happens_in named rope s p NotKept (Executes f) = loses s p f
+happens_in named rope s p MinusZero (Executes f) = parts_zeros rope s f
+happens_in named rope s p Overwritten (Takes input) = overwrites p input
+happens_in named rope s p Shared (Enters k) = enters_shared p k
+happens_in named rope s p Shared (Executes f) = executes_shared s p f
+happens_in named rope s p kind step = false
 
 -- the same, where it is known which erasable places the words name
-unfoldable pub happens : Named → Scenario → Kind → State → Bool
-happens named scenario kind s = happens_in named scenario.rope s kind (next_step scenario s)
+unfoldable pub happens : Named → Scenario → Kind → Seen → Bool
+happens named scenario kind w = happens_in named scenario.rope w.state w.past kind (next_step scenario w.state)
+
+-- ## Steps of which no kind is
+abbrev pub is_at_word : Words → Linear → Bool
+is_at_word rope (Erasable p) = false
+is_at_word rope (Fixed bank offset) = stands rope bank offset
+
+abbrev pub is_quiet : Named → Words → State → Fetched → Bool
+is_quiet named rope s f =
+    not f.waited
+    && (not f.extra
+    && (is_at_word rope f.place && (not (f.word == 0o50017) && (not (skips s f) && (not (counts_minus_zero rope s f) && (not (reaches_other named s f) && not (is_some (comes_by s f))))))))
+
+abbrev pub is_quiet_step : Named → Words → State → NextStep → Bool
+is_quiet_step named rope s (Executes f) = is_quiet named rope s f
+is_quiet_step named rope s step = false

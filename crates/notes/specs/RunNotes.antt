@@ -1,6 +1,8 @@
 -- The notes of a run: what has happened in its steps, by kind and place, with the first step and how often; and how it ends.
 use Rattle.std.specs.Prelude.{◌≡◌, ℕ, zero, suc, ◌+◌, ◌*◌, ◌<◌, ◌==◌, ◌&&◌, Bool, true, false, nat_le, List, [], ◌++◌, codes, decimal, if◌then◌else◌, ◌↔◌}
 use Rattle.std.specs.List.{flat_map, range_with_len}
+use Rattle.json_text.specs.declared.notation.Notation.{Notation}
+use Rattle.json_text.specs.declared.notation.Notation.TheVariants.{Text, Json}
 use Rattle.space.specs.declared.place.Linear.TheVariants.{Fixed}
 use Rattle.symbols.specs.Values.{SymbolTable}
 use Rattle.yayul.specs.Named.{Named}
@@ -13,10 +15,14 @@ use Rattle.cpu.specs.NextStep.{next_step}
 use Rattle.cpu.specs.Profiles.{same_account}
 use Rattle.cpu.specs.Run.{run}
 use Rattle.cpu.specs.State.{State, Scenario}
-use Rattle.trace.specs.TraceLines.{what_text}
+use Rattle.rope.specs.Places.{Words}
+use Rattle.trace.specs.TraceLines.{field, what_text}
+use Rattle.trace.specs.StepMembers.{what_members}
 use Rattle.notes.specs.declared.kind.Kind.{Kind}
-use Rattle.notes.specs.declared.kind.Kind.TheVariants.{Quotient, Skip, NoWord, InErasable, NoHandler, OtherBank}
+use Rattle.notes.specs.declared.kind.Kind.TheVariants.{Quotient, Skip, NoWord, InErasable, NoHandler, OtherBank, NotKept, MinusZero, Overwritten, Shared}
 use Rattle.notes.specs.Notes.{happens}
+use Rattle.notes.specs.Past.{Seen, past, seen}
+use Rattle.notes.specs.Unread.{unread_text}
 use Rattle.notes.specs.Waits.{waits_text}
 
 -- where a step is: the place to which Z leads, or where an interrupt is entered; an input is nowhere, and so is a word that waited
@@ -30,13 +36,13 @@ abbrev pub here : Scenario → State → Account
 here scenario s = where_of (next_step scenario s)
 
 -- whether something of a kind happens somewhere, in the step that follows a state
-abbrev pub happens_at : Named → Scenario → Kind → Account → State → Bool
-happens_at named scenario kind a s = happens named scenario kind s && same_account a (here scenario s)
+abbrev pub happens_at : Named → Scenario → Kind → Account → Seen → Bool
+happens_at named scenario kind a w = happens named scenario kind w && same_account a (here scenario w.state)
 
 -- how often it does in the first n steps
 unfoldable pub times : Named → Scenario → Kind → Account → ℕ → ℕ
 times named scenario kind a zero = 0
-times named scenario kind a (suc n) = times named scenario kind a n + (if happens_at named scenario kind a (run scenario n) then 1 else 0)
+times named scenario kind a (suc n) = times named scenario kind a n + (if happens_at named scenario kind a (seen scenario n) then 1 else 0)
 
 -- how often it does in n steps, where it does not in the first t of them; else none
 abbrev pub times_from : Named → Scenario → Kind → Account → ℕ → ℕ → ℕ
@@ -45,17 +51,29 @@ times_from named scenario kind a t n = if times named scenario kind a t == 0 the
 -- what is told of a kind at the step after t others: how often it happens there in n steps, where it happens in this step and in none before
 unfoldable pub told : Named → Scenario → ℕ → ℕ → Kind → ℕ
 told named scenario n t kind =
-    let s = run scenario t in
-    if happens named scenario kind s then times_from named scenario kind (here scenario s) t n else 0
+    if happens named scenario kind (seen scenario t) then times_from named scenario kind (here scenario (run scenario t)) t n else 0
 
--- the word of a kind, with blanks up to the next column
+-- the word of a kind
+abbrev pub kind_word : Kind → List ℕ
+kind_word Quotient = codes "QUOTIENT"
+kind_word Skip = codes "SKIP"
+kind_word NoWord = codes "NOWORD"
+kind_word InErasable = codes "ERASABLE"
+kind_word NoHandler = codes "NOHANDLER"
+kind_word OtherBank = codes "OTHERBANK"
+kind_word NotKept = codes "NOTKEPT"
+kind_word MinusZero = codes "MINUSZERO"
+kind_word Overwritten = codes "OVERWRITTEN"
+kind_word Shared = codes "SHARED"
+
+-- with blanks up to the next column
 abbrev pub kind_field : Kind → List ℕ
-kind_field Quotient = codes "QUOTIENT   "
-kind_field Skip = codes "SKIP       "
-kind_field NoWord = codes "NOWORD     "
-kind_field InErasable = codes "ERASABLE   "
-kind_field NoHandler = codes "NOHANDLER  "
-kind_field OtherBank = codes "OTHERBANK  "
+kind_field kind = field 9 (kind_word kind)
+
+-- what a step is, in a notation
+abbrev pub what_in : Notation → SymbolTable → Words → State → NextStep → List ℕ
+what_in Text symbols rope s step = what_text symbols rope s step
+what_in Json symbols rope s step = what_members symbols rope s step
 
 -- the line of a note: its kind, what its first step is, that step's number and the cycles after it, and how often
 unfoldable pub note_line : Kind → List ℕ → ℕ → ℕ → ℕ → List ℕ
@@ -63,52 +81,71 @@ note_line kind what number cycles count =
     codes "NOTE " ++ kind_field kind ++ what ++ codes "STEP " ++ decimal number ++ codes " CYCLES " ++ decimal cycles
     ++ codes " TIMES " ++ decimal count ++ codes "\n"
 
+-- its object
+unfoldable pub note_object : Kind → List ℕ → ℕ → ℕ → ℕ → List ℕ
+note_object kind what number cycles count =
+    codes "{\"kind\":\"" ++ (kind_word kind ++ (codes "\"" ++ (what ++ (codes ",\"step\":" ++ (decimal number ++ (codes ",\"cycles\":" ++ (decimal cycles
+    ++ (codes ",\"count\":" ++ (decimal count ++ codes "}\n")))))))))
+
+abbrev pub note_in : Notation → Kind → List ℕ → ℕ → ℕ → ℕ → List ℕ
+note_in Text kind what number cycles count = note_line kind what number cycles count
+note_in Json kind what number cycles count = note_object kind what number cycles count
+
 -- what happens never is not told
-abbrev pub told_line : Kind → List ℕ → ℕ → ℕ → ℕ → List ℕ
-told_line kind what number cycles count = if count == 0 then [] else note_line kind what number cycles count
+abbrev pub told_line : Notation → Kind → List ℕ → ℕ → ℕ → ℕ → List ℕ
+told_line notation kind what number cycles count = if count == 0 then [] else note_in notation kind what number cycles count
 
 -- the lines of all kinds at one step
-abbrev pub kinds_text : List ℕ → ℕ → ℕ → (Kind → ℕ) → List ℕ
-kinds_text what number cycles count =
-    told_line Quotient what number cycles (count Quotient)
-    ++ (told_line Skip what number cycles (count Skip)
-    ++ (told_line NoWord what number cycles (count NoWord)
-    ++ (told_line InErasable what number cycles (count InErasable)
-    ++ (told_line NoHandler what number cycles (count NoHandler)
-    ++ told_line OtherBank what number cycles (count OtherBank)))))
+abbrev pub kinds_text : Notation → List ℕ → ℕ → ℕ → (Kind → ℕ) → List ℕ
+kinds_text notation what number cycles count =
+    told_line notation Quotient what number cycles (count Quotient)
+    ++ (told_line notation Skip what number cycles (count Skip)
+    ++ (told_line notation NoWord what number cycles (count NoWord)
+    ++ (told_line notation InErasable what number cycles (count InErasable)
+    ++ (told_line notation NoHandler what number cycles (count NoHandler)
+    ++ (told_line notation OtherBank what number cycles (count OtherBank)
+    ++ (told_line notation NotKept what number cycles (count NotKept)
+    ++ (told_line notation MinusZero what number cycles (count MinusZero)
+    ++ (told_line notation Overwritten what number cycles (count Overwritten)
+    ++ told_line notation Shared what number cycles (count Shared)))))))))
 
 -- what is told at the step that follows a state
-abbrev pub text_after : SymbolTable → Scenario → ℕ → State → (Kind → ℕ) → List ℕ
-text_after symbols scenario number s count =
-    kinds_text (what_text symbols scenario.rope s (next_step scenario s)) number (next scenario s).0.cycles count
+abbrev pub text_after : Notation → SymbolTable → Scenario → ℕ → State → (Kind → ℕ) → List ℕ
+text_after notation symbols scenario number s count =
+    kinds_text notation (what_in notation symbols scenario.rope s (next_step scenario s)) number (next scenario s).0.cycles count
 
 -- what is told of n steps at the step after t others
-unfoldable pub step_text : SymbolTable → Named → Scenario → ℕ → ℕ → List ℕ
-step_text symbols named scenario n t = text_after symbols scenario (t + 1) (run scenario t) (told named scenario n t)
+unfoldable pub step_text : Notation → SymbolTable → Named → Scenario → ℕ → ℕ → List ℕ
+step_text notation symbols named scenario n t = text_after notation symbols scenario (t + 1) (run scenario t) (told named scenario n t)
 
 -- what is told of the end: that a run ends within an interrupt
-unfoldable pub end_text : Bool → ℕ → List ℕ
-end_text inside n = if inside then codes "NOTE INSIDE STEP " ++ (decimal n ++ codes "\n") else []
+abbrev pub inside_in : Notation → ℕ → List ℕ
+inside_in Text n = codes "NOTE INSIDE STEP " ++ (decimal n ++ codes "\n")
+inside_in Json n = codes "{\"kind\":\"INSIDE\",\"step\":" ++ (decimal n ++ codes "}\n")
 
--- and which interrupts wait long there
-abbrev pub ending_text : Scenario → ℕ → List ℕ
-ending_text scenario n = end_text (run scenario n).inside n ++ waits_text scenario n
+unfoldable pub end_text : Notation → Bool → ℕ → List ℕ
+end_text notation inside n = if inside then inside_in notation n else []
+
+-- which interrupts wait long there, and on which channels words came that no instruction has read
+abbrev pub ending_text : Notation → Scenario → ℕ → List ℕ
+ending_text notation scenario n =
+    (end_text notation (run scenario n).inside n ++ waits_text notation scenario n) ++ unread_text notation (run scenario n).cycles (past scenario n)
 
 -- the notes of the first n steps of a run, in the order of their first steps, and of its end
-unfoldable pub notes_text : SymbolTable → Named → Scenario → ℕ → List ℕ
-notes_text symbols named scenario n = flat_map (step_text symbols named scenario n) (range_with_len 0 n) ++ ending_text scenario n
+unfoldable pub notes_text : Notation → SymbolTable → Named → Scenario → ℕ → List ℕ
+notes_text notation symbols named scenario n = flat_map (step_text notation symbols named scenario n) (range_with_len 0 n) ++ ending_text notation scenario n
 
 -- ## What a note says
 -- it happens somewhere in some of the first n steps
 pub record SomeStep (named : Named) (scenario : Scenario) (kind : Kind) (a : Account) (n : ℕ) : Type 0 where
   pub step : ℕ
   pub within : step < n
-  pub happens : happens_at named scenario kind a (run scenario step) ≡ true
+  pub happens : happens_at named scenario kind a (seen scenario step) ≡ true
 
 -- it happens at the step after t others, and in none before at the same place
 pub record FirstStep (named : Named) (scenario : Scenario) (kind : Kind) (t : ℕ) : Type 0 where
-  pub happens : happens named scenario kind (run scenario t) ≡ true
-  pub first : (u : ℕ) → u < t → happens_at named scenario kind (here scenario (run scenario t)) (run scenario u) ≡ false
+  pub happens : happens named scenario kind (seen scenario t) ≡ true
+  pub first : (u : ℕ) → u < t → happens_at named scenario kind (here scenario (run scenario t)) (seen scenario u) ≡ false
 
 -- It is counted if and only if it happens in some step; and it is told at a step if and only if it happens there for the first time.
 pub record NotedExactly (named : Named) (scenario : Scenario) (kind : Kind) (n : ℕ) : Type 0 where

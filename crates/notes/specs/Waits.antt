@@ -3,6 +3,8 @@ use Rattle.std.specs.Prelude.{◌≡◌, ℕ, zero, suc, ◌+◌, ◌-◌, ◌�
 use Rattle.std.specs.List.{flat_map, range_with_len}
 use Rattle.std.specs.Option.{option_map}
 use Rattle.std.specs.FinSet.{contains}
+use Rattle.json_text.specs.declared.notation.Notation.{Notation}
+use Rattle.json_text.specs.declared.notation.Notation.TheVariants.{Text, Json}
 use Rattle.cpu.specs.declared.next_step.NextStep.{NextStep}
 use Rattle.cpu.specs.declared.next_step.NextStep.TheVariants.{Takes, Enters, Executes}
 use Rattle.cpu.specs.Asking.{interrupt_asked}
@@ -35,9 +37,18 @@ unfoldable pub wait_line : ℕ → Moment → List ℕ
 wait_line k m =
     codes "NOTE WAITING " ++ interrupt_name k ++ codes " STEP " ++ decimal m.step ++ codes " CYCLES " ++ decimal m.cycles ++ codes "\n"
 
-abbrev pub wait_text : ℕ → ℕ → Option Moment → List ℕ
-wait_text cycles k None = codes ""
-wait_text cycles k (Some m) = if is_long cycles (Some m) then wait_line k m else codes ""
+-- its object
+unfoldable pub wait_object : ℕ → Moment → List ℕ
+wait_object k m =
+    codes "{\"kind\":\"WAITING\",\"interrupt\":\"" ++ (interrupt_name k ++ (codes "\",\"step\":" ++ (decimal m.step ++ (codes ",\"cycles\":" ++ (decimal m.cycles ++ codes "}\n")))))
+
+abbrev pub wait_in : Notation → ℕ → Moment → List ℕ
+wait_in Text k m = wait_line k m
+wait_in Json k m = wait_object k m
+
+abbrev pub wait_text : Notation → ℕ → ℕ → Option Moment → List ℕ
+wait_text notation cycles k None = codes ""
+wait_text notation cycles k (Some m) = if is_long cycles (Some m) then wait_in notation k m else codes ""
 
 -- since when an interrupt is asked for after n steps
 abbrev pub since : Scenario → ℕ → ℕ → Option Moment
@@ -48,8 +59,8 @@ abbrev pub waits_long : Scenario → ℕ → ℕ → Bool
 waits_long scenario k n = is_long (run scenario n).cycles (since scenario k n)
 
 -- the lines of all ten interrupts that wait long after n steps
-unfoldable pub waits_text : Scenario → ℕ → List ℕ
-waits_text scenario n = flat_map (λ k. wait_text (run scenario n).cycles k (since scenario k n)) (range_with_len 1 10)
+unfoldable pub waits_text : Notation → Scenario → ℕ → List ℕ
+waits_text notation scenario n = flat_map (λ k. wait_text notation (run scenario n).cycles k (since scenario k n)) (range_with_len 1 10)
 
 -- ## What is kept of it: a place for each interrupt by its number, and one for 0, which is none
 abbrev pub Waits : Type 0
@@ -70,11 +81,11 @@ waits_after s (Enters k) number waits = set waits k None
 waits_after s (Executes f) number waits = waits
 
 -- the lines of what is kept, of n interrupts from one on, and of all ten
-abbrev pub kept_from : ℕ → Waits → ℕ → ℕ → List ℕ
-kept_from cycles waits k n = flat_map (λ j. wait_text cycles j (get_or waits j None)) (range_with_len k n)
+abbrev pub kept_from : Notation → ℕ → Waits → ℕ → ℕ → List ℕ
+kept_from notation cycles waits k n = flat_map (λ j. wait_text notation cycles j (get_or waits j None)) (range_with_len k n)
 
-abbrev pub kept_text : ℕ → Waits → List ℕ
-kept_text cycles waits = kept_from cycles waits 1 10
+abbrev pub kept_text : Notation → ℕ → Waits → List ℕ
+kept_text notation cycles waits = kept_from notation cycles waits 1 10
 
 -- what is kept is so of n steps
 pub record Keeps (scenario : Scenario) (n : ℕ) (waits : Waits) : Type 0 where

@@ -15,4 +15,12 @@ pub enum Kind {
     NoHandler,
     /// An instruction reaches another bank than that of the erasable place that its source names.
     OtherBank,
+    /// RESUME goes back while A, L, Q, EB, FB or the superbank is not as the interrupt has found it.
+    NotKept,
+    /// CCS of -0 goes another way than +0 would.
+    MinusZero,
+    /// A key's word comes where no instruction has read the one before it.
+    Overwritten,
+    /// The program itself comes by where an interrupt is entered, or to a RESUME of none.
+    Shared,
 }

@@ -2,7 +2,7 @@
 
 ghost use Rattle.std.specs.Prelude.{◌≡◌, ◌<◌, ◌≤◌, ◌^◌, IfOk, get_or, replicate};
 ghost use Rattle.cover.specs.Tallies.{account_count};
-ghost use Rattle.notes.specs.Counted.{counted_more, left_after, taken};
+ghost use Rattle.notes.specs.Counted.{counted_more, is_first, left_after, taken};
 
 use cover::ACCOUNTS;
 use std::alloc::{AllocError, Global};
@@ -35,15 +35,19 @@ impl Ledger {
         Ok(Ledger { counts })
     }
 
-    /// Counts once more at the number of an account, where something happens.
-    pub(crate) fn count(&mut self, number: usize, happens: bool)
+    /// Counts once more at the number of an account, where something happens, and answers whether that is the first time.
+    pub(crate) fn count(&mut self, number: usize, happens: bool) -> bool
         requires within { number < account_count }
         requires small { get_or self.old number 0 ≤ 2 ^ 62 }
-        ensures { self.new ≡ counted_more self.old number happens }
+        ensures counted { self.new ≡ counted_more self.old number happens }
+        ensures first { result ≡ is_first self.old number happens }
     {
-        if happens {
-            self.counts[number] += 1;
+        if !happens {
+            return false;
         }
+        let before = self.counts[number];
+        self.counts[number] = before + 1;
+        before == 0
     }
 
     /// Takes what was counted at the number of an account, where something happens, and leaves 0 there.

@@ -2,15 +2,22 @@
 #![tactic(auto)]
 
 mod division;
+mod keys;
 mod kind;
 pub mod laws;
 mod ledger;
 mod lines;
 mod notebook;
+mod objects;
 mod other_bank;
+mod past;
+mod quiet;
+mod sharing;
 mod step;
 mod text;
+mod unread;
 mod waits;
+mod zeros;
 
 pub use kind::Kind;
 pub use notebook::Notebook;

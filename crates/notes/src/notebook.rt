@@ -1,15 +1,18 @@
 //! How often each kind has happened, by where.
 
-ghost use Rattle.std.specs.Prelude.{◌≡◌, ◌≤◌, ◌^◌, IfOk};
+ghost use Rattle.std.specs.Prelude.{◌≡◌, ◌≤◌, ◌^◌, ◌||◌, IfOk, if◌then◌else◌};
+ghost use Rattle.cpu.specs.NextStep.{next_step};
 ghost use Rattle.cpu.specs.State.{FitsRun, Scenario};
-ghost use Rattle.notes.specs.Counted.{AreSmall, Counted, Notes, Takes, taken_at, told_of};
+ghost use Rattle.notes.specs.Counted.{AreSmall, Counted, Notes, Takes, rewound, taken_at, told_of};
 
 use crate::kind::Kind;
 use crate::ledger::Ledger;
+use crate::past::Past;
+use crate::quiet::is_quiet_step;
 use crate::step::{account_of, happens};
 use crate::waits::Waits;
 use cover::number_of;
-use cpu::{Machine, Processor};
+use cpu::{Machine, NextStep, Processor};
 use std::alloc::{AllocError, Global};
 use std::marker::Model;
 use yayul::NamedPlaces;
@@ -24,8 +27,14 @@ pub struct Notebook {
     in_erasable: Ledger,
     no_handlers: Ledger,
     other_banks: Ledger,
+    not_kept: Ledger,
+    minus_zeros: Ledger,
+    overwritten: Ledger,
+    shared: Ledger,
     waits: Waits,
+    past: Past,
     steps: u64,
+    last: u64,
 }
 
 impl Model for Notebook {
@@ -34,7 +43,7 @@ impl Model for Notebook {
 
     ghost Value = { Book };
 
-    ghost view = { λ n. record { named = n.named; counts = n.quotients ∷ n.skips ∷ n.no_words ∷ n.in_erasable ∷ n.no_handlers ∷ n.other_banks ∷ []; waits = n.waits; steps = n.steps } };
+    ghost view = { λ n. record { named = n.named; counts = n.quotients ∷ n.skips ∷ n.no_words ∷ n.in_erasable ∷ n.no_handlers ∷ n.other_banks ∷ n.not_kept ∷ n.minus_zeros ∷ n.overwritten ∷ n.shared ∷ []; waits = n.waits; past = n.past; steps = n.steps; last = n.last } };
 }
 
 /// How often each kind happens that is told at a step: 0 of what is not told there.
@@ -46,6 +55,10 @@ pub(crate) struct Told {
     pub(crate) in_erasable: u64,
     pub(crate) no_handlers: u64,
     pub(crate) other_banks: u64,
+    pub(crate) not_kept: u64,
+    pub(crate) minus_zeros: u64,
+    pub(crate) overwritten: u64,
+    pub(crate) shared: u64,
 }
 
 /// Nothing is told.
@@ -56,6 +69,10 @@ pub(crate) const NOTHING: Told = Told {
     in_erasable: 0,
     no_handlers: 0,
     other_banks: 0,
+    not_kept: 0,
+    minus_zeros: 0,
+    overwritten: 0,
+    shared: 0,
 };
 
 impl Notebook {
@@ -71,8 +88,14 @@ impl Notebook {
             in_erasable: Ledger::new(alloc)?,
             no_handlers: Ledger::new(alloc)?,
             other_banks: Ledger::new(alloc)?,
+            not_kept: Ledger::new(alloc)?,
+            minus_zeros: Ledger::new(alloc)?,
+            overwritten: Ledger::new(alloc)?,
+            shared: Ledger::new(alloc)?,
             waits: Waits::none(),
+            past: Past::none(),
             steps: 0,
+            last: 0,
         })
     }
 
@@ -84,21 +107,59 @@ impl Notebook {
         ensures { Notes processor.now.scenario machine.now self.old self.new }
     {
         let step = processor.next_step(machine);
-        let number = number_of(account_of(&step));
-        let divides = happens(&self.named, processor, machine, &step, Kind::Quotient);
-        self.quotients.count(number, divides);
-        let is_skipping = happens(&self.named, processor, machine, &step, Kind::Skip);
-        self.skips.count(number, is_skipping);
-        let has_no_word = happens(&self.named, processor, machine, &step, Kind::NoWord);
-        self.no_words.count(number, has_no_word);
-        let is_in_erasable = happens(&self.named, processor, machine, &step, Kind::InErasable);
-        self.in_erasable.count(number, is_in_erasable);
-        let has_no_handler = happens(&self.named, processor, machine, &step, Kind::NoHandler);
-        self.no_handlers.count(number, has_no_handler);
-        let reaches_other = happens(&self.named, processor, machine, &step, Kind::OtherBank);
-        self.other_banks.count(number, reaches_other);
+        if is_quiet_step(&self.named, processor, machine, &step) {
+            self.steps += 1;
+            return;
+        }
+        self.note_step(processor, machine, &step);
+    }
+
+    /// Notes what happens in the next step, which may be any.
+    #[inline(never)]
+    fn note_step(&mut self, processor: &Processor, machine: &Machine, step: &NextStep)
+        requires step { step.now ≡ next_step processor.now.scenario machine.now }
+        requires cycles { machine.now.cycles ≤ 2 ^ 62 }
+        requires small { AreSmall self.old }
+        ensures { Notes processor.now.scenario machine.now self.old self.new }
+    {
+        let number = number_of(account_of(step));
+        let (named, past) = (&self.named, &self.past);
+        let divides = happens(named, processor, machine, past, step, Kind::Quotient);
+        let is_skipping = happens(named, processor, machine, past, step, Kind::Skip);
+        let has_no_word = happens(named, processor, machine, past, step, Kind::NoWord);
+        let is_in_erasable = happens(named, processor, machine, past, step, Kind::InErasable);
+        let has_no_handler = happens(named, processor, machine, past, step, Kind::NoHandler);
+        let reaches_other = happens(named, processor, machine, past, step, Kind::OtherBank);
+        let loses = happens(named, processor, machine, past, step, Kind::NotKept);
+        let parts_zeros = happens(named, processor, machine, past, step, Kind::MinusZero);
+        let overwrites = happens(named, processor, machine, past, step, Kind::Overwritten);
+        let shares = happens(named, processor, machine, past, step, Kind::Shared);
+        let first_quotient = self.quotients.count(number, divides);
+        let first_skip = self.skips.count(number, is_skipping);
+        let first_no_word = self.no_words.count(number, has_no_word);
+        let first_in_erasable = self.in_erasable.count(number, is_in_erasable);
+        let first_no_handler = self.no_handlers.count(number, has_no_handler);
+        let first_other_bank = self.other_banks.count(number, reaches_other);
+        let first_not_kept = self.not_kept.count(number, loses);
+        let first_minus_zero = self.minus_zeros.count(number, parts_zeros);
+        let first_overwritten = self.overwritten.count(number, overwrites);
+        let first_shared = self.shared.count(number, shares);
+        let is_first = is_some(
+            first_quotient,
+            first_skip,
+            first_no_word,
+            first_in_erasable,
+            first_no_handler,
+            first_other_bank,
+            first_not_kept,
+            first_minus_zero,
+            first_overwritten,
+            first_shared,
+        );
         self.steps += 1;
-        self.waits.note(machine, &step, self.steps);
+        self.last = latest(is_first, self.steps, self.last);
+        self.waits.note(machine, step, self.steps);
+        self.past.note(machine, step);
     }
 
     /// Since when each interrupt is asked for.
@@ -108,6 +169,27 @@ impl Notebook {
         &self.waits
     }
 
+    /// What the steps before have left.
+    pub(crate) fn past(&self) -> Past
+        ensures { result ≡ self.now.past }
+    {
+        self.past
+    }
+
+    /// The last step in which some kind has happened for the first time at its place: 0 where none has.
+    pub(crate) fn last(&self) -> u64
+        ensures { result ≡ self.now.last }
+    {
+        self.last
+    }
+
+    /// Goes back to before the first step, with what was counted.
+    pub(crate) fn rewind(&mut self)
+        ensures { self.new ≡ rewound self.old }
+    {
+        self.past = Past::none();
+    }
+
     /// Takes what happens in the next step: how often it does, where that was not taken before.
     pub(crate) fn take(&mut self, processor: &Processor, machine: &Machine) -> Told
         requires fits { FitsRun processor.now.scenario machine.now }
@@ -115,19 +197,42 @@ impl Notebook {
         ensures told { (kind : Kind) → told_of result kind ≡ taken_at processor.now.scenario machine.now self.old kind }
     {
         let step = processor.next_step(machine);
-        let number = number_of(account_of(&step));
-        let divides = happens(&self.named, processor, machine, &step, Kind::Quotient);
+        if is_quiet_step(&self.named, processor, machine, &step) {
+            return NOTHING;
+        }
+        self.take_step(processor, machine, &step)
+    }
+
+    /// Takes what happens in the next step, which may be any.
+    #[inline(never)]
+    fn take_step(&mut self, processor: &Processor, machine: &Machine, step: &NextStep) -> Told
+        requires step { step.now ≡ next_step processor.now.scenario machine.now }
+        ensures takes { Takes processor.now.scenario machine.now self.old self.new }
+        ensures told { (kind : Kind) → told_of result kind ≡ taken_at processor.now.scenario machine.now self.old kind }
+    {
+        let number = number_of(account_of(step));
+        let (named, past) = (&self.named, &self.past);
+        let divides = happens(named, processor, machine, past, step, Kind::Quotient);
+        let is_skipping = happens(named, processor, machine, past, step, Kind::Skip);
+        let has_no_word = happens(named, processor, machine, past, step, Kind::NoWord);
+        let is_in_erasable = happens(named, processor, machine, past, step, Kind::InErasable);
+        let has_no_handler = happens(named, processor, machine, past, step, Kind::NoHandler);
+        let reaches_other = happens(named, processor, machine, past, step, Kind::OtherBank);
+        let loses = happens(named, processor, machine, past, step, Kind::NotKept);
+        let parts_zeros = happens(named, processor, machine, past, step, Kind::MinusZero);
+        let overwrites = happens(named, processor, machine, past, step, Kind::Overwritten);
+        let shares = happens(named, processor, machine, past, step, Kind::Shared);
         let quotients = self.quotients.take(number, divides);
-        let is_skipping = happens(&self.named, processor, machine, &step, Kind::Skip);
         let skips = self.skips.take(number, is_skipping);
-        let has_no_word = happens(&self.named, processor, machine, &step, Kind::NoWord);
         let no_words = self.no_words.take(number, has_no_word);
-        let is_in_erasable = happens(&self.named, processor, machine, &step, Kind::InErasable);
         let in_erasable = self.in_erasable.take(number, is_in_erasable);
-        let has_no_handler = happens(&self.named, processor, machine, &step, Kind::NoHandler);
         let no_handlers = self.no_handlers.take(number, has_no_handler);
-        let reaches_other = happens(&self.named, processor, machine, &step, Kind::OtherBank);
         let other_banks = self.other_banks.take(number, reaches_other);
+        let not_kept = self.not_kept.take(number, loses);
+        let minus_zeros = self.minus_zeros.take(number, parts_zeros);
+        let overwritten = self.overwritten.take(number, overwrites);
+        let shared = self.shared.take(number, shares);
+        self.past.note(machine, step);
         Told {
             quotients,
             skips,
@@ -135,6 +240,44 @@ impl Notebook {
             in_erasable,
             no_handlers,
             other_banks,
+            not_kept,
+            minus_zeros,
+            overwritten,
+            shared,
         }
     }
+}
+
+/// Whether one of the ten kinds is so.
+fn is_some(
+    quotient: bool,
+    skip: bool,
+    no_word: bool,
+    in_erasable: bool,
+    no_handler: bool,
+    other_bank: bool,
+    not_kept: bool,
+    minus_zero: bool,
+    overwritten: bool,
+    shared: bool,
+) -> bool
+    ensures { result ≡ (quotient || (skip || (no_word || (in_erasable || (no_handler || (other_bank || (not_kept || (minus_zero || (overwritten || shared))))))))) }
+{
+    quotient
+        || skip
+        || no_word
+        || in_erasable
+        || no_handler
+        || other_bank
+        || not_kept
+        || minus_zero
+        || overwritten
+        || shared
+}
+
+/// The later of two steps, where something has happened in it for the first time.
+fn latest(is_first: bool, step: u64, last: u64) -> u64
+    ensures { result ≡ (if is_first then step else last) }
+{
+    if is_first { step } else { last }
 }

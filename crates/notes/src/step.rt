@@ -6,8 +6,12 @@ ghost use Rattle.notes.specs.Notes.{divides, happens_in, has_word, is_code_in_er
 ghost use Rattle.notes.specs.RunNotes.{where_of};
 
 use crate::division::quotient_fits;
+use crate::keys::overwrites;
 use crate::kind::Kind;
 use crate::other_bank::{place_at, reaches_other};
+use crate::past::Past;
+use crate::sharing::{enters_shared, executes_shared};
+use crate::zeros::parts_zeros;
 use cpu::{Account, Fetched, Machine, NextStep, Processor, instruction_name, named_address};
 use feed::interrupt::Interrupt;
 use rope::Rope;
@@ -16,28 +20,34 @@ use trace::entry_place;
 use words::Overflow;
 use yayul::NamedPlaces;
 
-/// Whether something of a kind happens in a step that a machine is to make.
+/// Whether something of a kind happens in a step that a machine is to make, after what was before.
 pub(crate) fn happens(
     named: &NamedPlaces,
     processor: &Processor,
     machine: &Machine,
+    past: &Past,
     step: &NextStep,
     kind: Kind,
 ) -> bool
-    ensures { result ≡ happens_in named.now processor.now.scenario.rope machine.now kind step.now }
+    ensures { result ≡ happens_in named.now processor.now.scenario.rope machine.now past.now kind step.now }
 {
     match step {
-        NextStep::Takes(_) => false,
-        NextStep::Enters(interrupt) => {
-            kind == Kind::NoHandler && !has_handler(processor.rope(), *interrupt)
-        }
+        NextStep::Takes(input) => kind == Kind::Overwritten && overwrites(past, input),
+        NextStep::Enters(interrupt) => match kind {
+            Kind::NoHandler => !has_handler(processor.rope(), *interrupt),
+            Kind::Shared => enters_shared(past, *interrupt),
+            _ => false,
+        },
         NextStep::Executes(fetched) => match kind {
-            Kind::NoHandler => false,
+            Kind::NoHandler | Kind::Overwritten => false,
             Kind::NoWord => !fetched.waited && !has_word(processor.rope(), &fetched.place),
             Kind::InErasable => !fetched.waited && is_code_in_erasable(&fetched.place),
             Kind::OtherBank => reaches_other(named, machine, fetched),
             Kind::Skip => skips(machine, fetched),
             Kind::Quotient => divides(processor, machine, fetched),
+            Kind::NotKept => past.loses(machine, fetched),
+            Kind::MinusZero => parts_zeros(processor, machine, fetched),
+            Kind::Shared => executes_shared(machine, past, fetched),
         },
     }
 }
@@ -87,7 +97,7 @@ fn is_code_in_erasable(place: &Linear) -> bool
 }
 
 /// Whether TS skips: A overflows, and Z does not take it.
-fn skips(machine: &Machine, fetched: &Fetched) -> bool
+pub(crate) fn skips(machine: &Machine, fetched: &Fetched) -> bool
     ensures { result ≡ skips machine.now fetched.now }
 {
     // (A seldom overflows: names are compared last.)

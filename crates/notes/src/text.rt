@@ -1,48 +1,88 @@
-//! The notes of a run as text.
+//! The notes of a run in a notation.
 
-ghost use Rattle.std.specs.Prelude.{◌≡◌, ◌+◌, ◌<◌, ◌≤◌, ◌^◌, true};
+ghost use Rattle.std.specs.Prelude.{◌≡◌, ◌+◌, ◌<◌, ◌≤◌, ◌^◌, ◌++◌, true};
 ghost use Rattle.words.specs.Devices.{Writes, failures_after};
 ghost use Rattle.cpu.specs.Next.{next};
+ghost use Rattle.cpu.specs.Run.{run};
 ghost use Rattle.cpu.specs.State.{FitsRun};
-ghost use Rattle.notes.specs.Counted.{Counted, Takes, taken_at};
-ghost use Rattle.notes.specs.RunNotes.{notes_text, text_after};
+ghost use Rattle.notes.specs.Counted.{Counted, Takes, taken_at, told_of};
+ghost use Rattle.notes.specs.RunNotes.{end_text, notes_text, text_after};
+ghost use Rattle.notes.specs.Unread.{unread_text};
+ghost use Rattle.notes.specs.Waits.{kept_text};
 
-use crate::lines::{Heading, end_lines, lines_of};
-use crate::notebook::{NOTHING, Notebook};
-use cpu::{Machine, Processor};
-use trace::{PlaceNames, what_text};
+use crate::lines::{Heading, end_lines, lines_of, what_in};
+use crate::notebook::{NOTHING, Notebook, Told};
+use crate::past::Past;
+use crate::unread::write_unread;
+use crate::waits::Waits;
+use cpu::{Machine, Processor, make_step};
+use json_text::Notation;
+use trace::PlaceNames;
 use words::{Write, WriteFailed, write_all};
 
-/// Writes the notes of the first steps of a run, whose steps are made again, as
+/// Writes the notes of the first steps of a run, whose steps are made again: as text as
 /// `NOTE QUOTIENT   02,4004  10100  DV D               STEP 5 CYCLES 13 TIMES 1`: the kind, what its first step is, that step and
-/// the cycles after it, and how often. They stand in the order of their first steps.
+/// the cycles after it, and how often; as JSON as an object with the same. They stand in the order of their first steps.
 ///
-/// What is told is taken from the notebook. After a failure a beginning of the text was written. No more steps are made than these.
+/// What is told is taken from the notebook, and what is told of the run's end from the machine that stands there. After a failure a
+/// beginning of the text was written. Only steps up to the last are made in which something happened for the first time.
 pub fn write_notes<W: Write>(
+    notation: Notation,
     notebook: &mut Notebook,
     names: &PlaceNames,
     processor: &mut Processor,
+    end: &Machine,
     steps: u64,
     out: &mut W,
 ) -> Result<(), WriteFailed>
     requires few { steps ≤ 2 ^ 40 }
+    requires end { end.now ≡ run processor.old.scenario steps }
     requires counted { Counted notebook.old.named processor.old.scenario steps notebook.old }
-    ensures written { W.told ≡ true → Writes (W.written out.old) (W.written out.new) (notes_text names.now notebook.old.named processor.old.scenario steps) result }
+    ensures written { W.told ≡ true → Writes (W.written out.old) (W.written out.new) (notes_text notation names.now notebook.old.named processor.old.scenario steps) result }
     ensures failures { W.failures out.new ≡ failures_after (W.failures out.old) result }
     ensures meter { processor.new.meter ≤ processor.old.meter + steps }
 {
+    let past = notebook.past();
+    notebook.rewind();
+    let last = notebook.last();
     let mut machine = Machine::start();
     let mut done = 0;
-    while done < steps {
-        write_step(notebook, names, processor, &mut machine, done + 1, out)?;
+    while done < last {
+        write_step(
+            notation,
+            notebook,
+            names,
+            processor,
+            &mut machine,
+            done + 1,
+            out,
+        )?;
         done += 1;
     }
-    let ending = end_lines(machine.inside(), steps, notebook.waits(), machine.cycles());
-    write_all(out, ending.as_slice())
+    write_ending(notation, end, steps, notebook.waits(), &past, out)
+}
+
+/// Writes what is told of a run's end.
+fn write_ending<W: Write>(
+    notation: Notation,
+    end: &Machine,
+    steps: u64,
+    waits: &Waits,
+    past: &Past,
+    out: &mut W,
+) -> Result<(), WriteFailed>
+    ensures written { W.told ≡ true → Writes (W.written out.old) (W.written out.new)
+        ((end_text notation end.now.inside steps ++ kept_text notation end.now.cycles waits.now) ++ unread_text notation end.now.cycles past.now) result }
+    ensures failures { W.failures out.new ≡ failures_after (W.failures out.old) result }
+{
+    let ending = end_lines(notation, end.inside(), steps, waits, end.cycles());
+    write_all(out, ending.as_slice())?;
+    write_unread(notation, past, end.cycles(), out)
 }
 
 /// Makes a step, and writes what is told there.
 fn write_step<W: Write>(
+    notation: Notation,
     notebook: &mut Notebook,
     names: &PlaceNames,
     processor: &mut Processor,
@@ -56,7 +96,7 @@ fn write_step<W: Write>(
     ensures state { machine.new ≡ (next processor.old.scenario machine.old).0 }
     ensures takes { Takes processor.old.scenario machine.old notebook.old notebook.new }
     ensures written { W.told ≡ true → Writes (W.written out.old) (W.written out.new)
-        (text_after names.now processor.old.scenario number machine.old (taken_at processor.old.scenario machine.old notebook.old)) result }
+        (text_after notation names.now processor.old.scenario number machine.old (taken_at processor.old.scenario machine.old notebook.old)) result }
     ensures failures { W.failures out.new ≡ failures_after (W.failures out.old) result }
     ensures meter { processor.new.meter ≤ processor.old.meter + 1 }
 {
@@ -65,12 +105,36 @@ fn write_step<W: Write>(
         processor.step(machine);
         return Ok(());
     }
-    let what = what_text(names, processor, machine);
-    processor.step(machine);
+    write_told(notation, &told, names, processor, machine, number, out)
+}
+
+/// Makes a step, and writes the lines of what is told there.
+// (within the loop over the steps its buffers would be cleared at each)
+#[inline(never)]
+fn write_told<W: Write>(
+    notation: Notation,
+    told: &Told,
+    names: &PlaceNames,
+    processor: &mut Processor,
+    machine: &mut Machine,
+    number: u64,
+    out: &mut W,
+) -> Result<(), WriteFailed>
+    requires cycles { machine.old.cycles ≤ 2 ^ 62 }
+    requires fits { FitsRun processor.old.scenario machine.old }
+    ensures scenario { processor.new.scenario ≡ processor.old.scenario }
+    ensures state { machine.new ≡ (next processor.old.scenario machine.old).0 }
+    ensures written { W.told ≡ true → Writes (W.written out.old) (W.written out.new)
+        (text_after notation names.now processor.old.scenario number machine.old (told_of told.now)) result }
+    ensures failures { W.failures out.new ≡ failures_after (W.failures out.old) result }
+    ensures meter { processor.new.meter ≤ processor.old.meter + 1 }
+{
+    let what = what_in(notation, names, processor, machine);
+    make_step(processor, machine);
     let heading = Heading {
         what,
         number,
         cycles: machine.cycles(),
     };
-    write_all(out, lines_of(&heading, &told).as_slice())
+    write_all(out, lines_of(notation, &heading, told).as_slice())
 }

@@ -4,12 +4,13 @@ use Rattle.std.specs.Borrow.{Bor}
 use Rattle.rope.specs.declared.form.Form.TheVariants.{AsWritten, ParityIgnored, Hardware, HardwareParityIgnored}
 use Rattle.rope.specs.declared.spelling.Version.TheVariants as version
 use Rattle.yayul.specs.declared.language.Language.TheVariants.{Standard, Flight}
+use Rattle.arguments.specs.declared.ImageLayout.{ImageLayout}
 use Rattle.arguments.specs.declared.ImageVersion.TheVariants as named
 use Rattle.plans.specs.declared.plan.Plan.{Plan}
-use Rattle.plans.specs.declared.plan.Plan.TheVariants.{TooManySteps}
-use Rattle.plans.specs.declared.plan.Telling.TheVariants.{Nothing, Progress, Notes, ProgressAndNotes}
-use Rattle.plans.specs.declared.plan.Shown.TheVariants.{Instructions, Named, Source}
-use Rattle.plans.specs.Plans.{bank_of, first_of, form_of, image_of, is_before, language_of, last_of, shown_of, telling_of, version_of, with_steps}
+use Rattle.plans.specs.declared.plan.Plan.TheVariants.{Align, Carry, TooManySteps}
+use Rattle.plans.specs.declared.plan.Shown.TheVariants.{Instructions, Named, NamedSource, Source, Octals}
+use Rattle.plans.specs.declared.plan.Image.{Image}
+use Rattle.plans.specs.Plans.{aligned, bank_of, first_of, form_of, image_of, is_before, language_of, last_of, shown_of, version_of, with_steps}
 
 -- --form hardware, --parity ignore, both and none
 plain : form_of false false ≡ AsWritten
@@ -35,29 +36,16 @@ version_two : version_of false named.Two ≡ version.Two
 version_two = refl
 
 -- an image whose lowest bits are passed over, in the other order of the bits
-ignored_and_reordered : (path : Bor (List ℕ))
-    → image_of (record { path = path; version = named.Two; is_parity_ignored = true; is_hardware = true })
-    ≡ record { path = path; form = HardwareParityIgnored; version = version.One }
-ignored_and_reordered path = refl
+ignored_and_reordered : (path : Bor (List ℕ)) (layout : ImageLayout)
+    → image_of (record { path = path; version = named.Two; is_parity_ignored = true; is_hardware = true; layout = layout })
+    ≡ record { path = path; form = HardwareParityIgnored; layout = layout; version = version.One }
+ignored_and_reordered path layout = refl
 
 flight : language_of true ≡ Flight
 flight = refl
 
 standard : language_of false ≡ Standard
 standard = refl
-
--- --progress and --notes
-neither : telling_of false false ≡ Nothing
-neither = refl
-
-progress_alone : telling_of true false ≡ Progress
-progress_alone = refl
-
-notes_alone : telling_of false true ≡ Notes
-notes_alone = refl
-
-progress_and_notes : telling_of true true ≡ ProgressAndNotes
-progress_and_notes = refl
 
 -- of 9 steps: without --from and --to, --to 5, --to 50, --from 3
 all_from_one : first_of None ≡ 1
@@ -99,12 +87,25 @@ last_bank = refl
 no_bank : bank_of (Some 0o50) ≡ None
 no_bank = refl
 
--- --symbols, --source and neither
-as_instructions : shown_of None false ≡ Instructions
+-- --symbols, --source, both and neither
+as_instructions : shown_of None false false ≡ Instructions
 as_instructions = refl
 
-as_source : shown_of None true ≡ Source
+as_source : shown_of None true false ≡ Source
 as_source = refl
 
-with_names : (table : Bor (List ℕ)) → shown_of (Some table) false ≡ Named table
+as_octals : shown_of None false true ≡ Octals
+as_octals = refl
+
+with_names : (table : Bor (List ℕ)) → shown_of (Some table) false false ≡ Named table
 with_names table = refl
+
+source_with_names : (table : Bor (List ℕ)) → shown_of (Some table) true false ≡ NamedSource table
+source_with_names table = refl
+
+-- align with --symbols, and without
+names_carried : (table : Bor (List ℕ)) (old new : Image) → aligned (Some table) old new ≡ Carry table old new
+names_carried table old new = refl
+
+images_aligned : (old new : Image) → aligned None old new ≡ Align old new
+images_aligned old new = refl

@@ -1,6 +1,8 @@
 -- What is to be done where a command line gives some arguments.
 use Rattle.std.specs.Prelude.{ℕ, ◌-◌, ◌^◌, Bool, true, false, List, Option, Some, None, min, nat_lt, nat_le, if◌then◌else◌}
 use Rattle.std.specs.Borrow.{Bor}
+use Rattle.json_text.specs.declared.notation.Notation.{Notation}
+use Rattle.json_text.specs.declared.notation.Notation.TheVariants.{Text, Json}
 use Rattle.rope.specs.declared.form.Form.{Form}
 use Rattle.rope.specs.declared.form.Form.TheVariants.{AsWritten, ParityIgnored, Hardware, HardwareParityIgnored}
 use Rattle.rope.specs.declared.spelling.Version.{Version}
@@ -17,22 +19,32 @@ use Rattle.arguments.specs.declared.AsmArguments.{AsmArguments}
 use Rattle.arguments.specs.declared.RunArguments.{RunArguments}
 use Rattle.arguments.specs.declared.TraceArguments.{TraceArguments}
 use Rattle.arguments.specs.declared.CoverArguments.{CoverArguments}
+use Rattle.arguments.specs.declared.ReachArguments.{ReachArguments}
+use Rattle.arguments.specs.declared.ReachRun.{ReachRun as RunOf}
+use Rattle.arguments.specs.declared.AccessArguments.{AccessArguments}
+use Rattle.arguments.specs.declared.DelaysArguments.{DelaysArguments}
+use Rattle.arguments.specs.declared.WhatIfArguments.{WhatIfArguments}
+use Rattle.arguments.specs.declared.DifferArguments.{DifferArguments}
 use Rattle.arguments.specs.declared.DebugArguments.{DebugArguments}
 use Rattle.arguments.specs.declared.CheckArguments.{CheckArguments}
 use Rattle.arguments.specs.declared.WordsArguments.{WordsArguments}
 use Rattle.arguments.specs.declared.CompareArguments.{CompareArguments}
+use Rattle.arguments.specs.declared.DamagesArguments.{DamagesArguments}
 use Rattle.arguments.specs.declared.SumsArguments.{SumsArguments}
 use Rattle.plans.specs.declared.plan.Plan.{Plan}
-use Rattle.plans.specs.declared.plan.Plan.TheVariants.{Assemble, AssembleWithSums, Run, Trace, Cover, Debug, DebugExtended, Check, Explain, Upgrade, Show, Compare, CompareOnly, Sum, SumBothForms, ShowParity, NoSteps, TooManySteps}
+use Rattle.plans.specs.declared.plan.Verdicts.{Verdicts}
+use Rattle.plans.specs.declared.plan.Verdicts.TheVariants.{Lines, Tap, Junit}
+use Rattle.plans.specs.declared.plan.Plan.TheVariants.{Assemble, AssembleWithSums, Run, Trace, Cover, Reach, ReachRun, Debug, DebugExtended, Check, Explain, Upgrade, Show, Compare, CompareOnly, Sum, SumBothForms, ShowParity, ShowDamages, ShowMended, NoSteps, TooManySteps, Access, Delays, Differ, Align, Carry, Find, Expect, WhatIf}
+use Rattle.arguments.specs.declared.AlignArguments.{AlignArguments}
+use Rattle.arguments.specs.declared.FindArguments.{FindArguments}
 use Rattle.plans.specs.declared.plan.Assembly.{Assembly}
 use Rattle.plans.specs.declared.plan.Image.{Image}
 use Rattle.plans.specs.declared.plan.Program.{Program}
+use Rattle.plans.specs.declared.plan.Listed.{Listed}
 use Rattle.plans.specs.declared.plan.Kind.{Kind}
 use Rattle.plans.specs.declared.plan.Kind.TheVariants as kind
-use Rattle.plans.specs.declared.plan.Telling.{Telling}
-use Rattle.plans.specs.declared.plan.Telling.TheVariants.{Nothing, Progress, Notes, ProgressAndNotes}
 use Rattle.plans.specs.declared.plan.Shown.{Shown}
-use Rattle.plans.specs.declared.plan.Shown.TheVariants.{Instructions, Named, Source}
+use Rattle.plans.specs.declared.plan.Shown.TheVariants.{Instructions, Named, NamedSource, Source, Octals}
 use Rattle.plans.specs.declared.plan.Words.{Words}
 
 -- how the bytes of an image are taken, by --form hardware and --parity ignore
@@ -62,29 +74,34 @@ abbrev pub image_of : ImageArguments → Image
 image_of a = record {
   path = a.path;
   form = form_of a.is_hardware a.is_parity_ignored;
+  layout = a.layout;
   version = version_of a.is_parity_ignored a.version;
 }
 
 -- what the file of a program is: with --image an image, else a source
-abbrev pub kind_of : ProgramArguments → Kind
-kind_of a = if a.is_image then kind.Image (version_of a.file.is_parity_ignored a.file.version) else kind.Source (language_of a.is_flight)
+abbrev pub kind_of : Bool → Bool → ImageArguments → Kind
+kind_of is_image is_flight file = if is_image then kind.Image (version_of file.is_parity_ignored file.version) else kind.Source (language_of is_flight)
 
 -- a program that is run
 abbrev pub program_of : ProgramArguments → Program
 program_of a = record {
   path = a.file.path;
   form = form_of a.file.is_hardware a.file.is_parity_ignored;
-  kind = kind_of a;
+  kind = kind_of a.is_image a.is_flight a.file;
   symbols = a.symbols;
   feed = a.feed;
 }
 
--- what is told of a run, by --progress and --notes
-abbrev pub telling_of : Bool → Bool → Telling
-telling_of false false = Nothing
-telling_of true false = Progress
-telling_of false true = Notes
-telling_of true true = ProgressAndNotes
+-- in which form verdicts are told, by --tap and --junit
+abbrev pub verdicts_of : Bool → Bool → Verdicts
+verdicts_of true junit = Tap
+verdicts_of false true = Junit
+verdicts_of false false = Lines
+
+-- in which notation rows are written, by --json
+abbrev pub notation_of : Bool → Notation
+notation_of false = Text
+notation_of true = Json
 
 -- what is done with so many steps, where a run may have them
 abbrev pub with_steps : ℕ → Plan → Plan
@@ -95,7 +112,9 @@ abbrev pub run_of : RunArguments → Plan
 run_of a = with_steps a.steps (Run (record {
   program = program_of a.program;
   steps = a.steps;
-  telling = telling_of a.tells_progress a.tells_notes;
+  tells_progress = a.tells_progress;
+  tells_notes = a.tells_notes;
+  notation = notation_of a.is_json;
   tells_end = a.tells_end;
 }))
 
@@ -122,6 +141,8 @@ trace_of a =
       program = program_of a.program;
       first = first_of a.first;
       last = last_of a.last a.steps;
+      shows_reads = a.shows_reads;
+      says = a.says;
       tells_progress = a.tells_progress;
     }))
 
@@ -131,6 +152,61 @@ cover_of a = with_steps a.steps (Cover (record {
   program = program_of a.program;
   steps = a.steps;
   tells_progress = a.tells_progress;
+  notation = notation_of a.is_json;
+}))
+
+-- a program that is shown
+abbrev pub listed_of : ReachArguments → Listed
+listed_of a = record {
+  path = a.file.path;
+  form = form_of a.file.is_hardware a.file.is_parity_ignored;
+  kind = kind_of a.is_image a.is_flight a.file;
+  symbols = a.symbols;
+}
+
+-- the same, with a feed
+abbrev pub run_of_listed : Listed → Bor (List ℕ) → Program
+run_of_listed l feed = record { path = l.path; form = l.form; kind = l.kind; symbols = l.symbols; feed = feed }
+
+-- what is reached, beside a run or not
+abbrev pub reach_by : Listed → Option RunOf → Plan
+reach_by l None = Reach l
+reach_by l (Some run) = with_steps run.steps (ReachRun (record { program = run_of_listed l run.feed; steps = run.steps }))
+
+abbrev pub reach_of : ReachArguments → Plan
+reach_of a = reach_by (listed_of a) a.run
+
+-- the reads and writes of a run
+abbrev pub access_of : AccessArguments → Plan
+access_of a = with_steps a.steps (Access (record {
+  program = program_of a.program;
+  steps = a.steps;
+  place = a.place;
+  tells_progress = a.tells_progress;
+}))
+
+-- how long the interrupts of a run waited
+abbrev pub delays_of : DelaysArguments → Plan
+delays_of a = with_steps a.steps (Delays (record {
+  program = program_of a.program;
+  steps = a.steps;
+  tells_progress = a.tells_progress;
+}))
+
+-- inputs that are tried
+abbrev pub whatif_of : WhatIfArguments → Plan
+whatif_of a = with_steps a.steps (WhatIf (record {
+  program = program_of a.program;
+  steps = a.steps;
+  path = a.trials;
+}))
+
+-- two runs beside each other
+abbrev pub differ_of : DifferArguments → Plan
+differ_of a = with_steps a.steps (Differ (record {
+  program = program_of a.program;
+  other = program_of a.other;
+  steps = a.steps;
 }))
 
 -- a session
@@ -143,6 +219,7 @@ assembly_of a = record {
   source = record { path = a.source; language = language_of a.is_flight };
   rope = a.rope;
   version = version_named a.version;
+  tells_uses = a.has_xref;
 }
 
 -- an assembly: with --sums with check words
@@ -155,13 +232,16 @@ check_of a = Check (record {
   source = record { path = a.source; language = language_of a.is_flight };
   feeds = a.feeds;
   tells_unused = a.tells_unused;
+  notation = notation_of a.is_json;
 })
 
--- how words are shown: with the names of a table where one is given, else as a source with --source
-abbrev pub shown_of : Option (Bor (List ℕ)) → Bool → Shown
-shown_of (Some table) _ = Named table
-shown_of None true = Source
-shown_of None false = Instructions
+-- how words are shown: with the names of a table where one is given, as a source with --source, or as octal words with --octal
+abbrev pub shown_of : Option (Bor (List ℕ)) → Bool → Bool → Shown
+shown_of (Some table) true _ = NamedSource table
+shown_of (Some table) false _ = Named table
+shown_of None true _ = Source
+shown_of None false true = Octals
+shown_of None false false = Instructions
 
 -- the bank of a number
 abbrev pub bank_of : Option ℕ → Option ℕ
@@ -173,7 +253,7 @@ abbrev pub words_of : WordsArguments → Words
 words_of a = record {
   image = image_of a.image;
   bank = bank_of a.bank;
-  shown = shown_of a.symbols a.is_source;
+  shown = shown_of a.symbols a.is_source a.is_octal;
   tells_where = a.tells_where;
 }
 
@@ -183,9 +263,25 @@ compare_of a =
     if a.is_source then CompareOnly (record { path = a.old.path; language = language_of a.is_flight }) (image_of a.new)
     else Compare (image_of a.old) (image_of a.new)
 
+-- an alignment, with --symbols of names
+abbrev pub aligned : Option (Bor (List ℕ)) → Image → Image → Plan
+aligned (Some table) old new = Carry table old new
+aligned None old new = Align old new
+
+abbrev pub align_of : AlignArguments → Plan
+align_of a = aligned a.symbols (image_of a.old) (image_of a.new)
+
+-- a passage that is found
+abbrev pub find_of : FindArguments → Plan
+find_of a = Find (record { path = a.passage; language = language_of a.is_flight }) (image_of a.image)
+
 -- sums: with --forms in both orders
 abbrev pub sums_of : SumsArguments → Plan
 sums_of a = if a.has_both_forms then SumBothForms (image_of a.image) else Sum (image_of a.image)
+
+-- damages: with --source a source that has the words that the sums want
+abbrev pub damages_of : DamagesArguments → Plan
+damages_of a = if a.is_source then ShowMended (image_of a.image) else ShowDamages (image_of a.image)
 
 -- what is to be done
 abbrev pub plan_of : Arguments → Plan
@@ -193,11 +289,20 @@ plan_of (asked.Asm a) = asm_of a
 plan_of (asked.Run a) = run_of a
 plan_of (asked.Trace a) = trace_of a
 plan_of (asked.Cover a) = cover_of a
+plan_of (asked.Reach a) = reach_of a
+plan_of (asked.Access a) = access_of a
+plan_of (asked.Delays a) = delays_of a
+plan_of (asked.WhatIf a) = whatif_of a
+plan_of (asked.Differ a) = differ_of a
 plan_of (asked.Debug a) = debug_of a
 plan_of (asked.Check a) = check_of a
+plan_of (asked.Expect files told) = Expect (record { files = files; verdicts = verdicts_of told.is_tap told.is_junit })
 plan_of (asked.Explain number) = Explain number
 plan_of (asked.Upgrade a) = Upgrade a.old a.new
 plan_of (asked.Words a) = Show (words_of a)
 plan_of (asked.Compare a) = compare_of a
+plan_of (asked.Align a) = align_of a
+plan_of (asked.Find a) = find_of a
 plan_of (asked.Sums a) = sums_of a
 plan_of (asked.Parity a) = ShowParity (image_of a)
+plan_of (asked.Damages a) = damages_of a

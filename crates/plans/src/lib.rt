@@ -7,7 +7,7 @@ mod steps;
 
 pub use making::planned;
 pub use plan::{
-    Assembly, Check, Image, Kind, Original, Plan, Profile, Program, Run, Shown, Telling, Tracing,
-    Words,
+    Accesses, Assembly, Check, Image, Kind, Listed, Original, Pair, Plan, Profile, Program,
+    Reaching, Run, Shown, Tests, Timed, Tracing, Trials, Verdicts, Words,
 };
 pub use steps::Steps;

@@ -3,36 +3,50 @@
 ghost use Rattle.std.specs.Prelude.{◌≡◌};
 ghost use Rattle.std.specs.Option.{option_map};
 ghost use Rattle.plans.specs.Plans.{
+  access_of,
+  align_of,
   asm_of,
   bank_of,
   compare_of,
   cover_of,
+  damages_of,
   debug_of,
+  delays_of,
+  differ_of,
+  find_of,
   form_of,
   image_of,
   kind_of,
   language_of,
+  notation_of,
   plan_of,
   program_of,
+  listed_of,
+  reach_of,
+  run_of_listed,
   run_of,
   shown_of,
   sums_of,
-  telling_of,
   trace_of,
+  verdicts_of,
   version_named,
   version_of,
+  whatif_of,
   words_of,
 };
 
 use crate::plan::{
-    Assembly, Check, Image, Kind, Original, Plan, Profile, Program, Run, Shown, Telling, Tracing,
-    Words,
+    Accesses, Assembly, Check, Image, Kind, Listed, Original, Pair, Plan, Profile, Program,
+    Reaching, Run, Shown, Tests, Timed, Tracing, Trials, Verdicts, Words,
 };
 use crate::steps::Steps;
 use arguments::{
-    Arguments, AsmArguments, CompareArguments, CoverArguments, DebugArguments, ImageArguments,
-    ImageVersion, ProgramArguments, RunArguments, SumsArguments, TraceArguments, WordsArguments,
+    AccessArguments, AlignArguments, Arguments, AsmArguments, CompareArguments, CoverArguments,
+    DamagesArguments, DebugArguments, DelaysArguments, DifferArguments, FindArguments,
+    ImageArguments, ImageVersion, ProgramArguments, ReachArguments, RunArguments, SumsArguments,
+    TraceArguments, WhatIfArguments, WordsArguments,
 };
+use json_text::Notation;
 use rope::{Form, Version};
 use space::Bank;
 use yayul::Language;
@@ -46,6 +60,11 @@ pub fn planned<'a>(arguments: Arguments<'a>) -> Plan<'a>
         Arguments::Run(asked) => run(asked),
         Arguments::Trace(asked) => trace(asked),
         Arguments::Cover(asked) => cover(asked),
+        Arguments::Reach(asked) => reach(asked),
+        Arguments::Access(asked) => access(asked),
+        Arguments::Delays(asked) => delays(asked),
+        Arguments::WhatIf(asked) => whatif(asked),
+        Arguments::Differ(asked) => differ(asked),
         Arguments::Debug(asked) => debug(asked),
         Arguments::Check(asked) => Plan::Check(Check {
             source: Original {
@@ -54,13 +73,32 @@ pub fn planned<'a>(arguments: Arguments<'a>) -> Plan<'a>
             },
             feeds: asked.feeds,
             tells_unused: asked.tells_unused,
+            notation: notation(asked.is_json),
+        }),
+        Arguments::Expect(files, told) => Plan::Expect(Tests {
+            files,
+            verdicts: verdicts(told.is_tap, told.is_junit),
         }),
         Arguments::Explain(number) => Plan::Explain(number),
         Arguments::Upgrade(asked) => Plan::Upgrade(asked.old, asked.new),
         Arguments::Words(asked) => Plan::Show(words(asked)),
         Arguments::Compare(asked) => compare(asked),
+        Arguments::Align(asked) => align(asked),
+        Arguments::Find(asked) => find(asked),
         Arguments::Sums(asked) => sums(asked),
         Arguments::Parity(asked) => Plan::ShowParity(image(asked)),
+        Arguments::Damages(asked) => damages(asked),
+    }
+}
+
+/// Tells what is damaged in an image, or mends it.
+fn damages<'a>(asked: DamagesArguments<'a>) -> Plan<'a>
+    ensures { result ≡ damages_of asked.entry }
+{
+    if asked.is_source {
+        Plan::ShowMended(image(asked.image))
+    } else {
+        Plan::ShowDamages(image(asked.image))
     }
 }
 
@@ -75,6 +113,7 @@ fn asm<'a>(asked: AsmArguments<'a>) -> Plan<'a>
         },
         rope: asked.rope,
         version: version_named(asked.version),
+        tells_uses: asked.has_xref,
     };
     if asked.has_sums {
         Plan::AssembleWithSums(assembly)
@@ -91,7 +130,9 @@ fn run<'a>(asked: RunArguments<'a>) -> Plan<'a>
         Some(steps) => Plan::Run(Run {
             program: program(asked.program),
             steps,
-            telling: telling(asked.tells_progress, asked.tells_notes),
+            tells_progress: asked.tells_progress,
+            tells_notes: asked.tells_notes,
+            notation: notation(asked.is_json),
             tells_end: asked.tells_end,
         }),
         None => Plan::TooManySteps,
@@ -112,6 +153,8 @@ fn trace<'a>(asked: TraceArguments<'a>) -> Plan<'a>
             program: program(asked.program),
             first,
             last,
+            shows_reads: asked.shows_reads,
+            says: asked.says,
             tells_progress: asked.tells_progress,
         }),
         None => Plan::TooManySteps,
@@ -127,6 +170,107 @@ fn cover<'a>(asked: CoverArguments<'a>) -> Plan<'a>
             program: program(asked.program),
             steps,
             tells_progress: asked.tells_progress,
+            notation: notation(asked.is_json),
+        }),
+        None => Plan::TooManySteps,
+    }
+}
+
+/// Shows what is reached, beside a run or not.
+fn reach<'a>(asked: ReachArguments<'a>) -> Plan<'a>
+    ensures { result ≡ reach_of asked.entry }
+{
+    let listed = listed(asked);
+    match asked.run {
+        None => Plan::Reach(listed),
+        Some(run) => match Steps::try_new(run.steps) {
+            Some(steps) => Plan::ReachRun(Reaching {
+                program: run_of_listed(listed, run.feed),
+                steps,
+            }),
+            None => Plan::TooManySteps,
+        },
+    }
+}
+
+/// A program that is shown, with a feed.
+fn run_of_listed<'a>(listed: Listed<'a>, feed: &'a str) -> Program<'a>
+    ensures { result ≡ run_of_listed listed.entry feed.entry }
+{
+    Program {
+        path: listed.path,
+        form: listed.form,
+        kind: listed.kind,
+        symbols: listed.symbols,
+        feed,
+    }
+}
+
+/// A program that is shown.
+fn listed<'a>(asked: ReachArguments<'a>) -> Listed<'a>
+    ensures { result ≡ listed_of asked.entry }
+{
+    let code = asked.file;
+    Listed {
+        path: code.path,
+        form: form(code.is_hardware, code.is_parity_ignored),
+        kind: kind(asked.is_image, asked.is_flight, code),
+        symbols: asked.symbols,
+    }
+}
+
+/// Counts the reads and writes of a run.
+fn access<'a>(asked: AccessArguments<'a>) -> Plan<'a>
+    ensures { result ≡ access_of asked.entry }
+{
+    match Steps::try_new(asked.steps) {
+        Some(steps) => Plan::Access(Accesses {
+            program: program(asked.program),
+            steps,
+            place: asked.place,
+            tells_progress: asked.tells_progress,
+        }),
+        None => Plan::TooManySteps,
+    }
+}
+
+/// Tells how long the interrupts of a run waited.
+fn delays<'a>(asked: DelaysArguments<'a>) -> Plan<'a>
+    ensures { result ≡ delays_of asked.entry }
+{
+    match Steps::try_new(asked.steps) {
+        Some(steps) => Plan::Delays(Timed {
+            program: program(asked.program),
+            steps,
+            tells_progress: asked.tells_progress,
+        }),
+        None => Plan::TooManySteps,
+    }
+}
+
+/// Tries inputs.
+fn whatif<'a>(asked: WhatIfArguments<'a>) -> Plan<'a>
+    ensures { result ≡ whatif_of asked.entry }
+{
+    match Steps::try_new(asked.steps) {
+        Some(steps) => Plan::WhatIf(Trials {
+            program: program(asked.program),
+            steps,
+            path: asked.trials,
+        }),
+        None => Plan::TooManySteps,
+    }
+}
+
+/// Tells where two runs part.
+fn differ<'a>(asked: DifferArguments<'a>) -> Plan<'a>
+    ensures { result ≡ differ_of asked.entry }
+{
+    match Steps::try_new(asked.steps) {
+        Some(steps) => Plan::Differ(Pair {
+            program: program(asked.program),
+            other: program(asked.other),
+            steps,
         }),
         None => Plan::TooManySteps,
     }
@@ -151,18 +295,20 @@ fn words<'a>(asked: WordsArguments<'a>) -> Words<'a>
     Words {
         image: image(asked.image),
         bank: asked.bank.and_then(Bank::try_new),
-        shown: shown(asked.symbols, asked.is_source),
+        shown: shown(asked.symbols, asked.is_source, asked.is_octal),
         tells_where: asked.tells_where,
     }
 }
 
 /// How the words of an image are shown.
-fn shown<'a>(symbols: Option<&'a str>, is_source: bool) -> Shown<'a>
-    ensures { result ≡ shown_of symbols.entry is_source }
+fn shown<'a>(symbols: Option<&'a str>, is_source: bool, is_octal: bool) -> Shown<'a>
+    ensures { result ≡ shown_of symbols.entry is_source is_octal }
 {
     match symbols {
+        Some(table) if is_source => Shown::NamedSource(table),
         Some(table) => Shown::Named(table),
         None if is_source => Shown::Source,
+        None if is_octal => Shown::Octals,
         None => Shown::Instructions,
     }
 }
@@ -181,6 +327,28 @@ fn compare<'a>(asked: CompareArguments<'a>) -> Plan<'a>
     } else {
         Plan::Compare(image(asked.old), new)
     }
+}
+
+/// Aligns two images, or carries the names of the first to the second.
+fn align<'a>(asked: AlignArguments<'a>) -> Plan<'a>
+    ensures { result ≡ align_of asked.entry }
+{
+    let (old, new) = (image(asked.old), image(asked.new));
+    match asked.symbols {
+        Some(table) => Plan::Carry(table, old, new),
+        None => Plan::Align(old, new),
+    }
+}
+
+/// Finds a passage of a source in an image.
+fn find<'a>(asked: FindArguments<'a>) -> Plan<'a>
+    ensures { result ≡ find_of asked.entry }
+{
+    let passage = Original {
+        path: asked.passage,
+        language: language(asked.is_flight),
+    };
+    Plan::Find(passage, image(asked.image))
 }
 
 /// Sums the banks of an image.
@@ -202,6 +370,7 @@ fn image<'a>(asked: ImageArguments<'a>) -> Image<'a>
     Image {
         path: asked.path,
         form: form(asked.is_hardware, asked.is_parity_ignored),
+        layout: asked.layout,
         version: version(asked.is_parity_ignored, asked.version),
     }
 }
@@ -211,17 +380,23 @@ fn program<'a>(asked: ProgramArguments<'a>) -> Program<'a>
     ensures { result ≡ program_of asked.entry }
 {
     let file = asked.file;
-    let kind = if asked.is_image {
-        Kind::Image(version(file.is_parity_ignored, file.version))
-    } else {
-        Kind::Source(language(asked.is_flight))
-    };
     Program {
         path: file.path,
         form: form(file.is_hardware, file.is_parity_ignored),
-        kind,
+        kind: kind(asked.is_image, asked.is_flight, file),
         symbols: asked.symbols,
         feed: asked.feed,
+    }
+}
+
+/// What the file of a program is.
+fn kind<'a>(is_image: bool, is_flight: bool, file: ImageArguments<'a>) -> Kind
+    ensures { result ≡ kind_of is_image is_flight file.entry }
+{
+    if is_image {
+        Kind::Image(version(file.is_parity_ignored, file.version))
+    } else {
+        Kind::Source(language(is_flight))
     }
 }
 
@@ -269,14 +444,26 @@ fn language(is_flight: bool) -> Language
     }
 }
 
-/// What is told of a run.
-fn telling(progress: bool, notes: bool) -> Telling
-    ensures { result ≡ telling_of progress notes }
+/// In which form verdicts are told.
+fn verdicts(is_tap: bool, is_junit: bool) -> Verdicts
+    ensures { result ≡ verdicts_of is_tap is_junit }
 {
-    match (progress, notes) {
-        (false, false) => Telling::Nothing,
-        (true, false) => Telling::Progress,
-        (false, true) => Telling::Notes,
-        (true, true) => Telling::ProgressAndNotes,
+    if is_tap {
+        Verdicts::Tap
+    } else if is_junit {
+        Verdicts::Junit
+    } else {
+        Verdicts::Lines
+    }
+}
+
+/// In which notation rows are written.
+fn notation(is_json: bool) -> Notation
+    ensures { result ≡ notation_of is_json }
+{
+    if is_json {
+        Notation::Json
+    } else {
+        Notation::Text
     }
 }

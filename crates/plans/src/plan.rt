@@ -1,6 +1,8 @@
 //! What is to be done.
 
 use crate::steps::Steps;
+use arguments::ImageLayout;
+use json_text::Notation;
 use rope::{Form, Version};
 use space::Bank;
 use yayul::Language;
@@ -18,12 +20,26 @@ pub enum Plan<'a> {
     Trace(Tracing<'a>),
     /// A run is profiled.
     Cover(Profile<'a>),
+    /// It is shown which words of a program are reached.
+    Reach(Listed<'a>),
+    /// The same beside a run.
+    ReachRun(Reaching<'a>),
+    /// The reads and writes of a run are counted.
+    Access(Accesses<'a>),
+    /// How long the interrupts of a run waited is told.
+    Delays(Timed<'a>),
+    /// Inputs are tried, each of them alone.
+    WhatIf(Trials<'a>),
+    /// It is told where two runs part.
+    Differ(Pair<'a>),
     /// A program is debugged in a plain session.
     Debug(Program<'a>),
     /// A program is debugged in an extended session.
     DebugExtended(Program<'a>),
     /// All faults of a source and of feeds are told.
     Check(Check<'a>),
+    /// Runs are judged by the texts of tests in some files, and told in a form.
+    Expect(Tests<'a>),
     /// The refusal or the warning of a number is explained, or all are listed.
     Explain(Option<&'a str>),
     /// An image of version 1, the first, is written in version 2 to the second.
@@ -34,12 +50,22 @@ pub enum Plan<'a> {
     Compare(Image<'a>, Image<'a>),
     /// A source is compared with an image, at the places that it fills.
     CompareOnly(Original<'a>, Image<'a>),
+    /// Two images are aligned.
+    Align(Image<'a>, Image<'a>),
+    /// The names of a table of the first of two images are carried to the second.
+    Carry(&'a str, Image<'a>, Image<'a>),
+    /// A passage of a source is found in an image.
+    Find(Original<'a>, Image<'a>),
     /// The banks of an image are summed.
     Sum(Image<'a>),
     /// The banks of an image are summed in both orders of the bits.
     SumBothForms(Image<'a>),
     /// The words of an image whose parity is wrong are shown.
     ShowParity(Image<'a>),
+    /// What is damaged in an image is told.
+    ShowDamages(Image<'a>),
+    /// A source is written of an image, with the words that the sums want.
+    ShowMended(Image<'a>),
     /// Nothing: the first step that is to be shown is later than the last.
     NoSteps,
     /// Nothing: a run may not have so many steps.
@@ -62,6 +88,8 @@ pub struct Image<'a> {
     pub path: &'a str,
     /// How its bytes are taken.
     pub form: Form,
+    /// How they stand otherwise than as written, before that.
+    pub layout: ImageLayout,
     /// The version in which they are then read.
     pub version: Version,
 }
@@ -79,6 +107,39 @@ pub struct Program<'a> {
     pub symbols: Option<&'a str>,
     /// The file of the feed.
     pub feed: &'a str,
+}
+
+/// A program that is shown and not run.
+#[derive(Clone, Copy)]
+pub struct Listed<'a> {
+    /// Its file.
+    pub path: &'a str,
+    /// How the bytes of the file are taken.
+    pub form: Form,
+    /// What the file is.
+    pub kind: Kind,
+    /// The file of a table of names, where there is one.
+    pub symbols: Option<&'a str>,
+}
+
+/// What is shown of a program beside a run.
+#[derive(Clone, Copy)]
+pub struct Reaching<'a> {
+    /// What is run.
+    pub program: Program<'a>,
+    /// How many steps.
+    pub steps: Steps,
+}
+
+/// Two runs that are made beside each other.
+#[derive(Clone, Copy)]
+pub struct Pair<'a> {
+    /// What is run.
+    pub program: Program<'a>,
+    /// What is run beside it.
+    pub other: Program<'a>,
+    /// How many steps of each.
+    pub steps: Steps,
 }
 
 /// What the file of a program is.
@@ -99,6 +160,8 @@ pub struct Assembly<'a> {
     pub rope: &'a str,
     /// The version in which it is written.
     pub version: Version,
+    /// Whether it is told what lines do with each name.
+    pub tells_uses: bool,
 }
 
 /// A run.
@@ -108,23 +171,14 @@ pub struct Run<'a> {
     pub program: Program<'a>,
     /// How many steps are made.
     pub steps: Steps,
-    /// What is told of it beside its lines.
-    pub telling: Telling,
+    /// Whether it is told how many steps are made.
+    pub tells_progress: bool,
+    /// Whether it is told what is seldom meant.
+    pub tells_notes: bool,
+    /// In which notation that is told.
+    pub notation: Notation,
     /// Whether it is told how it has ended.
     pub tells_end: bool,
-}
-
-/// What is told of a run beside its lines.
-#[derive(Clone, Copy)]
-pub enum Telling {
-    /// Nothing.
-    Nothing,
-    /// How many steps are made.
-    Progress,
-    /// What is seldom meant.
-    Notes,
-    /// Both.
-    ProgressAndNotes,
 }
 
 /// A run of which the steps are shown.
@@ -136,6 +190,10 @@ pub struct Tracing<'a> {
     pub first: u64,
     /// The last step that is shown.
     pub last: Steps,
+    /// Whether it is shown what each step has read.
+    pub shows_reads: bool,
+    /// Whether it is said what each step did.
+    pub says: bool,
     /// Whether it is told how many steps are made.
     pub tells_progress: bool,
 }
@@ -149,6 +207,43 @@ pub struct Profile<'a> {
     pub steps: Steps,
     /// Whether it is told how many steps are made.
     pub tells_progress: bool,
+    /// In which notation the profile is written.
+    pub notation: Notation,
+}
+
+/// A run whose reads and writes are counted.
+#[derive(Clone, Copy)]
+pub struct Accesses<'a> {
+    /// What is run.
+    pub program: Program<'a>,
+    /// How many steps are made.
+    pub steps: Steps,
+    /// The cell whose reads and writes are told by their places; all cells are told where there is none.
+    pub place: Option<&'a str>,
+    /// Whether it is told how many steps are made.
+    pub tells_progress: bool,
+}
+
+/// A run of which it is told how long interrupts waited.
+#[derive(Clone, Copy)]
+pub struct Timed<'a> {
+    /// What is run.
+    pub program: Program<'a>,
+    /// How many steps are made.
+    pub steps: Steps,
+    /// Whether it is told how many steps are made.
+    pub tells_progress: bool,
+}
+
+/// Inputs that are tried, each of them alone.
+#[derive(Clone, Copy)]
+pub struct Trials<'a> {
+    /// What is run.
+    pub program: Program<'a>,
+    /// How many steps are made.
+    pub steps: Steps,
+    /// The file of the inputs.
+    pub path: &'a str,
 }
 
 /// A source and feeds that are checked.
@@ -160,6 +255,17 @@ pub struct Check<'a> {
     pub feeds: Vec<&'a str>,
     /// Whether labels that no operand names are told.
     pub tells_unused: bool,
+    /// In which notation it is told.
+    pub notation: Notation,
+}
+
+/// Texts of tests by which runs are judged.
+#[derive(Drop)]
+pub struct Tests<'a> {
+    /// The files of the texts.
+    pub files: Vec<&'a str>,
+    /// In which form the verdicts are told.
+    pub verdicts: Verdicts,
 }
 
 /// The words of an image that are shown.
@@ -184,4 +290,19 @@ pub enum Shown<'a> {
     Named(&'a str),
     /// As a source that gives them.
     Source,
+    /// As a source that gives them, with the names of the table of a file and instructions.
+    NamedSource(&'a str),
+    /// As a text of octal words.
+    Octals,
+}
+
+/// In which form verdicts are told.
+#[derive(Clone, Copy, PartialEq, Eq)]
+pub enum Verdicts {
+    /// As lines for people.
+    Lines,
+    /// As TAP.
+    Tap,
+    /// As JUnit does.
+    Junit,
 }

@@ -6,8 +6,7 @@ ghost use Rattle.cpu.specs.Run.{run};
 ghost use Rattle.replay.specs.Looked.{Looked};
 
 use crate::showing::Shown;
-use crate::stepping::make_step;
-use cpu::{Machine, Processor};
+use cpu::{Machine, Processor, make_step};
 
 /// What looks at states, one after another.
 pub trait Onlooker {

@@ -6,8 +6,7 @@ ghost use Rattle.cpu.specs.Run.{run};
 ghost use Rattle.replay.specs.LastHit.{AnswersAs, first_hit};
 
 use crate::showing::Shown;
-use crate::stepping::make_step;
-use cpu::{Machine, Processor};
+use cpu::{Machine, Processor, make_step};
 
 /// The first step from `low` up to `high` after which `hit` holds of the machine, which stands at `low`.
 pub(crate) fn scan_on<F: Fn(&Machine) -> bool>(

@@ -10,9 +10,8 @@ ghost use Rattle.replay.specs.View.{AreOfRun};
 
 use crate::keeper::Keeper;
 use crate::restoring::restore;
-use crate::stepping::make_step;
 use crate::thinning::step_before;
-use cpu::{Machine, Processor};
+use cpu::{Machine, Processor, make_step};
 
 /// Keeps an image, where the keeper never refuses.
 pub(crate) fn keep_sure<K: Keeper>(keeper: &mut K, step: u64, machine: &Machine)

@@ -10,9 +10,8 @@ ghost use Rattle.replay.specs.Whys.{step_writes};
 use crate::keeper::Keeper;
 use crate::restoring::restore;
 use crate::showing::Shown;
-use crate::stepping::make_step;
 use crate::thinning::step_before;
-use cpu::{CellSet, Machine, Processor};
+use cpu::{CellSet, Machine, Processor, make_step};
 
 /// The last step from `low` up to `high` that writes one of some cells; the machine stands at `low`.
 pub(crate) fn scan_writes(

@@ -1,3 +1,4 @@
 pub mod Finding
 mod Rows
 pub mod Lines
+mod Nearness

@@ -1,2 +1,3 @@
 pub mod TraceLines
+pub mod StepMembers
 pub mod PlaceNumbers

@@ -1,5 +1,5 @@
 -- A run as text: a line for each step.
-use Rattle.std.specs.Prelude.{ℕ, zero, suc, ◌+◌, ◌-◌, ◌*◌, ◌^◌, ◌==◌, ◌&&◌, ◌||◌, Bool, false, nat_lt, nat_le, List, [], ◌++◌, length, find, unwrap_or, codes, decimal, Option, None, Some, if◌then◌else◌}
+use Rattle.std.specs.Prelude.{ℕ, zero, suc, ◌+◌, ◌-◌, ◌*◌, ◌^◌, ◌==◌, ◌&&◌, ◌||◌, Bool, true, false, nat_lt, nat_le, List, [], ◌++◌, length, min, find, unwrap_or, codes, decimal, Option, None, Some, if◌then◌else◌}
 use Rattle.std.specs.List.{flat_map}
 use Rattle.std.specs.Option.{option_map, option_or}
 use Rattle.words.specs.Numbers.{correct}
@@ -7,7 +7,7 @@ use Rattle.words.specs.Numerals.{octal_text}
 use Rattle.space.specs.Cells.{Cells, get, get_channel, accumulator, lower_accumulator, return_address, erasable_bank, fixed_bank, program_counter, both_banks, erasable_count}
 use Rattle.space.specs.declared.place.Linear.{Linear}
 use Rattle.space.specs.declared.place.Linear.TheVariants as linear
-use Rattle.rope.specs.Places.{Words}
+use Rattle.rope.specs.Places.{Words, word_at}
 use Rattle.feed.specs.Counters.{row_of as counter_row}
 use Rattle.feed.specs.declared.input.Input.{Input}
 use Rattle.feed.specs.declared.input.Input.TheVariants.{Count, Word, Interrupt}
@@ -27,6 +27,9 @@ use Rattle.cpu.specs.Codes.{Code, row_of, code_of}
 use Rattle.cpu.specs.Effects.{place_in, value_at}
 use Rattle.cpu.specs.Operands.{address_of}
 use Rattle.cpu.specs.Links.{link, targets}
+use Rattle.cpu.specs.Reads.{reads}
+use Rattle.cpu.specs.declared.spot.Spot.{Spot}
+use Rattle.cpu.specs.declared.spot.Spot.TheVariants.{Cell, InRope}
 use Rattle.cpu.specs.Next.{next}
 use Rattle.cpu.specs.NextStep.{next_step}
 use Rattle.cpu.specs.Run.{run}
@@ -100,6 +103,36 @@ register_name p =
     else (if p == both_banks then Some (codes "BB")
     else None))))))
 
+-- the name that the manual gives a cell with a use of its own, behind the registers
+abbrev pub special_name : ℕ → Option (List ℕ)
+special_name p =
+    if p == 0o10 then Some (codes "ARUPT")
+    else (if p == 0o11 then Some (codes "LRUPT")
+    else (if p == 0o12 then Some (codes "QRUPT")
+    else (if p == 0o15 then Some (codes "ZRUPT")
+    else (if p == 0o16 then Some (codes "BBRUPT")
+    else (if p == 0o17 then Some (codes "BRUPT")
+    else (if p == 0o20 then Some (codes "CYR")
+    else (if p == 0o21 then Some (codes "SR")
+    else (if p == 0o22 then Some (codes "CYL")
+    else (if p == 0o23 then Some (codes "EDOP")
+    else (if p == 0o24 then Some (codes "TIME2")
+    else (if p == 0o25 then Some (codes "TIME1")
+    else (if p == 0o26 then Some (codes "TIME3")
+    else (if p == 0o27 then Some (codes "TIME4")
+    else (if p == 0o30 then Some (codes "TIME5")
+    else (if p == 0o31 then Some (codes "TIME6")
+    else (if p == 0o32 then Some (codes "CDUX")
+    else (if p == 0o33 then Some (codes "CDUY")
+    else (if p == 0o34 then Some (codes "CDUZ")
+    else (if p == 0o35 then Some (codes "OPTY")
+    else (if p == 0o36 then Some (codes "OPTX")
+    else (if p == 0o37 then Some (codes "PIPAX")
+    else (if p == 0o40 then Some (codes "PIPAY")
+    else (if p == 0o41 then Some (codes "PIPAZ")
+    else (if p == 0o45 then Some (codes "INLINK")
+    else None))))))))))))))))))))))))
+
 -- whether a place is what a symbol stands for
 abbrev pub stands_for : Linear → Value → Bool
 stands_for (linear.Erasable p) (Erasable q) = p == q
@@ -110,18 +143,10 @@ stands_for place value = false
 unfoldable pub symbol_at : SymbolTable → Linear → Option (List ℕ)
 symbol_at symbols place = option_map (λ e. e.0) (find (λ e. stands_for place e.1) symbols)
 
--- the name of a place: a register's letters, or a symbol
+-- the name of a place: a register's letters, or a symbol, or the name of a cell with a use of its own
 abbrev pub place_name : SymbolTable → Linear → Option (List ℕ)
-place_name symbols (linear.Erasable p) = option_or (register_name p) (symbol_at symbols (linear.Erasable p))
+place_name symbols (linear.Erasable p) = option_or (register_name p) (option_or (symbol_at symbols (linear.Erasable p)) (special_name p))
 place_name symbols (linear.Fixed bank offset) = symbol_at symbols (linear.Fixed bank offset)
-
--- an instruction as text, with the name of the place that it names in place of the address
-abbrev pub named_text : SymbolTable → State → Code → Option ℕ → List ℕ
-named_text symbols s code None = instruction_text code
-named_text symbols s code (Some k) = (row_of code.instruction).name ++ codes " " ++ unwrap_or (place_name symbols (place_in s k)) (octal_text 4 k)
-
-abbrev pub word_text : SymbolTable → State → Bool → ℕ → List ℕ
-word_text symbols s extra word = let code = code_of extra word in named_text symbols s code (address_of code)
 
 -- how many octal digits a number below 2 ^ 15 has
 abbrev pub octal_digits : ℕ → ℕ
@@ -129,6 +154,43 @@ octal_digits n = if nat_lt n 0o10 then 1 else (if nat_lt n 0o100 then 2 else (if
 
 abbrev pub short_octal : ℕ → List ℕ
 short_octal n = octal_text (octal_digits n) n
+
+-- how many places before an erasable one a symbol is sought: at most 63, and none among the registers and the counters
+abbrev pub near_count : ℕ → ℕ
+near_count p = min 0o77 (p - 0o61)
+
+-- the symbol of the nearest of so many erasable places before a place, from a distance on; and how far before it that is
+abbrev pub near_symbol : SymbolTable → ℕ → ℕ → ℕ → Option (List ℕ × ℕ)
+near_symbol symbols p d zero = None
+near_symbol symbols p d (suc more) = option_or (option_map (λ name. (name, d)) (symbol_at symbols (linear.Erasable (p - d)))) (near_symbol symbols p (d + 1) more)
+
+-- a symbol, and how many words behind it, with a gap between both
+abbrev pub behind_text : List ℕ → List ℕ × ℕ → List ℕ
+behind_text gap near = near.0 ++ gap ++ codes "+" ++ short_octal near.1
+
+-- an erasable place by the symbol before it
+abbrev pub near_name : List ℕ → SymbolTable → Linear → Option (List ℕ)
+near_name gap symbols (linear.Erasable p) = option_map (behind_text gap) (near_symbol symbols p 1 (near_count p))
+near_name gap symbols (linear.Fixed bank offset) = None
+
+-- the name of a place, or of an erasable one the symbol before it and how far
+abbrev pub full_name : List ℕ → SymbolTable → Linear → Option (List ℕ)
+full_name gap symbols place = option_or (place_name symbols place) (near_name gap symbols place)
+
+-- an operand has a blank there, as in a source; a cell none, since blanks part it from the next
+abbrev pub operand_gap : List ℕ
+operand_gap = codes " "
+
+abbrev pub cell_gap : List ℕ
+cell_gap = []
+
+-- an instruction as text, with the name of the place that it names in place of the address
+abbrev pub named_text : SymbolTable → State → Code → Option ℕ → List ℕ
+named_text symbols s code None = instruction_text code
+named_text symbols s code (Some k) = (row_of code.instruction).name ++ codes " " ++ unwrap_or (full_name operand_gap symbols (place_in s k)) (octal_text 4 k)
+
+abbrev pub word_text : SymbolTable → State → Bool → ℕ → List ℕ
+word_text symbols s extra word = let code = code_of extra word in named_text symbols s code (address_of code)
 
 -- the sum that INDEX left, as an offset of a source: its sign, and its size in octal
 abbrev pub added_text : Option ℕ → List ℕ
@@ -159,9 +221,33 @@ cell_reading cells c =
     if nat_lt c erasable_count then (if c == accumulator || c == return_address then octal_text 6 (get cells c) else octal_text 5 (correct (get cells c)))
     else octal_text 5 (correct (get_channel cells (c - erasable_count)))
 
+-- the same, where a place without a name is called by the symbol before it
+abbrev pub cell_shown : SymbolTable → ℕ → List ℕ
+cell_shown symbols c =
+    if nat_lt c erasable_count then unwrap_or (full_name cell_gap symbols (linear.Erasable c)) (place_text (linear.Erasable c))
+    else codes "CH" ++ octal_text 3 (c - erasable_count)
+
 -- a cell that was written, and what is read there now; Z, which each instruction moves on, is told by the place of the next step
 abbrev pub written : SymbolTable → Cells → ℕ → List ℕ
-written symbols cells c = if c == program_counter then [] else codes " " ++ cell_name symbols c ++ codes "=" ++ cell_reading cells c
+written symbols cells c = if c == program_counter then [] else codes " " ++ cell_shown symbols c ++ codes "=" ++ cell_reading cells c
+
+-- a spot that is read: a cell, or a place of fixed memory by its name, or as a listing has it
+abbrev pub spot_name : SymbolTable → Spot → List ℕ
+spot_name symbols (Cell c) = cell_shown symbols c
+spot_name symbols (InRope bank offset) = unwrap_or (place_name symbols (linear.Fixed bank offset)) (place_text (linear.Fixed bank offset))
+
+-- what stands there
+abbrev pub spot_reading : Words → Cells → Spot → List ℕ
+spot_reading rope cells (Cell c) = cell_reading cells c
+spot_reading rope cells (InRope bank offset) = octal_text 5 (word_at rope bank offset)
+
+abbrev pub spot_is_z : Spot → Bool
+spot_is_z (Cell c) = c == program_counter
+spot_is_z (InRope bank offset) = false
+
+-- a spot that was read, with what stood there before the step; nothing of Z, as where it is written
+abbrev pub was_read : SymbolTable → Words → Cells → Spot → List ℕ
+was_read symbols rope cells x = if spot_is_z x then [] else codes " " ++ spot_name symbols x ++ codes "=" ++ spot_reading rope cells x
 
 -- a text, or the sign that there is none
 abbrev pub or_none : List ℕ → List ℕ
@@ -173,18 +259,25 @@ abbrev pub line_end : Option Output → List ℕ
 line_end None = codes "\n"
 line_end (Some o) = codes "  " ++ channel_line o
 
--- the line of the step that follows a state: its number, the cycles after it, what it is, what it has written, and what goes out
-unfoldable pub trace_line : SymbolTable → Scenario → ℕ → State → List ℕ
-trace_line symbols scenario number s =
+-- what a step has read, where that is shown
+unfoldable pub reads_text : Bool → SymbolTable → Scenario → State → List ℕ
+reads_text false symbols scenario s = []
+reads_text true symbols scenario s = codes "READS" ++ or_none (flat_map (was_read symbols scenario.rope s.cells) (reads (link scenario s))) ++ codes " "
+
+-- the line of the step that follows a state: its number, the cycles after it, what it is, what it has read, where that is shown, what it
+-- has written, and what goes out
+unfoldable pub trace_line : Bool → SymbolTable → Scenario → ℕ → State → List ℕ
+trace_line shows_reads symbols scenario number s =
     let after = next scenario s in
     field 8 (decimal number) ++ field 8 (decimal after.0.cycles) ++ what_text symbols scenario.rope s (next_step scenario s)
-    ++ or_none (flat_map (written symbols after.0.cells) (targets (link scenario s))) ++ line_end after.1
+    ++ reads_text shows_reads symbols scenario s ++ or_none (flat_map (written symbols after.0.cells) (targets (link scenario s))) ++ line_end after.1
 
 -- the line of a step that follows a state, where lines are written from a first step on
-abbrev pub line_from : SymbolTable → Scenario → ℕ → ℕ → State → List ℕ
-line_from symbols scenario first number s = if nat_le first number then trace_line symbols scenario number s else []
+abbrev pub line_from : Bool → SymbolTable → Scenario → ℕ → ℕ → State → List ℕ
+line_from shows_reads symbols scenario first number s = if nat_le first number then trace_line shows_reads symbols scenario number s else []
 
 -- the lines of the first n steps, from a first one on
-unfoldable pub trace_lines : SymbolTable → Scenario → ℕ → ℕ → List ℕ
-trace_lines symbols scenario first zero = []
-trace_lines symbols scenario first (suc n) = trace_lines symbols scenario first n ++ line_from symbols scenario first (suc n) (run scenario n)
+unfoldable pub trace_lines : Bool → SymbolTable → Scenario → ℕ → ℕ → List ℕ
+trace_lines shows_reads symbols scenario first zero = []
+trace_lines shows_reads symbols scenario first (suc n) =
+    trace_lines shows_reads symbols scenario first n ++ line_from shows_reads symbols scenario first (suc n) (run scenario n)

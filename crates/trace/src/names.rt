@@ -4,7 +4,7 @@ ghost use Rattle.std.specs.Prelude.{◌≡◌, ◌<◌, ◌≤◌, IfOk, IfSome,
 ghost use Rattle.std.specs.Option.{option_map};
 ghost use Rattle.symbols.specs.Values.{SymbolTable};
 ghost use Rattle.trace.specs.PlaceNumbers.{AreFirst, IsPlace, place_count, place_number, place_shown};
-ghost use Rattle.trace.specs.TraceLines.{place_name, register_name, stands_for, symbol_at};
+ghost use Rattle.trace.specs.TraceLines.{place_name, register_name, special_name, stands_for, symbol_at};
 
 use space::{Eras, Linear};
 use std::alloc::{AllocError, Global};
@@ -149,7 +149,7 @@ fn stands_for(place: &Linear, value: Value) -> bool
     }
 }
 
-/// The name of a place: a register's letters, or the first symbol that stands for it.
+/// The name of a place: a register's letters, or the first symbol that stands for it, or the name of a cell with a use of its own.
 pub fn place_name<N: Names>(names: &N, place: Linear) -> Option<&[u8]>
     ensures name { option_map (λ name. name.now) result ≡ place_name (N.table names.now) place }
     ensures short { IfSome result (λ name. length name.now ≤ 8) }
@@ -157,7 +157,10 @@ pub fn place_name<N: Names>(names: &N, place: Linear) -> Option<&[u8]>
     match place {
         Linear::Erasable(number) => match register_name(number) {
             Some(name) => Some(name),
-            None => names.symbol_at(&place),
+            None => match names.symbol_at(&place) {
+                Some(name) => Some(name),
+                None => special_name(number),
+            },
         },
         Linear::Fixed(_, _) => names.symbol_at(&place),
     }
@@ -176,6 +179,41 @@ fn register_name(place: Eras) -> Option<&'static [u8]>
         4 => Some(b"FB"),
         5 => Some(b"Z"),
         6 => Some(b"BB"),
+        _ => None,
+    }
+}
+
+/// The name that the manual gives a cell with a use of its own, behind the registers.
+fn special_name(place: Eras) -> Option<&'static [u8]>
+    ensures name { option_map (λ name. name.now) result ≡ special_name place }
+    ensures short { IfSome result (λ name. length name.now ≤ 8) }
+{
+    match place.number() {
+        0o10 => Some(b"ARUPT"),
+        0o11 => Some(b"LRUPT"),
+        0o12 => Some(b"QRUPT"),
+        0o15 => Some(b"ZRUPT"),
+        0o16 => Some(b"BBRUPT"),
+        0o17 => Some(b"BRUPT"),
+        0o20 => Some(b"CYR"),
+        0o21 => Some(b"SR"),
+        0o22 => Some(b"CYL"),
+        0o23 => Some(b"EDOP"),
+        0o24 => Some(b"TIME2"),
+        0o25 => Some(b"TIME1"),
+        0o26 => Some(b"TIME3"),
+        0o27 => Some(b"TIME4"),
+        0o30 => Some(b"TIME5"),
+        0o31 => Some(b"TIME6"),
+        0o32 => Some(b"CDUX"),
+        0o33 => Some(b"CDUY"),
+        0o34 => Some(b"CDUZ"),
+        0o35 => Some(b"OPTY"),
+        0o36 => Some(b"OPTX"),
+        0o37 => Some(b"PIPAX"),
+        0o40 => Some(b"PIPAY"),
+        0o41 => Some(b"PIPAZ"),
+        0o45 => Some(b"INLINK"),
         _ => None,
     }
 }

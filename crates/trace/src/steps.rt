@@ -7,11 +7,12 @@ ghost use Rattle.words.specs.Numerals.{octal_text};
 ghost use Rattle.cpu.specs.Effects.{place_in, value_at};
 ghost use Rattle.cpu.specs.NextStep.{next_step};
 ghost use Rattle.cpu.specs.State.{FitsRun};
-ghost use Rattle.trace.specs.TraceLines.{added_text, entry_place, fetched_text, octal_digits, place_name, short_octal, taken_text, what_text, word_place, word_text};
+ghost use Rattle.trace.specs.TraceLines.{added_text, entry_place, fetched_text, full_name, octal_digits, operand_gap, short_octal, taken_text, what_text, word_place, word_text};
 
 use crate::fields::{StepFields, Text, place_text, step_fields};
 use crate::inputs::{input_text, interrupt_name, push_asked};
-use crate::names::{Names, place_name};
+use crate::names::Names;
+use crate::near::{OPERAND_GAP, full_name};
 use arrayvec::ArrayVec;
 use cpu::{Fetched, Machine, NextStep, Processor, disassemble, instruction_name, named_address};
 use feed::Input;
@@ -55,7 +56,7 @@ pub fn what_text<N: Names>(names: &N, processor: &Processor, machine: &Machine) 
 }
 
 /// An input with what it asks for.
-fn taken_text(machine: &Machine, input: Input) -> Text
+pub(crate) fn taken_text(machine: &Machine, input: Input) -> Text
     ensures items { result.items ≡ taken_text machine.now input }
     ensures short { array_vec_len result ≤ 46 }
 {
@@ -79,7 +80,7 @@ pub fn entry_place(interrupt: Interrupt) -> Linear
 }
 
 /// Where the word that is executed stands.
-fn word_place(fetched: &Fetched) -> Text
+pub(crate) fn word_place(fetched: &Fetched) -> Text
     ensures items { result.items ≡ word_place fetched.now }
     ensures short { array_vec_len result ≤ 7 }
 {
@@ -93,7 +94,7 @@ fn word_place(fetched: &Fetched) -> Text
 }
 
 /// A word in octal.
-fn octal_word(word: Word) -> Text
+pub(crate) fn octal_word(word: Word) -> Text
     ensures items { result.items ≡ octal_text 5 word }
     ensures len { array_vec_len result ≡ 5 }
 {
@@ -138,15 +139,19 @@ fn instruction_text<N: Names>(names: &N, machine: &Machine, word: Word, extra: b
     text
 }
 
-/// Appends the place to which an address leads, by its name, or the address.
+/// Appends the place to which an address leads, by its name or the symbol before it, or the address.
 #[tactic(auto, unfolding(cpu::specs::Effects::place_in))]
 fn push_operand<N: Names>(text: &mut Text, names: &N, machine: &Machine, address: Addr12)
     requires { array_vec_len text.old ≤ 11 }
-    ensures items { text.new.items ≡ text.old.items ++ unwrap_or (place_name (N.table names.now) (place_in machine.now address)) (octal_text 4 address) }
-    ensures short { array_vec_len text.new ≤ array_vec_len text.old + 8 }
+    ensures items { text.new.items ≡ text.old.items ++ unwrap_or (full_name operand_gap (N.table names.now) (place_in machine.now address)) (octal_text 4 address) }
+    ensures short { array_vec_len text.new ≤ array_vec_len text.old + 12 }
 {
-    match place_name(names, resolve(address, machine.store().banks())) {
-        Some(name) => push_all(text, name),
+    match full_name(
+        OPERAND_GAP,
+        names,
+        &resolve(address, machine.store().banks()),
+    ) {
+        Some(name) => push_all(text, name.as_slice()),
         None => push_octal(text, 4, address.number()),
     }
 }
@@ -180,10 +185,11 @@ fn push_added(text: &mut Text, added: Option<Wide>)
 }
 
 /// Appends a number in octal, without zeros at its head.
-fn push_short_octal(text: &mut Text, number: u16)
+pub(crate) fn push_short_octal(text: &mut Text, number: u16)
     requires room { array_vec_len text.old ≤ 26 }
     requires size { number < SIGN }
     ensures items { text.new.items ≡ text.old.items ++ short_octal number }
+    ensures len { array_vec_len text.new ≡ array_vec_len text.old + octal_digits number }
     ensures short { array_vec_len text.new ≤ array_vec_len text.old + 5 }
 {
     push_octal(text, octal_digits(number), number);

@@ -5,17 +5,19 @@ ghost use Rattle.std.specs.List.{flat_map};
 ghost use Rattle.arrayvec.specs.ArrayVec.{array_vec_len};
 ghost use Rattle.space.specs.declared.place.Linear.TheVariants.{Erasable};
 ghost use Rattle.yayul.specs.Listing.{place_text};
-ghost use Rattle.trace.specs.TraceLines.{cell_name, cell_reading, or_none, place_name, written};
+ghost use Rattle.trace.specs.TraceLines.{cell_gap, cell_name, cell_reading, cell_shown, full_name, or_none, place_name, written};
 
 use crate::fields::{Text, place_text};
 use crate::names::{Names, place_name};
+use crate::near::{CELL_GAP, full_name};
 use arrayvec::ArrayVec;
 use cpu::{Cell, Machine};
 use space::{Chan, Eras, Linear};
 use words::{push_all, push_octal};
 
-/// The most bytes of a line: three numbers of at most 20 digits, the fields that tell what the step is, ten cells, and what stands between.
-const LINE: usize = 384;
+/// The most bytes of a line: three numbers of at most 20 digits, the fields that tell what the step is, eight spots, ten cells, and
+/// what stands between.
+const LINE: usize = 640;
 
 pub(crate) type Line = ArrayVec<u8, LINE>;
 
@@ -29,10 +31,10 @@ pub(crate) fn push_all_written<N: Names>(
     machine: &Machine,
     cells: &[Cell],
 )
-    requires room { array_vec_len line.old ≤ 126 }
+    requires room { array_vec_len line.old ≤ 300 }
     requires few { length cells.now ≤ 10 }
     ensures items { line.new.items ≡ line.old.items ++ or_none (flat_map (written (N.table names.now) machine.now.cells) cells.now) }
-    ensures short { array_vec_len line.new ≤ array_vec_len line.old + 160 }
+    ensures short { array_vec_len line.new ≤ array_vec_len line.old + 200 }
 {
     let before = line.len();
     push_each(line, names, machine, cells);
@@ -43,10 +45,10 @@ pub(crate) fn push_all_written<N: Names>(
 
 /// Appends each cell that a step has written.
 fn push_each<N: Names>(line: &mut Line, names: &N, machine: &Machine, cells: &[Cell])
-    requires room { array_vec_len line.old ≤ 126 }
+    requires room { array_vec_len line.old ≤ 300 }
     requires few { length cells.now ≤ 10 }
     ensures items { line.new.items ≡ line.old.items ++ flat_map (written (N.table names.now) machine.now.cells) cells.now }
-    ensures short { array_vec_len line.new ≤ array_vec_len line.old + 16 * length cells.now }
+    ensures short { array_vec_len line.new ≤ array_vec_len line.old + 20 * length cells.now }
 {
     for cell in cells {
         push_written(line, names, machine, *cell);
@@ -55,13 +57,13 @@ fn push_each<N: Names>(line: &mut Line, names: &N, machine: &Machine, cells: &[C
 
 /// Appends a cell that a step has written, with what is read there: nothing of Z.
 fn push_written<N: Names>(line: &mut Line, names: &N, machine: &Machine, cell: Cell)
-    requires { array_vec_len line.old ≤ 340 }
+    requires { array_vec_len line.old ≤ 560 }
     ensures items { line.new.items ≡ line.old.items ++ written (N.table names.now) machine.now.cells cell }
-    ensures short { array_vec_len line.new ≤ array_vec_len line.old + 16 }
+    ensures short { array_vec_len line.new ≤ array_vec_len line.old + 20 }
 {
     if cell != Cell::Z {
         push_all(line, b" ");
-        push_all(line, cell_name(names, cell).as_slice());
+        push_all(line, cell_shown(names, cell).as_slice());
         push_all(line, b"=");
         push_all(line, cell_reading(machine, cell).as_slice());
     }
@@ -81,6 +83,29 @@ pub fn cell_name<N: Names>(names: &N, cell: Cell) -> Text
             push_octal(&mut text, 3, number - FIRST_CHANNEL);
             text
         }
+    }
+}
+
+/// The same, where a place without a name is called by the symbol before it.
+pub(crate) fn cell_shown<N: Names>(names: &N, cell: Cell) -> Text
+    ensures items { result.items ≡ cell_shown (N.table names.now) cell }
+    ensures short { array_vec_len result ≤ 12 }
+{
+    let number = cell.number();
+    match Eras::try_new(number) {
+        Some(place) => erasable_shown(names, place),
+        None => cell_name(names, cell),
+    }
+}
+
+/// An erasable place by its name or the symbol before it, or as a listing has it.
+fn erasable_shown<N: Names>(names: &N, number: Eras) -> Text
+    ensures items { result.items ≡ unwrap_or (full_name cell_gap (N.table names.now) (Erasable number)) (place_text (Erasable number)) }
+    ensures short { array_vec_len result ≤ 12 }
+{
+    match full_name(CELL_GAP, names, &Linear::Erasable(number)) {
+        Some(name) => name,
+        None => place_text(Linear::Erasable(number)),
     }
 }
 

@@ -11,5 +11,7 @@ mod Profiles
 pub mod Telling
 mod CheckWordsMade
 mod ProfileWritten
+mod RunReached
 mod NotedSteps
 mod NotesWritten
+mod AccessCounts

@@ -1,6 +1,7 @@
 -- What an engine that runs and notes has read, and what it has written.
 use Rattle.std.proofs.Common.{◌≡◌, ℕ, List, Result, Ok, Err, refl, subst, inl}
 use Rattle.feed.specs.declared.entry.Entry.{Entry}
+use Rattle.json_text.specs.declared.notation.Notation.{Notation}
 use Rattle.rope.specs.declared.fault.RopeFault.TheVariants as rope
 use Rattle.rope.specs.declared.spelling.Version.{Version}
 use Rattle.workshop.specs.declared.engine.Summary.{Summary}
@@ -17,11 +18,11 @@ use Rattle.workshop.specs.Runs.{Makes}
 use Rattle.cpu.specs.State.{Scenario}
 use Rattle.workshop.specs.Notings.{NotesRun, Noting, ReadsNamed, ReadsNamedImage, RunsNoted}
 
-pub noted_by : (origin : Origin) (steps : ℕ) (before after : Noting) (code : NamedCode) (inputs : List Entry) (r : Result NamedCode WorkshopFault) (i : Result (List Entry) WorkshopFault)
+pub noted_by : (notation : Notation) (origin : Origin) (steps : ℕ) (before after : Noting) (code : NamedCode) (inputs : List Entry) (r : Result NamedCode WorkshopFault) (i : Result (List Entry) WorkshopFault)
     (result : Result Summary WorkshopFault) → r ≡ Ok code → i ≡ Ok inputs → Reads (ReadsNamed origin) before.files.program after.files.program r
-    → Reads ReadsInputs before.files.feed after.files.feed i → NotesRun code (record { rope = code.rope; inputs = inputs }) steps before.texts after.texts result
-    → RunsNoted origin steps before after result
-noted_by origin steps before after code inputs r i result e f reads more run = record {
+    → Reads ReadsInputs before.files.feed after.files.feed i → NotesRun notation code (record { rope = code.rope; inputs = inputs }) steps before.texts after.texts result
+    → RunsNoted notation origin steps before after result
+noted_by notation origin steps before after code inputs r i result e f reads more run = record {
   code = Ok code;
   reads = subst (λ x. Reads (ReadsNamed origin) before.files.program after.files.program x) e reads;
   next = record { inputs = Ok inputs; reads = subst (λ x. Reads ReadsInputs before.files.feed after.files.feed x) f more; next = run };

@@ -1,5 +1,5 @@
 -- A run, step by step.
-use Rattle.std.proofs.Common.{◌≡◌, ℕ, ◌+◌, ◌^◌, ◌<◌, ◌≤◌, Bool, true, List, [], ◌++◌, length, Option, Some, None, refl, sym, ap, ◌∙◌, arith, append-nil, length-append, subst}
+use Rattle.std.proofs.Common.{◌≡◌, ℕ, ◌+◌, ◌-◌, ◌^◌, ◌<◌, ◌≤◌, Bool, true, List, [], ◌++◌, length, Option, Some, None, refl, sym, ap, ◌∙◌, arith, append-nil, length-append, subst}
 use Rattle.std.proofs.lemmas.List.Concat.{flat_map-append}
 use Rattle.std.specs.Option.{option_to_list}
 use Rattle.words.specs.Devices.{IsBeginning, WritesBeginning}
@@ -7,8 +7,10 @@ use Rattle.words.proofs.Texts.{append-then, beginning-after, first_begins}
 use Rattle.cpu.specs.declared.output.Output.{Output}
 use Rattle.cpu.specs.State.{Scenario, State, FitsRun}
 use Rattle.cpu.specs.Next.{next}
-use Rattle.cpu.specs.Run.{run, outs}
+use Rattle.cpu.specs.Run.{run, out, outs}
+use Rattle.cpu.specs.Silent.{IsSilent}
 use Rattle.cpu.proofs.RunLaws.{run-add-one, out-add-one, outs-zero, outs-add-one, cycles-run}
+use Rattle.cpu.proofs.SilentLaws.{silent_outs}
 use Rattle.cpu.proofs.TakenLaws.{run-fits}
 use Rattle.cpu.specs.ChannelLines.{channel_line, channel_lines}
 use Rattle.workshop.specs.Runs.{BreaksOff, outputs_after}
@@ -31,6 +33,10 @@ written_none scenario s t a e =
 -- a run before its first step
 pub start_writes : (scenario : Scenario) (a : List ℕ) → a ≡ a ++ channel_lines (outs scenario 0)
 start_writes scenario a = rw (outs-zero scenario, lines_of_none) (sym (append-nil a))
+
+pub lines_of_both : (l m : List Output) → channel_lines (l ++ m) ≡ channel_lines l ++ channel_lines m
+unfolding channel_lines
+lines_of_both l m = flat_map-append channel_line l m
 
 pub few_cycles : (scenario : Scenario) (n : ℕ) (s : State) → s ≡ run scenario n → n < 2 ^ 40 → s.cycles ≤ 2 ^ 62
 few_cycles scenario n s e h = rw e (omega (arith, cycles-run scenario n))
@@ -110,6 +116,51 @@ stands_after_step told scenario now n s t a b c k j same before e w q =
           lines_after scenario n s a b c before.state (before.written is_told) (subst (λ (u : Scenario). c ≡ b ++ channel_lines (outputs_after u s)) same (w is_told));
       outputs = subst (λ (u : Scenario). j ≡ k + length (outputs_after u s)) same q ∙ outputs_more scenario n s k (length (outputs_after scenario s)) before.state before.outputs refl;
     }
+
+-- ## Many steps of which none but the last puts anything out
+-- what they put out
+pub outs_at : (scenario : Scenario) (n to : ℕ) → n < to → IsSilent scenario n (to - 1) → outs scenario to ≡ outs scenario n ++ option_to_list (out scenario to)
+outs_at scenario n to h silent =
+    let last : (to - 1) + 1 ≡ to = omega (arith, h) in
+    subst (λ m. outs scenario m ≡ outs scenario (to - 1) ++ option_to_list (out scenario m)) last (outs-add-one scenario (to - 1))
+    ∙ ap (λ (l : List Output). l ++ option_to_list (out scenario to)) (silent_outs scenario n (to - 1) (omega (arith, h)) silent)
+
+-- before the last one a run stands as before the first, but for its machine
+pub stands_silent : (told : Bool) (scenario : Scenario) (n m : ℕ) (s : State) (a b : List ℕ) (k : ℕ) → n ≤ m → IsSilent scenario n m → Stands told scenario n s a b k
+    → Stands told scenario m (run scenario m) a b k
+stands_silent told scenario n m s a b k h silent before =
+    let same = silent_outs scenario n m h silent in
+    record { state = refl; written = λ is_told. rw same (before.written is_told); outputs = rw same before.outputs }
+
+pub stands_after_steps : (told : Bool) (scenario now : Scenario) (n to : ℕ) (s t : State) (a b c : List ℕ) (k j : ℕ) (put : Option Output) → now ≡ scenario → n < to
+    → Stands told scenario n s a b k → IsSilent now n (to - 1) → t ≡ run now to → put ≡ out now to
+    → (told ≡ true → c ≡ b ++ channel_lines (option_to_list put)) → j ≡ k + length (option_to_list put) → Stands told scenario to t a c j
+stands_after_steps told scenario now n to s t a b c k j put same h before silent e p w q =
+    let silent_here : IsSilent scenario n (to - 1) = subst (λ (u : Scenario). IsSilent u n (to - 1)) same silent in
+    let put_here : put ≡ out scenario to = subst (λ (u : Scenario). put ≡ out u to) same p in
+    let outs_here = outs_at scenario n to h silent_here ∙ ap (λ (o : Option Output). outs scenario n ++ option_to_list o) (sym put_here) in
+    let lines_here : channel_lines (outs scenario to) ≡ channel_lines (outs scenario n) ++ channel_lines (option_to_list put) = ap channel_lines outs_here ∙ lines_of_both _ _ in
+    record {
+      state = subst (λ (u : Scenario). t ≡ run u to) same e;
+      written = λ is_told. rw lines_here (append-then a b c _ _ (before.written is_told) (w is_told));
+      outputs = q ∙ ap (λ (x : ℕ). x + length (option_to_list put)) before.outputs ∙ sym (ap length outs_here ∙ length-append (outs scenario n) (option_to_list put));
+    }
+
+-- where the line of what the last one puts out is not all written, a beginning of the lines of all of them stands
+pub stands_broken_at : (told : Bool) (scenario now : Scenario) (n to : ℕ) (s : State) (a b c : List ℕ) (k : ℕ) (put : Option Output) → n < to → now ≡ scenario
+    → Stands told scenario n s a b k → IsSilent now n (to - 1) → put ≡ out now to → told ≡ true → WritesBeginning b c (channel_lines (option_to_list put))
+    → WritesBeginning a c (channel_lines (outs scenario to))
+stands_broken_at told scenario now n to s a b c k put h same before silent p is_told r =
+    let silent_here : IsSilent scenario n (to - 1) = subst (λ (u : Scenario). IsSilent u n (to - 1)) same silent in
+    let put_here : put ≡ out scenario to = subst (λ (u : Scenario). put ≡ out u to) same p in
+    let outs_here = outs_at scenario n to h silent_here ∙ ap (λ (o : Option Output). outs scenario n ++ option_to_list o) (sym put_here) in
+    let lines_here : channel_lines (outs scenario to) ≡ channel_lines (outs scenario n) ++ channel_lines (option_to_list put) = ap channel_lines outs_here ∙ lines_of_both _ _ in
+    rw lines_here (beginning-after a b c _ _ (before.written is_told) r)
+
+pub stands_breaks_off_at : (told : Bool) (scenario now : Scenario) (steps n to : ℕ) (s : State) (a b c : List ℕ) (k : ℕ) (put : Option Output) → n < to → to ≤ steps → now ≡ scenario
+    → Stands told scenario n s a b k → IsSilent now n (to - 1) → put ≡ out now to → told ≡ true → WritesBeginning b c (channel_lines (option_to_list put)) → BreaksOff scenario steps a c
+stands_breaks_off_at told scenario now steps n to s a b c k put h within same before silent p is_told r =
+    record { made = to; within = within; written = stands_broken_at told scenario now n to s a b c k put h same before silent p is_told r }
 
 pub stands_breaks_off : (told : Bool) (scenario now : Scenario) (steps n : ℕ) (s : State) (a b c : List ℕ) (k : ℕ) → n < steps → now ≡ scenario → Stands told scenario n s a b k
     → told ≡ true → WritesBeginning b c (channel_lines (outputs_after now s)) → BreaksOff scenario steps a c

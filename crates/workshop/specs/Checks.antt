@@ -1,6 +1,7 @@
 -- What the engines answer that tell what is wrong with a source, and with a feed, and what they have then written.
 use Rattle.std.specs.Prelude.{◌≡◌, ℕ, nat_lt, if◌then◌else◌, List, length, Bool, Result, Ok, Err, IfOk}
 use Rattle.feed.specs.Feed.{most_bytes}
+use Rattle.json_text.specs.declared.notation.Notation.{Notation}
 use Rattle.yayul.specs.Survey.{told}
 use Rattle.yayul.specs.declared.language.Language.{Language}
 use Rattle.faults.specs.FeedReport.{feed_faults, feed_report}
@@ -17,14 +18,14 @@ use Rattle.workshop.specs.Ropes.{WritesText}
 abbrev pub tally : Language → Bool → List ℕ → Tally
 tally language unused source = record { errors = length (told language source); warnings = length (warnings language unused source) }
 
--- the faults and the warnings of a source of a language and of this name as text; and how many there are
-abbrev pub reported : Language → List ℕ → Bool → List ℕ → Result (List ℕ × Tally) WorkshopFault
-reported language name unused source =
-    if nat_lt most_bytes (length source) then Err TooLong else Ok (report language name source (told language source) (warnings language unused source), tally language unused source)
+-- the faults and the warnings of a source of a language and of this name in a notation; and how many there are
+abbrev pub reported : Notation → Language → List ℕ → Bool → List ℕ → Result (List ℕ × Tally) WorkshopFault
+reported notation language name unused source =
+    if nat_lt most_bytes (length source) then Err TooLong else Ok (report notation language name source (told language source) (warnings language unused source), tally language unused source)
 
--- the fault of a feed of this name as text, where it has one; and how many are told
-abbrev pub feed_reported : List ℕ → List ℕ → Result (List ℕ × ℕ) WorkshopFault
-feed_reported name feed = if nat_lt most_bytes (length feed) then Err TooLong else Ok (feed_report name feed, feed_faults feed)
+-- the fault of a feed of this name in a notation, where it has one; and how many are told
+abbrev pub feed_reported : Notation → List ℕ → List ℕ → Result (List ℕ × ℕ) WorkshopFault
+feed_reported notation name feed = if nat_lt most_bytes (length feed) then Err TooLong else Ok (feed_report notation name feed, feed_faults feed)
 
 -- what an engine has that tells faults
 pub record Checking : Type 0 where
@@ -42,7 +43,7 @@ pub record Checks {T : Type 0} (gives : List ℕ → Result (List ℕ × T) Work
   pub reads : Reads (λ old new. ReadsText (gives old) old new) before.input after.input told_of
   pub next : ChecksThen told_of before.out after.out result
 
--- how many faults and warnings there are is written; where memory was refused nothing is
-abbrev pub TellsTally : Tally → Writer → Writer → Result (Unit {0}) WorkshopFault → Type 0
-TellsTally counted before after (Err NoMemory) = after ≡ before
-TellsTally counted before after result = WritesText (count_text counted.errors counted.warnings) before after result
+-- how many faults and warnings there are is written in a notation; where memory was refused nothing is
+abbrev pub TellsTally : Notation → Tally → Writer → Writer → Result (Unit {0}) WorkshopFault → Type 0
+TellsTally notation counted before after (Err NoMemory) = after ≡ before
+TellsTally notation counted before after result = WritesText (count_text notation counted.errors counted.warnings) before after result

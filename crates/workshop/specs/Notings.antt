@@ -1,6 +1,7 @@
 -- What an engine answers that runs a program and notes what is seldom meant, and what it has then written.
 use Rattle.std.specs.Prelude.{◌≡◌, ℕ, ◌⊎◌, List, [], Result, Ok, Err, IfOk}
 use Rattle.feed.specs.declared.entry.Entry.{Entry}
+use Rattle.json_text.specs.declared.notation.Notation.{Notation}
 use Rattle.rope.specs.Places.{Words}
 use Rattle.rope.specs.Reading.{IsFull, ReadsImage}
 use Rattle.rope.specs.declared.fault.RopeFault.{RopeFault}
@@ -58,32 +59,32 @@ EndsNoted text scenario steps before after (Err fault) =
     ⊎ (Makes scenario steps before.out after.out (Ok (summary_of scenario steps)) × WritesText {T = Summary} text before.notes after.notes (Err fault))
 
 -- memory for the notes is refused, and nothing is written; or the run is made and noted
-abbrev pub NotesRun : NamedCode → Scenario → ℕ → Texts → Texts → Result Summary WorkshopFault → Type 0
-NotesRun code scenario steps before after result =
-    ((result ≡ Err NoMemory) × (after ≡ before)) ⊎ EndsNoted (notes_text code.symbols code.named scenario steps) scenario steps before after result
+abbrev pub NotesRun : Notation → NamedCode → Scenario → ℕ → Texts → Texts → Result Summary WorkshopFault → Type 0
+NotesRun notation code scenario steps before after result =
+    ((result ≡ Err NoMemory) × (after ≡ before)) ⊎ EndsNoted (notes_text notation code.symbols code.named scenario steps) scenario steps before after result
 
 -- where the feed was read the run is made and noted, and after a fault nothing is written
-abbrev pub NotesThen : NamedCode → ℕ → Result (List Entry) WorkshopFault → Texts → Texts → Result Summary WorkshopFault → Type 0
-NotesThen code steps (Ok inputs) before after result = NotesRun code (record { rope = code.rope; inputs = inputs }) steps before after result
-NotesThen code steps (Err fault) before after result = (result ≡ Err fault) × (after ≡ before)
+abbrev pub NotesThen : Notation → NamedCode → ℕ → Result (List Entry) WorkshopFault → Texts → Texts → Result Summary WorkshopFault → Type 0
+NotesThen notation code steps (Ok inputs) before after result = NotesRun notation code (record { rope = code.rope; inputs = inputs }) steps before after result
+NotesThen notation code steps (Err fault) before after result = (result ≡ Err fault) × (after ≡ before)
 
 -- what an engine has that runs and notes
 pub record Noting : Type 0 where
   pub files : Files
   pub texts : Texts
 
-pub record NotesNext (code : NamedCode) (steps : ℕ) (before after : Noting) (result : Result Summary WorkshopFault) : Type 0 where
+pub record NotesNext (notation : Notation) (code : NamedCode) (steps : ℕ) (before after : Noting) (result : Result Summary WorkshopFault) : Type 0 where
   pub inputs : Result (List Entry) WorkshopFault
   pub reads : Reads ReadsInputs before.files.feed after.files.feed inputs
-  pub next : NotesThen code steps inputs before.texts after.texts result
+  pub next : NotesThen notation code steps inputs before.texts after.texts result
 
 -- where the program was read the feed is, and after a fault nothing of it
-abbrev pub NotesProgram : Result NamedCode WorkshopFault → ℕ → Noting → Noting → Result Summary WorkshopFault → Type 0
-NotesProgram (Ok code) steps before after result = NotesNext code steps before after result
-NotesProgram (Err fault) steps before after result = (result ≡ Err fault) × (after.files.feed ≡ before.files.feed) × (after.texts ≡ before.texts)
+abbrev pub NotesProgram : Notation → Result NamedCode WorkshopFault → ℕ → Noting → Noting → Result Summary WorkshopFault → Type 0
+NotesProgram notation (Ok code) steps before after result = NotesNext notation code steps before after result
+NotesProgram notation (Err fault) steps before after result = (result ≡ Err fault) × (after.files.feed ≡ before.files.feed) × (after.texts ≡ before.texts)
 
 -- a program and a feed are read, and what was read decides what runs
-pub record RunsNoted (from : Origin) (steps : ℕ) (before after : Noting) (result : Result Summary WorkshopFault) : Type 0 where
+pub record RunsNoted (notation : Notation) (from : Origin) (steps : ℕ) (before after : Noting) (result : Result Summary WorkshopFault) : Type 0 where
   pub code : Result NamedCode WorkshopFault
   pub reads : Reads (ReadsNamed from) before.files.program after.files.program code
-  pub next : NotesProgram code steps before after result
+  pub next : NotesProgram notation code steps before after result

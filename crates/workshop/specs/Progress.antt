@@ -1,11 +1,12 @@
 -- What a run tells while it goes: how many steps it has made.
-use Rattle.std.specs.Prelude.{◌≡◌, ℕ, zero, suc, ◌+◌, ◌*◌, ◌/◌, ◌%◌, ◌^◌, ◌<◌, ◌==◌, true, List, [], ◌++◌, codes, decimal, Result, Ok, Err, if◌then◌else◌}
+use Rattle.std.specs.Prelude.{◌≡◌, ℕ, zero, suc, ◌+◌, ◌*◌, ◌/◌, ◌%◌, ◌^◌, ◌<◌, ◌==◌, Bool, true, List, [], ◌++◌, codes, decimal, Result, Ok, Err, if◌then◌else◌}
 use Rattle.words.specs.Devices.{IsBeginning, Writes, WritesBeginning, failures_after}
 use Rattle.words.specs.declared.device.WriteFailed as device
 use Rattle.cpu.specs.ChannelLines.{channel_lines}
 use Rattle.cpu.specs.Run.{outs}
 use Rattle.cpu.specs.State.{Scenario}
-use Rattle.trace.specs.TraceLines.{trace_lines}
+use Rattle.say.specs.declared.form.LineForm.{LineForm}
+use Rattle.say.specs.Said.{told_lines}
 use Rattle.workshop.specs.Failures.{Writer}
 use Rattle.workshop.specs.Inputs.{scenario_of}
 use Rattle.workshop.specs.Loading.{Files, Loads}
@@ -99,5 +100,5 @@ abbrev pub loaded_text : Loaded → ℕ → List ℕ
 loaded_text l = run_text (scenario_of l)
 
 -- the lines of those of so many steps that stand from a first one on
-abbrev pub traced_text : ℕ → Loaded → ℕ → List ℕ
-traced_text first l = trace_lines l.symbols (scenario_of l) first
+abbrev pub traced_text : LineForm → ℕ → Loaded → ℕ → List ℕ
+traced_text form first l = told_lines form l.symbols (scenario_of l) first

@@ -6,6 +6,9 @@ use Rattle.rope.specs.Dumps.{ReadsDump}
 use Rattle.rope.specs.Reading.{ReadsImage, has_read_failed}
 use Rattle.rope.specs.declared.spelling.Version.{Version}
 use Rattle.rope.specs.declared.fault.RopeFault.{RopeFault}
+use Rattle.audit.specs.Damages.{count_in, damages}
+use Rattle.audit.specs.Mended.{mended_source}
+use Rattle.audit.specs.Orders.{order_of}
 use Rattle.audit.specs.Differences.{differing, differences}
 use Rattle.audit.specs.declared.differences.Extent.{Extent}
 use Rattle.audit.specs.declared.differences.Extent.TheVariants.{All, Filled}
@@ -107,3 +110,26 @@ pub record TellsParity (before after : Showing) (result : Result ℕ WorkshopFau
   pub read : Result (List ℕ) RopeFault
   pub reads : ReadsBytes before.image after.image read
   pub next : WritesParities read before.out after.out result
+
+-- where the bytes of an image were read what is damaged is written, and of how many banks that tells is answered
+abbrev pub WritesDamages : Result (List ℕ) RopeFault → Writer → Writer → Result ℕ WorkshopFault → Type 0
+WritesDamages (Ok image) before after result =
+    WritesText (damages image) before after result × IfOk result (λ count. count ≡ count_in (order_of image) image)
+WritesDamages (Err fault) before after result = (result ≡ Err (of_rope_fault fault)) × (after ≡ before)
+
+-- the bytes of an image are read, and what was read decides what is written
+pub record TellsDamages (before after : Showing) (result : Result ℕ WorkshopFault) : Type 0 where
+  pub read : Result (List ℕ) RopeFault
+  pub reads : ReadsBytes before.image after.image read
+  pub next : WritesDamages read before.out after.out result
+
+-- where the bytes of an image were read a source of its mended words is written
+abbrev pub WritesMended : Result (List ℕ) RopeFault → Writer → Writer → Result (Unit {0}) WorkshopFault → Type 0
+WritesMended (Ok image) before after result = WritesText (mended_source image) before after result
+WritesMended (Err fault) before after result = (result ≡ Err (of_rope_fault fault)) × (after ≡ before)
+
+-- the bytes of an image are read, and what was read decides what is written
+pub record ShowsMended (before after : Showing) (result : Result (Unit {0}) WorkshopFault) : Type 0 where
+  pub read : Result (List ℕ) RopeFault
+  pub reads : ReadsBytes before.image after.image read
+  pub next : WritesMended read before.out after.out result

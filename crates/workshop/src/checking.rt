@@ -12,6 +12,7 @@ ghost use Rattle.workshop.specs.Loading.{Reads, ReadsText};
 
 use crate::fault::WorkshopFault;
 use faults::{counts, feed_report, refused_file, report, warnings};
+use json_text::Notation;
 use std::alloc::{AllocError, Global};
 use words::{MOST_BYTES, Read, Write, read_text, write_all};
 use yayul::{Finding, Language, findings};
@@ -39,51 +40,58 @@ impl Tally {
 }
 
 /// Reads a source of a language whole, and writes a line for each fault that does not follow from another, with the source's name and the
-/// line that it stands on, among them a line for each warning, and what is said where it has faults and is a feed or an image; it answers
+/// line that it stands on, among them a line for each warning, and what is said where it has faults and is a feed or an image, or the same as JSON; it answers
 /// how many of both there are. Labels that no operand names are told of where that is asked for.
 ///
 /// The source has at most 8,388,608 bytes.
 pub fn check_source<S: Read, W: Write>(
     alloc: Global,
+    notation: Notation,
     language: Language,
     name: &[u8],
     unused: bool,
     source: &mut S,
     out: &mut W,
 ) -> Result<Tally, WorkshopFault>
-    ensures { Checks (reported language name.now unused)
+    ensures { Checks (reported notation language name.now unused)
         (record { input = reader S.told S.left S.failures source.old; out = writer W.told W.written W.failures out.old })
         (record { input = reader S.told S.left S.failures source.new; out = writer W.told W.written W.failures out.new }) result }
 {
-    let (text, tally) = read_report(alloc, language, name, unused, source)?;
+    let (text, tally) = read_report(alloc, notation, language, name, unused, source)?;
     write_all(out, &text)?;
     Ok(tally)
 }
 
 /// Reads a feed whole, and writes lines for its first fault, where it has one, with the feed's name and the line that it stands on, and what
-/// is said where it is a source or an image; it answers how many faults are told: as `feed::read` answers, none or one.
+/// is said where it is a source or an image, or the same as JSON; it answers how many faults are told: as `feed::read` answers, none or one.
 ///
 /// The feed has at most 8,388,608 bytes.
 pub fn check_feed<F: Read, W: Write>(
     alloc: Global,
+    notation: Notation,
     name: &[u8],
     feed: &mut F,
     out: &mut W,
 ) -> Result<usize, WorkshopFault>
-    ensures { Checks (feed_reported name.now)
+    ensures { Checks (feed_reported notation name.now)
         (record { input = reader F.told F.left F.failures feed.old; out = writer W.told W.written W.failures out.old })
         (record { input = reader F.told F.left F.failures feed.new; out = writer W.told W.written W.failures out.new }) result }
 {
-    let (lines, count) = read_feed_report(alloc, name, feed)?;
+    let (lines, count) = read_feed_report(alloc, notation, name, feed)?;
     write_all(out, &lines)?;
     Ok(count)
 }
 
-/// Writes how many faults and how many warnings were told.
-pub fn write_tally<W: Write>(alloc: Global, tally: &Tally, out: &mut W) -> Result<(), WorkshopFault>
-    ensures { TellsTally tally.now (writer W.told W.written W.failures out.old) (writer W.told W.written W.failures out.new) result }
+/// Writes how many faults and how many warnings were told, as text or as JSON.
+pub fn write_tally<W: Write>(
+    alloc: Global,
+    notation: Notation,
+    tally: &Tally,
+    out: &mut W,
+) -> Result<(), WorkshopFault>
+    ensures { TellsTally notation tally.now (writer W.told W.written W.failures out.old) (writer W.told W.written W.failures out.new) result }
 {
-    let text = match counts(alloc, tally.errors, tally.warnings) {
+    let text = match counts(alloc, notation, tally.errors, tally.warnings) {
         Ok(text) => text,
         Err(_) => return Err(WorkshopFault::NoMemory),
     };
@@ -105,39 +113,41 @@ pub fn unread_text(
     }
 }
 
-// Reads a source, and tells its faults and warnings as text, and how many there are.
+// Reads a source, and tells its faults and warnings in a notation, and how many there are.
 fn read_report<S: Read>(
     alloc: Global,
+    notation: Notation,
     language: Language,
     name: &[u8],
     unused: bool,
     source: &mut S,
 ) -> Result<(Vec<u8>, Tally), WorkshopFault>
-    ensures { Reads (λ old new. ReadsText (reported language name.now unused old) old new)
+    ensures { Reads (λ old new. ReadsText (reported notation language name.now unused old) old new)
         (reader S.told S.left S.failures source.old) (reader S.told S.left S.failures source.new) (result_map_both (λ r. (r.0.items, r.1)) (λ fault. fault) result) }
 {
     let source = read_text(alloc, source, MOST_BYTES)?;
     let findings = findings(alloc, language, &source)?;
-    match told_of(alloc, language, name, unused, &source, &findings) {
+    match told_of(alloc, notation, language, name, unused, &source, &findings) {
         Ok(told) => Ok(told),
         Err(_) => Err(WorkshopFault::NoMemory),
     }
 }
 
-// The faults of a source of a language and its warnings as text, and how many there are.
+// The faults of a source of a language and its warnings in a notation, and how many there are.
 fn told_of(
     alloc: Global,
+    notation: Notation,
     language: Language,
     name: &[u8],
     unused: bool,
     source: &[u8],
     findings: &[Finding],
 ) -> Result<(Vec<u8>, Tally), AllocError>
-    ensures text { IfOk result (λ r. r.0.items ≡ report language name.now source.now findings.now (warnings language unused source.now)) }
+    ensures text { IfOk result (λ r. r.0.items ≡ report notation language name.now source.now findings.now (warnings language unused source.now)) }
     ensures count { IfOk result (λ r. r.1 ≡ record { errors = length findings.now; warnings = length (warnings language unused source.now) }) }
 {
     let warnings = warnings(alloc, language, source, unused)?;
-    let text = report(alloc, language, name, source, findings, &warnings)?;
+    let text = report(alloc, notation, language, name, source, findings, &warnings)?;
     let tally = Tally {
         errors: findings.len(),
         warnings: warnings.len(),
@@ -145,17 +155,18 @@ fn told_of(
     Ok((text, tally))
 }
 
-// Reads a feed, and tells its fault as text, and how many are told.
+// Reads a feed, and tells its fault in a notation, and how many are told.
 fn read_feed_report<F: Read>(
     alloc: Global,
+    notation: Notation,
     name: &[u8],
     feed: &mut F,
 ) -> Result<(Vec<u8>, usize), WorkshopFault>
-    ensures { Reads (λ old new. ReadsText (feed_reported name.now old) old new)
+    ensures { Reads (λ old new. ReadsText (feed_reported notation name.now old) old new)
         (reader F.told F.left F.failures feed.old) (reader F.told F.left F.failures feed.new) (result_map_both (λ r. (r.0.items, r.1)) (λ fault. fault) result) }
 {
     let text = read_text(alloc, feed, MOST_BYTES)?;
-    match feed_report(alloc, name, &text) {
+    match feed_report(alloc, notation, name, &text) {
         Ok(told) => Ok(told),
         Err(_) => Err(WorkshopFault::NoMemory),
     }

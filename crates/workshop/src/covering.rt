@@ -1,53 +1,40 @@
 //! The engine that profiles a run.
 
-ghost use Rattle.std.specs.Prelude.{◌≡◌, Some, ◌-◌, ◌≤◌, ◌^◌, true};
+ghost use Rattle.std.specs.Prelude.{◌≡◌, IfOk, Some, ◌-◌, ◌≤◌, ◌^◌, true};
 ghost use Rattle.words.specs.Devices.{Writes, failures_after};
 ghost use Rattle.cover.specs.CoverText.{cover_text, profile_text, total_of};
 ghost use Rattle.cover.specs.Tallies.{AllAddUp, Counts, ShownAddUp, figures_at};
 ghost use Rattle.cpu.specs.Run.{run};
-ghost use Rattle.workshop.specs.Covers.{Covers, CoversRun, ReadsImaged, ReadsSubject};
+ghost use Rattle.workshop.specs.Covers.{Covers, CoversRun, ReadsImaged, ReadsSubject, names_shown, subject_of};
 ghost use Rattle.workshop.specs.Failures.{reader, writer};
-ghost use Rattle.workshop.specs.Loading.{Reads};
+ghost use Rattle.workshop.specs.Inputs.{assembled};
+ghost use Rattle.workshop.specs.Loading.{Reads, ReadsText};
 ghost use Rattle.workshop.specs.Progress.{TellsAll, TellsProfile};
 
 use crate::engine::STEPS_BETWEEN_FLUSHES;
 use crate::fault::WorkshopFault;
 use crate::inputs::{read_feed, read_program};
 use crate::origin::Origin;
-use crate::progress::{Unheard, tell};
+use crate::progress::tell;
 use cover::{Figures, Shown, Tally, write_image_profile, write_source_profile};
 use cpu::{Machine, Processor};
+use json_text::Notation;
 use rope::{Rope, Version};
-use std::alloc::Global;
+use std::alloc::{AllocError, Global};
 use trace::PlaceNames;
 use words::{Read, Write, WriteFailed};
-use yayul::Symbols;
+use yayul::{Language, Symbols};
 
 /// Reads a program and then a feed, makes some steps, and writes how often each word was executed and the cycles that this took:
-/// before the rows of a source's listing, or before the words of an image.
+/// before the rows of a source's listing, or before the words of an image; as JSON in an object of each row.
 ///
 /// The first fault of the program is answered, else that of the feed, else that memory ran out, and then nothing is written.
 /// Memory for the figures is taken once, before the first step. After a write that failed a beginning of the text was written.
-pub fn cover_program<P: Read, F: Read, W: Write>(
+///
+/// It is told after each 2^20 steps how many were made, as `run_and_tell` tells it.
+pub fn cover_program<P: Read, F: Read, W: Write, T: Write>(
     alloc: Global,
-    origin: Origin,
-    program: &mut P,
-    feed: &mut F,
-    steps: u64,
-    out: &mut W,
-) -> Result<(), WorkshopFault>
-    requires { steps ≤ 2 ^ 40 - 2 }
-    ensures { Covers origin steps
-        (record { files = record { program = reader P.told P.left P.failures program.old; feed = reader F.told F.left F.failures feed.old }; out = writer W.told W.written W.failures out.old })
-        (record { files = record { program = reader P.told P.left P.failures program.new; feed = reader F.told F.left F.failures feed.new }; out = writer W.told W.written W.failures out.new }) result }
-{
-    cover_and_tell(alloc, origin, program, feed, steps, out, &mut Unheard)
-}
-
-/// Reads a program and then a feed, and writes the profile of some steps, as `cover_program` does; and tells after each 2^20 steps
-/// how many were made, as `run_and_tell` does.
-pub fn cover_and_tell<P: Read, F: Read, W: Write, T: Write>(
-    alloc: Global,
+    notation: Notation,
     origin: Origin,
     program: &mut P,
     feed: &mut F,
@@ -56,35 +43,64 @@ pub fn cover_and_tell<P: Read, F: Read, W: Write, T: Write>(
     progress: &mut T,
 ) -> Result<(), WorkshopFault>
     requires { steps ≤ 2 ^ 40 - 2 }
-    ensures covers { Covers origin steps
+    ensures covers { Covers notation origin steps
         (record { files = record { program = reader P.told P.left P.failures program.old; feed = reader F.told F.left F.failures feed.old }; out = writer W.told W.written W.failures out.old })
         (record { files = record { program = reader P.told P.left P.failures program.new; feed = reader F.told F.left F.failures feed.new }; out = writer W.told W.written W.failures out.new }) result }
     ensures progress { TellsProfile steps (writer T.told T.written T.failures progress.old) (writer T.told T.written T.failures progress.new) result }
 {
-    let (rope, rows) = read_subject(alloc, origin, program)?;
+    let (rope, rows) = read_subject(alloc, notation, origin, program)?;
     let mut processor = Processor::new(rope, read_feed(alloc, feed)?);
-    cover(alloc, &rows, &mut processor, steps, out, progress)
+    cover(alloc, notation, &rows, &mut processor, steps, out, progress)
 }
 
 /// Reads the words of a program, and what is shown of it.
-fn read_subject<P: Read>(
+pub(crate) fn read_subject<P: Read>(
     alloc: Global,
+    notation: Notation,
     origin: Origin,
     program: &mut P,
 ) -> Result<(Rope, Shown), WorkshopFault>
-    ensures { Reads (ReadsSubject origin)
+    ensures { Reads (ReadsSubject notation origin)
         (reader P.told P.left P.failures program.old) (reader P.told P.left P.failures program.new) result }
 {
     match origin {
-        Origin::Source(language) => {
-            let (rope, rows) = read_program(alloc, language, program)?.split_rows();
-            Ok((rope, Shown::Source(rows)))
-        }
+        Origin::Source(language) => read_source(alloc, notation, language, program),
         Origin::Image(version) => {
             let rope = Rope::read(alloc, program, version)?;
             Ok((rope, Shown::Image(None)))
         }
         Origin::NamedImage(version, names) => read_named_image(alloc, version, names, program),
+    }
+}
+
+/// Reads a source of a language, with the names that are shown of its places.
+fn read_source<P: Read>(
+    alloc: Global,
+    notation: Notation,
+    language: Language,
+    program: &mut P,
+) -> Result<(Rope, Shown), WorkshopFault>
+    ensures { Reads (λ old new. ReadsText (subject_of notation (assembled language old)) old new)
+        (reader P.told P.left P.failures program.old) (reader P.told P.left P.failures program.new) result }
+{
+    let (rope, symbols, rows) = read_program(alloc, language, program)?.split_all();
+    let Ok(names) = names_shown(alloc, notation, symbols) else {
+        return Err(WorkshopFault::NoMemory);
+    };
+    Ok((rope, Shown::Source(rows, names)))
+}
+
+/// The names that are shown of a source's places. An `Err` is that memory ran out.
+fn names_shown(
+    alloc: Global,
+    notation: Notation,
+    symbols: Symbols,
+) -> Result<Option<PlaceNames>, AllocError>
+    ensures { IfOk result (λ names. names ≡ names_shown notation symbols) }
+{
+    match notation {
+        Notation::Text => Ok(None),
+        Notation::Json => Ok(Some(PlaceNames::new(alloc, symbols)?)),
     }
 }
 
@@ -108,6 +124,7 @@ fn read_named_image<P: Read>(
 /// Makes some steps from the start, and writes their profile.
 fn cover<W: Write, T: Write>(
     alloc: Global,
+    notation: Notation,
     rows: &Shown,
     processor: &mut Processor,
     steps: u64,
@@ -115,7 +132,7 @@ fn cover<W: Write, T: Write>(
     progress: &mut T,
 ) -> Result<(), WorkshopFault>
     requires { steps ≤ 2 ^ 40 - 2 }
-    ensures covers { CoversRun rows.now processor.old.scenario steps
+    ensures covers { CoversRun notation rows.now processor.old.scenario steps
         (writer W.told W.written W.failures out.old) (writer W.told W.written W.failures out.new) result }
     ensures progress { TellsProfile steps (writer T.told T.written T.failures progress.old) (writer T.told T.written T.failures progress.new) result }
 {
@@ -127,24 +144,27 @@ fn cover<W: Write, T: Write>(
         count: steps,
         cycles,
     };
-    write_profile(&tally, total, processor.rope(), rows, out)?;
+    write_profile(notation, &tally, total, processor.rope(), rows, out)?;
     Ok(())
 }
 
 /// Writes a profile: of a source its rows, of an image its words.
 fn write_profile<W: Write>(
+    notation: Notation,
     tally: &Tally,
     total: Figures,
     rope: &Rope,
     rows: &Shown,
     out: &mut W,
 ) -> Result<(), WriteFailed>
-    ensures written { W.told ≡ true → Writes (W.written out.old) (W.written out.new) (profile_text (figures_at tally.now) total rope.now rows.now) result }
+    ensures written { W.told ≡ true → Writes (W.written out.old) (W.written out.new) (profile_text notation (figures_at tally.now) total rope.now rows.now) result }
     ensures failures { W.failures out.new ≡ failures_after (W.failures out.old) result }
 {
     match rows {
-        Shown::Source(rows) => write_source_profile(tally, total, rope, rows, out),
-        Shown::Image(names) => write_image_profile(tally, total, rope, names, out),
+        Shown::Source(rows, names) => {
+            write_source_profile(notation, names, tally, total, rope, rows, out)
+        }
+        Shown::Image(names) => write_image_profile(notation, tally, total, rope, names, out),
     }
 }
 

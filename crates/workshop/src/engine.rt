@@ -2,6 +2,7 @@
 
 ghost use Rattle.std.specs.Prelude.{◌≡◌, ◌+◌, ◌-◌, ◌≤◌, ◌<◌, ◌^◌, true, false, length, IfOk, IfErr, IsErr, OnOk};
 ghost use Rattle.std.specs.Bool.{OnTrue, OnFalse};
+ghost use Rattle.std.specs.Option.{option_to_list};
 ghost use Rattle.words.specs.Devices.{Writes, failures_after};
 ghost use Rattle.cpu.specs.ChannelLines.{channel_line, channel_lines};
 ghost use Rattle.workshop.specs.Failures.{reader, writer};
@@ -164,8 +165,9 @@ fn run<W: Write, T: Write>(
     while done < steps {
         let stop = steps.min(done + STEPS_BETWEEN_FLUSHES);
         while done < stop {
-            step_and_write(processor, &mut machine, &mut outputs, out)?;
-            done += 1;
+            let (to, put) = processor.run_on(&mut machine, done, stop);
+            write_put(put, &mut outputs, out)?;
+            done = to;
         }
         hand_on(out)?;
         told = tell(told, done, progress);
@@ -192,7 +194,6 @@ pub(crate) fn hand_on<W: Write>(out: &mut W) -> Result<(), WriteFailed>
 
 /// Makes a step, writes the line of what it puts out, and counts it among the lines.
 #[inline(always)]
-#[tactic(auto, using(crate::proofs::RunSteps::lines_of_none, crate::proofs::RunSteps::lines_of_one))]
 pub(crate) fn step_and_write<W: Write>(
     processor: &mut Processor,
     machine: &mut Machine,
@@ -211,7 +212,20 @@ pub(crate) fn step_and_write<W: Write>(
     ensures failures { W.failures out.new ≡ failures_after (W.failures out.old) result }
     ensures meter { processor.new.meter ≤ processor.old.meter + 1 }
 {
-    match processor.step(machine) {
+    write_put(processor.step(machine), lines, out)
+}
+
+/// Writes the line of what a step has put out, and counts it among the lines.
+#[inline(always)]
+#[tactic(auto, using(crate::proofs::RunSteps::lines_of_none, crate::proofs::RunSteps::lines_of_one))]
+fn write_put<W: Write>(put: Option<Output>, lines: &mut u64, out: &mut W) -> Result<(), WriteFailed>
+    requires room { lines.old < 2 ^ 63 }
+    ensures count { OnOk result (lines.new ≡ lines.old + length (option_to_list put)) }
+    ensures at_most_one { OnOk result (lines.new ≤ lines.old + 1) }
+    ensures written { W.told ≡ true → Writes (W.written out.old) (W.written out.new) (channel_lines (option_to_list put)) result }
+    ensures failures { W.failures out.new ≡ failures_after (W.failures out.old) result }
+{
+    match put {
         Some(output) => {
             write_output(output.cycles, output.channel, output.word, out)?;
             *lines += 1;

@@ -1,13 +1,19 @@
 //! The engines of the programs: from the bytes of sources and feeds to the bytes that go out.
 #![tactic(auto)]
 
+mod accessing;
+mod aligning;
 mod assembly;
 mod checking;
 mod commands_end;
 mod covering;
+mod crossing;
 mod debugging;
+mod delaying;
+mod differing;
 mod ending;
 mod engine;
+mod expecting;
 mod fault;
 mod inputs;
 pub mod laws;
@@ -15,35 +21,54 @@ mod naming;
 mod noting;
 mod origin;
 mod progress;
+mod reaching;
 mod refused;
 mod ropes;
+mod run_reaching;
 mod tracing;
+mod trying;
 
+pub use accessing::access_program;
+pub use aligning::{align_engine, carry_engine, find_engine};
 pub use assembly::{asm_engine, asm_with_check_words, report_no_room};
+pub use audit::{Layout, arranged};
 pub use checking::{Tally, check_feed, check_source, unread_text, write_tally};
 pub use commands_end::{Counted, tell_commands_end};
-pub use covering::{cover_and_tell, cover_program};
+pub use covering::cover_program;
+pub use crossing::xref_engine;
 pub use debugger::{debug_session, extended_session};
 pub use debugging::{
     Opened, debug_engine, debug_extended, debug_image_engine, debug_program, follow_source,
     open_program, open_session,
 };
+pub use delaying::delays_program;
+pub use differing::differ_program;
 pub use ending::write_end;
 pub use engine::{
     MOST_STEPS, Summary, may_run, run_and_tell, run_engine, run_image_engine, run_program,
 };
+pub use expect::{Asked, Expectation, Refusal as TextRefusal, expectation_in};
+pub use expecting::{Judged, judge_program};
 pub use fault::{WorkshopFault, report};
-pub use faults::{Refusal, all_headings, explanation, refusal_of, warning_explanation, warning_of};
-pub use naming::read_names;
+pub use faults::{
+    NoteKind, Refusal, all_headings, explanation, near_in, note_explanation, note_kind, refusal_of,
+    warning_explanation, warning_of,
+};
+pub use naming::{named_source_engine, read_names};
 pub use noting::run_with_notes;
 pub use origin::Origin;
 pub use progress::Unheard;
+pub use reaching::reach_program;
 pub use refused::report_where;
 pub use rope::{Form, InForm, Version};
 pub use ropes::{
-    Compared, compare_engine, compare_only_engine, form_sums_engine, named_words_engine,
-    parity_engine, source_engine, sums_engine, upgrade_engine, words_engine,
+    Compared, compare_engine, compare_only_engine, damages_engine, form_sums_engine, mended_engine,
+    named_words_engine, octals_engine, parity_engine, source_engine, sums_engine, upgrade_engine,
+    words_engine,
 };
+pub use run_reaching::reach_run;
+pub use say::LineForm;
 pub use space::Bank;
-pub use tracing::{trace_and_tell, trace_program};
+pub use tracing::trace_program;
+pub use trying::{read_trials, try_program};
 pub use yayul::{Language, Symbols};

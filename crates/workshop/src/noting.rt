@@ -10,7 +10,8 @@ ghost use Rattle.workshop.specs.Notings.{EndsNoted, ReadsNamed, ReadsNamedImage,
 ghost use Rattle.workshop.specs.NotedProgress.{TellsNoted, TellsRead};
 ghost use Rattle.workshop.specs.Progress.{TellsWritten, run_text};
 ghost use Rattle.workshop.specs.Runs.{Makes, summary_of};
-ghost use Rattle.cpu.specs.State.{Scenario};
+ghost use Rattle.cpu.specs.Run.{run};
+ghost use Rattle.cpu.specs.State.{Scenario, start};
 
 use crate::engine::{STEPS_BETWEEN_FLUSHES, Summary, hand_on, step_and_write};
 use crate::fault::WorkshopFault;
@@ -18,6 +19,7 @@ use crate::inputs::{read_feed, read_program};
 use crate::origin::Origin;
 use crate::progress::tell;
 use cpu::{Machine, Processor};
+use json_text::Notation;
 use notes::{Notebook, write_notes};
 use rope::{Rope, Version};
 use space::Eras;
@@ -35,12 +37,14 @@ pub(crate) struct NamedCode {
 }
 
 /// Reads a program and then a feed, and runs the program for some steps, as `run_and_tell` does; and writes then what has happened
-/// in these steps that is seldom meant, as `NOTE QUOTIENT   02,4004  10100  DV D               STEP 5 CYCLES 13 TIMES 1`.
+/// in these steps that is seldom meant, as `NOTE QUOTIENT   02,4004  10100  DV D               STEP 5 CYCLES 13 TIMES 1`, or as
+/// JSON in an object.
 ///
-/// Memory for the notes is taken once, before the first step. The steps are made twice: for the notes once more. Where the run
-/// breaks off no note is written; after a write of them that failed a beginning of them stands.
+/// Memory for the notes is taken once, before the first step. For the text of the notes steps are made again, up to the last in which
+/// something has happened for the first time at its place. Where the run breaks off no note is written; after a write of them that failed a beginning of them stands.
 pub fn run_with_notes<P: Read, F: Read, W: Write, T: Write, N: Write>(
     alloc: Global,
+    notation: Notation,
     origin: Origin,
     program: &mut P,
     feed: &mut F,
@@ -50,7 +54,7 @@ pub fn run_with_notes<P: Read, F: Read, W: Write, T: Write, N: Write>(
     notes: &mut N,
 ) -> Result<Summary, WorkshopFault>
     requires { steps ≤ 2 ^ 40 - 2 }
-    ensures runs { RunsNoted origin steps
+    ensures runs { RunsNoted notation origin steps
         (record { files = record { program = reader P.told P.left P.failures program.old; feed = reader F.told F.left F.failures feed.old }; texts = record { out = writer W.told W.written W.failures out.old; notes = writer N.told N.written N.failures notes.old } })
         (record { files = record { program = reader P.told P.left P.failures program.new; feed = reader F.told F.left F.failures feed.new }; texts = record { out = writer W.told W.written W.failures out.new; notes = writer N.told N.written N.failures notes.new } }) result }
     ensures handed_on { W.told ≡ true → 0 < steps → OnOk result (W.handed_on out.new ≡ W.written out.new) }
@@ -70,6 +74,7 @@ pub fn run_with_notes<P: Read, F: Read, W: Write, T: Write, N: Write>(
     };
     let mut processor = Processor::new(code.rope, feed);
     run_then_note(
+        notation,
         &mut processor,
         &names,
         &mut notebook,
@@ -139,6 +144,7 @@ fn read_named_source<P: Read>(
 
 /// Makes some steps from the start, and then writes their notes: at most twice as many are made.
 fn run_then_note<W: Write, T: Write, N: Write>(
+    notation: Notation,
     processor: &mut Processor,
     names: &PlaceNames,
     notebook: &mut Notebook,
@@ -149,7 +155,7 @@ fn run_then_note<W: Write, T: Write, N: Write>(
 ) -> Result<Summary, WorkshopFault>
     requires few { steps ≤ 2 ^ 40 - 2 }
     requires none { (scenario : Scenario) → Counted notebook.old.named scenario 0 notebook.old }
-    ensures ends { EndsNoted (notes_text names.now notebook.old.named processor.old.scenario steps) processor.old.scenario steps
+    ensures ends { EndsNoted (notes_text notation names.now notebook.old.named processor.old.scenario steps) processor.old.scenario steps
         (record { out = writer W.told W.written W.failures out.old; notes = writer N.told N.written N.failures notes.old })
         (record { out = writer W.told W.written W.failures out.new; notes = writer N.told N.written N.failures notes.new }) result }
     ensures handed_on { W.told ≡ true → 0 < steps → OnOk result (W.handed_on out.new ≡ W.written out.new) }
@@ -158,14 +164,16 @@ fn run_then_note<W: Write, T: Write, N: Write>(
         (record { out = writer W.told W.written W.failures out.new; progress = writer T.told T.written T.failures progress.new }) result }
     ensures meter { processor.new.meter ≤ processor.old.meter + 2 * steps }
 {
-    let summary = run_noting(processor, notebook, steps, out, progress)?;
-    write_notes(notebook, names, processor, steps, notes)?;
+    let mut machine = Machine::start();
+    let summary = run_noting(processor, &mut machine, notebook, steps, out, progress)?;
+    write_notes(notation, notebook, names, processor, &machine, steps, notes)?;
     Ok(summary)
 }
 
 /// Makes some steps from the start, notes what happens in each, and writes the lines of what they put out, as a run without notes does.
 fn run_noting<W: Write, T: Write>(
     processor: &mut Processor,
+    machine: &mut Machine,
     notebook: &mut Notebook,
     steps: u64,
     out: &mut W,
@@ -173,9 +181,11 @@ fn run_noting<W: Write, T: Write>(
 ) -> Result<Summary, WorkshopFault>
     requires few { steps ≤ 2 ^ 40 - 2 }
     requires none { (scenario : Scenario) → Counted notebook.old.named scenario 0 notebook.old }
+    requires start { machine.old ≡ start }
     ensures makes { Makes processor.old.scenario steps
         (writer W.told W.written W.failures out.old) (writer W.told W.written W.failures out.new) result }
     ensures scenario { processor.new.scenario ≡ processor.old.scenario }
+    ensures end { OnOk result (machine.new ≡ run processor.old.scenario steps) }
     ensures named { OnOk result (notebook.new.named ≡ notebook.old.named) }
     ensures counted { OnOk result (Counted notebook.new.named processor.old.scenario steps notebook.new) }
     ensures summary { IfOk result (λ summary. summary ≡ summary_of processor.old.scenario steps) }
@@ -185,15 +195,14 @@ fn run_noting<W: Write, T: Write>(
         (record { out = writer W.told W.written W.failures out.new; progress = writer T.told T.written T.failures progress.new }) result }
     ensures meter { processor.new.meter ≤ processor.old.meter + steps }
 {
-    let mut machine = Machine::start();
     let mut outputs = 0;
     let mut told = Ok(());
     let mut done = 0;
     while done < steps {
         let stop = steps.min(done + STEPS_BETWEEN_FLUSHES);
         while done < stop {
-            notebook.note(processor, &machine);
-            step_and_write(processor, &mut machine, &mut outputs, out)?;
+            notebook.note(processor, machine);
+            step_and_write(processor, machine, &mut outputs, out)?;
             done += 1;
         }
         hand_on(out)?;

@@ -2,19 +2,20 @@
 
 ghost use Rattle.std.specs.Prelude.{ℕ, List};
 ghost use Rattle.audit.specs.FormSums.{form_lines};
+ghost use Rattle.audit.specs.Octals.{octals_text};
 ghost use Rattle.audit.specs.SourceLines.{source_text};
 ghost use Rattle.audit.specs.Sums.{sum_lines};
 ghost use Rattle.audit.specs.WordLines.{word_lines};
 ghost use Rattle.names.specs.NamedLines.{named_lines};
 ghost use Rattle.rope.specs.Image.{image};
 ghost use Rattle.workshop.specs.Failures.{Reader, reader, writer};
-ghost use Rattle.workshop.specs.Ropes.{Compares, ComparesNext, ComparesOnly, Shows, TellsParity};
+ghost use Rattle.workshop.specs.Ropes.{Compares, ComparesNext, ComparesOnly, Shows, ShowsMended, TellsDamages, TellsParity};
 
 use crate::fault::WorkshopFault;
 use crate::inputs::read_program;
 use audit::{
-    Extent, write_differences, write_form_sums, write_parities, write_source, write_sums,
-    write_words,
+    Extent, write_damages, write_differences, write_form_sums, write_mended, write_octals,
+    write_parities, write_source, write_sums, write_words,
 };
 use names::write_named_words;
 use rope::{Dump, Rope, Version};
@@ -92,6 +93,24 @@ pub fn source_engine<R: Read, W: Write>(
 {
     let rope = Rope::read(alloc, image, version)?;
     Ok(write_source(&rope, bank, out)?)
+}
+
+/// Reads a rope image of a version to its end, and writes a text of octal words of a bank, or of all banks.
+///
+/// The first fault of the image is answered, and then nothing is written.
+pub fn octals_engine<R: Read, W: Write>(
+    alloc: Global,
+    image: &mut R,
+    version: Version,
+    bank: Option<Bank>,
+    out: &mut W,
+) -> Result<(), WorkshopFault>
+    ensures { Shows version (λ words. octals_text words bank)
+        (record { image = reader R.told R.left R.failures image.old; out = writer W.told W.written W.failures out.old })
+        (record { image = reader R.told R.left R.failures image.new; out = writer W.told W.written W.failures out.new }) result }
+{
+    let rope = Rope::read(alloc, image, version)?;
+    Ok(write_octals(&rope, bank, out)?)
 }
 
 /// Reads a rope image of a version to its end, and writes a line for each bank: its number, and the sum of its words.
@@ -210,4 +229,39 @@ pub fn parity_engine<R: Read, W: Write>(
 {
     let bytes = Dump::read(alloc, image)?;
     Ok(write_parities(&bytes, out)?)
+}
+
+/// Reads the bytes of a rope image to their end, and writes what is damaged in it, bank by bank: what the words, their
+/// parities and the sums tell together. Then it writes of how many banks it told, the parity of the whole image counted as
+/// one, and answers that.
+///
+/// An image that is short or long is refused, and then nothing is written.
+pub fn damages_engine<R: Read, W: Write>(
+    alloc: Global,
+    image: &mut R,
+    out: &mut W,
+) -> Result<u32, WorkshopFault>
+    ensures { TellsDamages
+        (record { image = reader R.told R.left R.failures image.old; out = writer W.told W.written W.failures out.old })
+        (record { image = reader R.told R.left R.failures image.new; out = writer W.told W.written W.failures out.new }) result }
+{
+    let bytes = Dump::read(alloc, image)?;
+    Ok(write_damages(&bytes, out)?)
+}
+
+/// Reads the bytes of a rope image to their end, and writes a source that gives its words: where one bit alone can have been wrong
+/// in a bank's words of wrong parity, by its sum, with that bit turned.
+///
+/// An image that is short or long is refused, and then nothing is written.
+pub fn mended_engine<R: Read, W: Write>(
+    alloc: Global,
+    image: &mut R,
+    out: &mut W,
+) -> Result<(), WorkshopFault>
+    ensures { ShowsMended
+        (record { image = reader R.told R.left R.failures image.old; out = writer W.told W.written W.failures out.old })
+        (record { image = reader R.told R.left R.failures image.new; out = writer W.told W.written W.failures out.new }) result }
+{
+    let bytes = Dump::read(alloc, image)?;
+    Ok(write_mended(&bytes, out)?)
 }

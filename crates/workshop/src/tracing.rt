@@ -4,7 +4,7 @@ ghost use Rattle.std.specs.Prelude.{◌≡◌, ◌+◌, ◌-◌, ◌≤◌, ◌<
 ghost use Rattle.words.specs.Devices.{Writes, failures_after};
 ghost use Rattle.cpu.specs.Next.{next};
 ghost use Rattle.cpu.specs.State.{FitsRun};
-ghost use Rattle.trace.specs.TraceLines.{line_from, trace_lines};
+ghost use Rattle.say.specs.Said.{told_from, told_lines};
 ghost use Rattle.workshop.specs.Failures.{reader, writer};
 ghost use Rattle.workshop.specs.Progress.{TellsLoaded, TellsWritten, traced_text};
 ghost use Rattle.workshop.specs.Ropes.{WritesText};
@@ -14,63 +14,38 @@ use crate::engine::{STEPS_BETWEEN_FLUSHES, hand_on};
 use crate::fault::WorkshopFault;
 use crate::inputs::load;
 use crate::origin::Origin;
-use crate::progress::{Unheard, tell};
+use crate::progress::tell;
 use cpu::{Machine, Processor};
+use say::{LineForm, tell_step};
 use std::alloc::Global;
-use trace::{PlaceNames, trace_step};
+use trace::PlaceNames;
 use words::{Read, Write, WriteFailed};
 
-/// Reads a program and then a feed, makes some steps, and writes a line for each of them from a first one on, as
-/// `1        2        02,4000  34005  CA FIVE            A=000005`: the step, the cycles after it, what it is, what it has written,
-/// and the channel line of what it puts out.
+/// Reads a program and then a feed, makes some steps, and writes a line for each of them from a first one on, in a form, as
+/// `1        2        02,4000  34005  CA FIVE            A=000005`: the step, the cycles after it, what it is, what it has read, where
+/// that is shown, what it has written, and the channel line of what it puts out; or its sentence.
 ///
 /// The first fault of the program is answered, else that of the feed, and then nothing is written. After a write that failed a
 /// beginning of the lines was written. Lines are handed on while it goes, and all of them where it has made its steps.
-pub fn trace_program<P: Read, F: Read, W: Write>(
+///
+/// It is told after each 2^20 steps how many were made, as `run_and_tell` tells it.
+pub fn trace_program<P: Read, F: Read, W: Write, T: Write>(
     alloc: Global,
     origin: Origin,
     program: &mut P,
     feed: &mut F,
-    first: u64,
-    steps: u64,
-    out: &mut W,
-) -> Result<(), WorkshopFault>
-    requires { steps ≤ 2 ^ 40 - 2 }
-    ensures traces { Traces origin first steps
-        (record { files = record { program = reader P.told P.left P.failures program.old; feed = reader F.told F.left F.failures feed.old }; out = writer W.told W.written W.failures out.old })
-        (record { files = record { program = reader P.told P.left P.failures program.new; feed = reader F.told F.left F.failures feed.new }; out = writer W.told W.written W.failures out.new }) result }
-    ensures handed_on { W.told ≡ true → 0 < steps → OnOk result (W.handed_on out.new ≡ W.written out.new) }
-{
-    trace_and_tell(
-        alloc,
-        origin,
-        program,
-        feed,
-        first,
-        steps,
-        out,
-        &mut Unheard,
-    )
-}
-
-/// Reads a program and then a feed, and writes a line for each of some steps, as `trace_program` does; and tells after each 2^20
-/// steps how many were made, as `run_and_tell` does.
-pub fn trace_and_tell<P: Read, F: Read, W: Write, T: Write>(
-    alloc: Global,
-    origin: Origin,
-    program: &mut P,
-    feed: &mut F,
+    form: LineForm,
     first: u64,
     steps: u64,
     out: &mut W,
     progress: &mut T,
 ) -> Result<(), WorkshopFault>
     requires { steps ≤ 2 ^ 40 - 2 }
-    ensures traces { Traces origin first steps
+    ensures traces { Traces form origin first steps
         (record { files = record { program = reader P.told P.left P.failures program.old; feed = reader F.told F.left F.failures feed.old }; out = writer W.told W.written W.failures out.old })
         (record { files = record { program = reader P.told P.left P.failures program.new; feed = reader F.told F.left F.failures feed.new }; out = writer W.told W.written W.failures out.new }) result }
     ensures handed_on { W.told ≡ true → 0 < steps → OnOk result (W.handed_on out.new ≡ W.written out.new) }
-    ensures progress { TellsLoaded (traced_text first) origin steps
+    ensures progress { TellsLoaded (traced_text form first) origin steps
         (record { program = reader P.told P.left P.failures program.old; feed = reader F.told F.left F.failures feed.old })
         (record { program = reader P.told P.left P.failures program.new; feed = reader F.told F.left F.failures feed.new })
         (record { out = writer W.told W.written W.failures out.old; progress = writer T.told T.written T.failures progress.old })
@@ -81,11 +56,12 @@ pub fn trace_and_tell<P: Read, F: Read, W: Write, T: Write>(
         return Err(WorkshopFault::NoMemory);
     };
     let mut processor = Processor::new(loaded.rope, loaded.feed);
-    trace(&names, &mut processor, first, steps, out, progress)
+    trace(form, &names, &mut processor, first, steps, out, progress)
 }
 
 /// Makes some steps from the start, and writes the lines of those from a first one on. Lines are handed on while it goes.
 fn trace<W: Write, T: Write>(
+    form: LineForm,
     names: &PlaceNames,
     processor: &mut Processor,
     first: u64,
@@ -94,10 +70,10 @@ fn trace<W: Write, T: Write>(
     progress: &mut T,
 ) -> Result<(), WorkshopFault>
     requires { steps ≤ 2 ^ 40 - 2 }
-    ensures writes { WritesText (trace_lines names.now processor.old.scenario first steps)
+    ensures writes { WritesText (told_lines form names.now processor.old.scenario first steps)
         (writer W.told W.written W.failures out.old) (writer W.told W.written W.failures out.new) result }
     ensures handed_on { W.told ≡ true → 0 < steps → OnOk result (W.handed_on out.new ≡ W.written out.new) }
-    ensures progress { TellsWritten (trace_lines names.now processor.old.scenario first) steps
+    ensures progress { TellsWritten (told_lines form names.now processor.old.scenario first) steps
         (record { out = writer W.told W.written W.failures out.old; progress = writer T.told T.written T.failures progress.old })
         (record { out = writer W.told W.written W.failures out.new; progress = writer T.told T.written T.failures progress.new }) result }
 {
@@ -107,7 +83,7 @@ fn trace<W: Write, T: Write>(
     while done < steps {
         let stop = steps.min(done + STEPS_BETWEEN_FLUSHES);
         while done < stop {
-            step_and_trace(names, processor, &mut machine, first, done + 1, out)?;
+            step_and_trace(form, names, processor, &mut machine, first, done + 1, out)?;
             done += 1;
         }
         hand_on(out)?;
@@ -118,6 +94,7 @@ fn trace<W: Write, T: Write>(
 
 /// Makes a step, and writes its line where lines are written from there on.
 fn step_and_trace<W: Write>(
+    form: LineForm,
     names: &PlaceNames,
     processor: &mut Processor,
     machine: &mut Machine,
@@ -130,12 +107,12 @@ fn step_and_trace<W: Write>(
     ensures scenario { processor.new.scenario ≡ processor.old.scenario }
     ensures state { machine.new ≡ (next processor.old.scenario machine.old).0 }
     ensures written { W.told ≡ true →
-        Writes (W.written out.old) (W.written out.new) (line_from names.now processor.old.scenario first number machine.old) result }
+        Writes (W.written out.old) (W.written out.new) (told_from form names.now processor.old.scenario first number machine.old) result }
     ensures failures { W.failures out.new ≡ failures_after (W.failures out.old) result }
 {
     if number < first {
         processor.step(machine);
         return Ok(());
     }
-    trace_step(names, processor, machine, number, out)
+    tell_step(form, names, processor, machine, number, out)
 }

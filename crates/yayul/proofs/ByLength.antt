@@ -2,7 +2,6 @@ use Rattle.std.proofs.Common.{◌≡◌, ◌==◌, ◌<◌, ◌&&◌, ℕ, Bool,
 use Rattle.std.specs.List.{list_all}
 use Rattle.std.proofs.lemmas.Bool.{cases_Bool, and_parts, eqb-true, eqb-false, ltb-true}
 use Rattle.agc_text.specs.Tables.{same_name, value_in}
-use Rattle.yayul.specs.Operators.{operators}
 use Rattle.symbols.proofs.Names.{same_length}
 
 -- a name is looked up among the rows of its own length
@@ -25,7 +24,7 @@ abbrev fits_a_field : List ℕ → Bool
 fits_a_field name = nat_lt 0 (length name) && nat_lt (length name) 7
 
 -- no name of 1 to 6 characters has another length
-none_of_length : {V : Type 0} (count : ℕ) (table : List (List ℕ × V)) → list_all (λ row. fits_a_field row.0) table ≡ true → (0 < count → count < 7 → ⊥) → filter (λ row. length row.0 == count) table ≡ []
+pub none_of_length : {V : Type 0} (count : ℕ) (table : List (List ℕ × V)) → list_all (λ row. fits_a_field row.0) table ≡ true → (0 < count → count < 7 → ⊥) → filter (λ row. length row.0 == count) table ≡ []
 none_of_length count [] fit outside = refl
 none_of_length count (row ∷ rows) fit outside =
     let parts = and_parts (fits_a_field row.0) (list_all (λ row. fits_a_field row.0) rows) fit in
@@ -38,8 +37,3 @@ none_of_length count (row ∷ rows) fit outside =
           outside (omega arith) (omega arith))
       | inr differs ↦ rw differs (none_of_length count rows parts.1 outside)
     ]
-
--- no operator has a name of another length than 1 to 6
-pub no_operator_of_length : (count : ℕ) → (0 < count → count < 7 → ⊥) → filter (λ row. length row.0 == count) operators ≡ []
-unfolding operators
-no_operator_of_length count outside = none_of_length count operators refl outside

@@ -12,13 +12,16 @@ pub operators_fit : (name : List ℕ) → IfSome (value_in operators name) (λ o
 unfolding operators
 operators_fit name = value_in-all has_room operators name refl
 
+pub operator_fits : (name : List ℕ) (operator : Operator) → Some operator ≡ value_in operators name → has_room operator ≡ true
+operator_fits name operator e = subst (λ o. IfSome o (λ operator. has_room operator ≡ true)) (sym e) (operators_fit name)
+
 -- so have those of each operator that the language of flight programs has of its own
 own_fit : (name : List ℕ) → IfSome (value_in flight_operators name) (λ operator. flight_has_room operator ≡ true)
 unfolding flight_operators
 own_fit name = value_in-all flight_has_room flight_operators name refl
 
-pub own_fits : (name : List ℕ) (table : List (List ℕ × FlightOperator)) (own : FlightOperator) → table ≡ flight_operators → Some own ≡ value_in table name → flight_has_room own ≡ true
-own_fits name table own e f = subst (λ o. IfSome o (λ operator. flight_has_room operator ≡ true)) (sym (f ∙ ap (λ t. value_in t name) e)) (own_fit name)
+pub own_fits : (name : List ℕ) (own : FlightOperator) → Some own ≡ value_in flight_operators name → flight_has_room own ≡ true
+own_fits name own e = subst (λ o. IfSome o (λ operator. flight_has_room operator ≡ true)) (sym e) (own_fit name)
 
 -- the operator of a name's own row, else that of the standard language
 pub own_or_standard : (name : List ℕ) (own : Option FlightOperator) (standard : Option Operator) → own ≡ value_in flight_operators name → standard ≡ value_in operators name

@@ -300,7 +300,7 @@ module _ (language : Language) (source : List ℕ) where
   whole = settled_survey (passed_lines 1 (unmarked language) (looked_at language source))
 
   abbrev IsSo : Finding → Type 0
-  IsSo f = f.number ≡ fault_number UsedTooEarly → NamesNoneAbove language source f.line
+  IsSo f = fault_number f.kind ≡ fault_number UsedTooEarly → NamesNoneAbove language source f.line
 
   module _ (done texts : List (List ℕ)) (text : List ℕ) (line : ℕ) (all : looked_at language source ≡ done ++ text ∷ texts) (at : line ≡ length done + 1) where
     abbrev s : Survey

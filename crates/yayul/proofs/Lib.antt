@@ -1,5 +1,6 @@
 mod ByLength
 mod Codes
+mod Columns
 mod Fields
 mod Rows
 mod FlightRows

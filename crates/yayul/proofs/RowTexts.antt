@@ -7,7 +7,7 @@ use Rattle.rope.specs.Places.{Words}
 use Rattle.words.specs.Devices.{WritesBeginning}
 use Rattle.words.proofs.Texts.{append-then, beginning-after, beginning-along}
 use Rattle.yayul.specs.Layout.{statement_on, Layout, line_effect}
-use Rattle.yayul.specs.Listing.{Margin, line_rows, rows, shown}
+use Rattle.yayul.specs.Listing.{LineText, rows, shown}
 use Rattle.yayul.specs.Inside.Representation.{shown_by_mark, lines_show, rows_of}
 use Rattle.yayul.specs.declared.mark.Mark.{Mark}
 
@@ -39,22 +39,22 @@ pub front-ends : (a b text left : List ℕ) → IsFront a b text left → left �
 front-ends a b text left p e = p.appended ∙ ap (λ (t : List ℕ). a ++ t) (sym (p.whole ∙ ap (λ (t : List ℕ). p.done ++ t) e ∙ append-nil p.done))
 
 -- the rows of one line more
-pub rows-more : (margin : Margin) (line : ℕ) (words : Words) (texts : List (List ℕ)) (text : List ℕ) (after : List (List ℕ)) (marks : List Mark) (mark : Mark) (more : List Mark)
+pub rows-more : (of_line : LineText) (line : ℕ) (words : Words) (texts : List (List ℕ)) (text : List ℕ) (after : List (List ℕ)) (marks : List Mark) (mark : Mark) (more : List Mark)
     → texts ≡ text ∷ after → marks ≡ mark ∷ more
-    → rows_of margin line words texts (map shown_by_mark marks) ≡ line_rows margin line words text (shown_by_mark mark) ++ rows_of margin (line + 1) words after (map shown_by_mark more)
-rows-more margin line words texts text after marks mark more e f =
-    ap (λ ts. rows_of margin line words ts (map shown_by_mark marks)) e ∙ ap (λ ms. rows_of margin line words (text ∷ after) (map shown_by_mark ms)) f
+    → rows_of of_line line words texts (map shown_by_mark marks) ≡ of_line line words text (shown_by_mark mark) ++ rows_of of_line (line + 1) words after (map shown_by_mark more)
+rows-more of_line line words texts text after marks mark more e f =
+    ap (λ ts. rows_of of_line line words ts (map shown_by_mark marks)) e ∙ ap (λ ms. rows_of of_line line words (text ∷ after) (map shown_by_mark ms)) f
 
 -- no rows without what lines show
-pub rows-no_marks : (margin : Margin) (line : ℕ) (words : Words) (texts : List (List ℕ)) (marks : List Mark) → marks ≡ [] → rows_of margin line words texts (map shown_by_mark marks) ≡ []
-rows-no_marks margin line words [] marks e = refl
-rows-no_marks margin line words (text ∷ texts) marks e = ap (λ ms. rows_of margin line words (text ∷ texts) (map shown_by_mark ms)) e
+pub rows-no_marks : (of_line : LineText) (line : ℕ) (words : Words) (texts : List (List ℕ)) (marks : List Mark) → marks ≡ [] → rows_of of_line line words texts (map shown_by_mark marks) ≡ []
+rows-no_marks of_line line words [] marks e = refl
+rows-no_marks of_line line words (text ∷ texts) marks e = ap (λ ms. rows_of of_line line words (text ∷ texts) (map shown_by_mark ms)) e
 
 -- the rows of lines, each with what it shows by the layout
-pub rows-shown : (margin : Margin) (line : ℕ) (s : Layout) (words : Words) (texts : List (List ℕ)) → rows_of margin line words texts (lines_show line s texts) ≡ rows margin line s words texts
-rows-shown margin line s words [] = refl
-rows-shown margin line s words (text ∷ texts) =
-    ap (λ more. line_rows margin line words text (shown s.location (statement_on s text)) ++ more) (rows-shown margin (line + 1) (line_effect line s text).after words texts)
+pub rows-shown : (of_line : LineText) (line : ℕ) (s : Layout) (words : Words) (texts : List (List ℕ)) → rows_of of_line line words texts (lines_show line s texts) ≡ rows of_line line s words texts
+rows-shown of_line line s words [] = refl
+rows-shown of_line line s words (text ∷ texts) =
+    ap (λ more. of_line line words text (shown s.location (statement_on s text)) ++ more) (rows-shown of_line (line + 1) (line_effect line s text).after words texts)
 
 -- the entries from one on
 pub from_entry : {A : Type 0} (xs : List A) (i : ℕ) (x : A) → slice_get xs i ≡ Some x → drop i xs ≡ x ∷ drop (i + 1) xs

@@ -8,7 +8,7 @@ use Rattle.yayul.specs.Language.{Flight, Standard}
 use Rattle.yayul.specs.Operators.{operators}
 use Rattle.yayul.specs.Forms.{statement_of}
 use Rattle.yayul.specs.Flight.{flight_operators, uncounted_statement}
-use Rattle.yayul.specs.Layout.{line_effect}
+use Rattle.yayul.specs.Layout.{fault_number, line_effect}
 use Rattle.yayul.specs.Words.{request_words, request_faults}
 use Rattle.yayul.specs.Mended.{given_by}
 use Rattle.yayul.specs.Survey.{passed_line, span_at, span_in, told}
@@ -20,7 +20,7 @@ source text = map (λ byte. if byte == 0o73 then 0o12 else byte) text
 
 -- the line of a finding, its column from 1, how many bytes it marks, and its number
 abbrev row : Finding → ℕ × ℕ × ℕ × ℕ
-row f = (f.line, f.span.start + 1, f.span.width, f.number)
+row f = (f.line, f.span.start + 1, f.span.width, fault_number f.kind)
 
 -- sources with what is told of them
 abbrev told_rows : List (List ℕ × List (ℕ × ℕ × ℕ × ℕ))
@@ -75,7 +75,7 @@ each_flight = refl
 
 -- of places that are taken, the line and that whose word stands there: the first word's, else the second's; an operand without a form takes nothing from its words
 abbrev taken_row : Finding → ℕ × ℕ × Option ℕ
-taken_row f = (f.line, f.number, f.taken_by)
+taken_row f = (f.line, fault_number f.kind, f.taken_by)
 
 abbrev taken_rows : List (List ℕ × List (ℕ × ℕ × Option ℕ))
 taken_rows =

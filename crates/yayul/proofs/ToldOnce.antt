@@ -54,7 +54,7 @@ on_line language line text taken (k ∷ kinds) = (refl, on_line language line te
 none_later : (f : Finding) (line : ℕ) (later : List Finding) → f.line ≡ line → StandFrom (line + 1) later → list_any (same_fault f) later ≡ false
 none_later f line [] here from = refl
 none_later f line (g ∷ later) here from =
-    ap (λ b. b || list_any (same_fault f) later) (and_left (g.line == f.line) (g.number == f.number) (ne_eqb g.line f.line (λ same. omega (arith, same, here, from.0))))
+    ap (λ b. b || list_any (same_fault f) later) (and_left (g.line == f.line) (fault_number g.kind == fault_number f.kind) (ne_eqb g.line f.line (λ same. omega (arith, same, here, from.0))))
     ∙ none_later f line later here from.1
 
 joined_once : (line : ℕ) (here later : List Finding) → StandOn line here → StandFrom (line + 1) later → StandEachOnce here → StandEachOnce later → StandEachOnce (here ++ later)

@@ -332,7 +332,7 @@ module _ (language : Language) (source : List ℕ) where
   last = passed_lines 1 (unmarked language) (looked_at language source)
 
   abbrev IsSo : Finding → Type 0
-  IsSo f = is_of_value f.number ≡ true → (name : List ℕ) → symbol_of (said_on language source f.line) ≡ Some name → IsGiven language source name
+  IsSo f = is_of_value (fault_number f.kind) ≡ true → (name : List ℕ) → symbol_of (said_on language source f.line) ≡ Some name → IsGiven language source name
 
   module _ (done texts : List (List ℕ)) (text : List ℕ) (line : ℕ) (all : looked_at language source ≡ done ++ text ∷ texts) (at : line ≡ length done + 1) where
     abbrev s : Survey

@@ -91,9 +91,9 @@ abbrev pub NamesStandOnce : Language → List ℕ → Type 0
 NamesStandOnce language source = IfOk (program language source) (λ p. StandOnce p.symbols)
 
 -- ## What is told
--- a finding tells a fault: it has its line and its number
+-- a finding tells a fault: it has its line and the number of its kind
 abbrev pub is_of : Fault → Finding → Bool
-is_of fault f = f.line == fault.line && f.number == fault.number
+is_of fault f = f.line == fault.line && fault_number f.kind == fault.number
 
 -- where a source assembles nothing is told, and where it is refused its fault is
 abbrev pub TellsOf : Result Program Fault → List Finding → Type 0
@@ -106,7 +106,7 @@ FindingsAgree language source = TellsOf (program language source) (told language
 
 -- a finding tells what another does
 abbrev pub same_fault : Finding → Finding → Bool
-same_fault a b = b.line == a.line && b.number == a.number
+same_fault a b = b.line == a.line && fault_number b.kind == fault_number a.kind
 
 -- no finding tells what one before it does
 abbrev pub StandEachOnce : List Finding → Type 0
@@ -145,7 +145,7 @@ is_of_own_address number operation =
 
 -- a fault that rests on where its line stands is told where that is known; and a line that a fault names stands above, where it is known too
 pub record IsSure (language : Language) (source : List ℕ) (f : Finding) : Type 0 where
-  pub own : (is_of_place f.number || is_of_own_address f.number (said_on language source f.line)) ≡ true → IsPlaced language source f.line
+  pub own : (is_of_place (fault_number f.kind) || is_of_own_address (fault_number f.kind) (said_on language source f.line)) ≡ true → IsPlaced language source f.line
   pub named : IfSome f.taken_by (λ line. (line < f.line) × IsPlaced language source line)
 
 -- each fault that is told of a source is sure
@@ -175,7 +175,7 @@ NamesNoLabel language source line = (name : List ℕ) × ((symbol_of (said_on la
 
 -- that no line defines a symbol is told only where none has it as its label
 abbrev pub UndefinedIsSure : Language → List ℕ → Type 0
-UndefinedIsSure language source = All (λ f. f.number ≡ fault_number Undefined → NamesNoLabel language source f.line) (told language source)
+UndefinedIsSure language source = All (λ f. fault_number f.kind ≡ fault_number Undefined → NamesNoLabel language source f.line) (told language source)
 
 -- a line lets its label wait for a symbol of a later line
 abbrev pub is_waiting : Layout → Operation → Bool
@@ -195,7 +195,7 @@ NamesNoneAbove language source line = (name : List ℕ) × ((symbol_of (said_on 
 
 -- that the value of a symbol is needed too early is told only where no line above gives it one
 abbrev pub EarlyIsSure : Language → List ℕ → Type 0
-EarlyIsSure language source = All (λ f. f.number ≡ fault_number UsedTooEarly → NamesNoneAbove language source f.line) (told language source)
+EarlyIsSure language source = All (λ f. fault_number f.kind ≡ fault_number UsedTooEarly → NamesNoneAbove language source f.line) (told language source)
 
 -- the layout faults of what a line says
 abbrev pub faults_on : Language → List ℕ → ℕ → List FaultKind
@@ -223,4 +223,4 @@ is_of_value number = number == fault_number WrongKindOfAddress || number == faul
 -- that the value of a symbol is of the wrong kind or out of range is told only where a line without a layout fault gives it
 abbrev pub ValueIsSure : Language → List ℕ → Type 0
 ValueIsSure language source =
-    All (λ f. is_of_value f.number ≡ true → (name : List ℕ) → symbol_of (said_on language source f.line) ≡ Some name → IsGiven language source name) (told language source)
+    All (λ f. is_of_value (fault_number f.kind) ≡ true → (name : List ℕ) → symbol_of (said_on language source f.line) ≡ Some name → IsGiven language source name) (told language source)

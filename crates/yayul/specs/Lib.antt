@@ -3,6 +3,7 @@ pub mod Operators
 pub mod Forms
 pub mod Scales
 pub mod Flight
+pub mod Roles
 pub mod Layout
 pub mod FlightForms
 pub mod Later
@@ -10,8 +11,10 @@ pub mod Words
 pub mod Program
 pub mod Mended
 pub mod Survey
+pub mod Readings
 pub mod Told
 pub mod Listing
+pub mod ListingObjects
 pub mod PlaceRows
 pub mod Named
 pub mod Laws

@@ -98,11 +98,15 @@ line_rows margin number words text shown =
     (margin (slice_get shown.words 0) ++ (row_front number words shown text ++ text ++ codes "\n"))
     ++ flat_map (λ p. margin (Some p) ++ further_row number words p) (drop 1 shown.words)
 
+-- what is written of a line, by its number, the words, its text and what it shows
+abbrev pub LineText : Type 0
+LineText = ℕ → Words → List ℕ → Shown → List ℕ
+
 -- the rows of some lines, the first of them with a number and what stands before it
-abbrev pub rows : Margin → ℕ → Layout → Words → List (List ℕ) → List ℕ
-rows margin line s words [] = []
-rows margin line s words (text ∷ texts) =
-    line_rows margin line words text (shown s.location (statement_on s text)) ++ rows margin (line + 1) (line_effect line s text).after words texts
+abbrev pub rows : LineText → ℕ → Layout → Words → List (List ℕ) → List ℕ
+rows of_line line s words [] = []
+rows of_line line s words (text ∷ texts) =
+    of_line line words text (shown s.location (statement_on s text)) ++ rows of_line (line + 1) (line_effect line s text).after words texts
 
 -- the row of a symbol, its name left in 8 places
 unfoldable pub symbol_row : List ℕ × Value → List ℕ
@@ -114,4 +118,4 @@ symbols_head symbols = codes "SYMBOLS " ++ decimal (length symbols) ++ codes "\n
 
 -- the listing of a program: its lines, and its symbols in order of definition
 unfoldable pub listing : Program → List ℕ
-listing p = rows no_margin 1 (start p.source.language) p.rope (lines p.source.text) ++ (symbols_head p.symbols ++ flat_map symbol_row p.symbols)
+listing p = rows (line_rows no_margin) 1 (start p.source.language) p.rope (lines p.source.text) ++ (symbols_head p.symbols ++ flat_map symbol_row p.symbols)

@@ -373,7 +373,7 @@ named_line taken _ = None
 
 -- a fault with its place, on a line whose place another may have taken
 abbrev pub finding : Language → ℕ → List ℕ → Option ℕ → FaultKind → Finding
-finding language line text taken kind = record { line = line; number = fault_number kind; span = span_in language text kind; taken_by = named_line taken kind }
+finding language line text taken kind = record { line = line; kind = kind; span = span_in language text kind; taken_by = named_line taken kind }
 
 -- those of some faults that do not follow from others, each once
 abbrev pub told_of : Language → Doubt → ℕ → List ℕ → Option ℕ → List FaultKind → List Finding

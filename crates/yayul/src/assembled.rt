@@ -15,6 +15,7 @@ use crate::margin::NoMargin;
 use crate::mark::Marks;
 use crate::named::NamedPlaces;
 use crate::source_rows::SourceRows;
+use json_text::Notation;
 use rope::Rope;
 use std::alloc::{AllocError, Global};
 use std::marker::Model;
@@ -134,6 +135,7 @@ impl Program {
         ensures failures { W.failures writer.new ≡ failures_after (W.failures writer.old) result }
     {
         write_rows(
+            Notation::Text,
             &self.rope,
             &self.source,
             self.marks.as_slice(),

@@ -28,8 +28,8 @@ pub struct Span {
 pub struct Finding {
     /// The line, counted from 1.
     pub line: u32,
-    /// What is wrong: the number of a [`FaultKind`].
-    pub number: u8,
+    /// What is wrong.
+    pub kind: FaultKind,
     /// The bytes of the line that are to blame.
     pub span: Span,
     /// The line whose word stands at the place already, of a place that is taken alone.

@@ -86,8 +86,8 @@ fn without_count<'a>(text: &'a [u8], first: Field<'a>) -> &'a [u8]
     }
 }
 
-// Whether a text is a sign and digits, which may end in `D`.
-fn is_count(text: &[u8]) -> bool
+/// Whether a text is a sign and digits, which may end in `D`.
+pub fn is_count(text: &[u8]) -> bool
     ensures { result ≡ is_count text.now }
 {
     begins_with_sign(text) && is_digits(text.get(1..).unwrap_or(&[]))

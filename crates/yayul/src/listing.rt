@@ -7,12 +7,15 @@ ghost use Rattle.arrayvec.specs.ArrayVec.{array_vec_len};
 ghost use Rattle.space.specs.declared.place.Linear.TheVariants as linear;
 ghost use Rattle.words.specs.Devices.{Writes, failures_after};
 ghost use Rattle.yayul.specs.Listing.{blanks, bank_text, place_text, number_column, word_columns, columns, row_front, further_row, line_rows, symbol_row, symbols_head};
+ghost use Rattle.yayul.specs.ListingObjects.{line_in};
 ghost use Rattle.yayul.specs.Inside.Representation.{shown_by_mark, rows_of};
 
 use crate::margin::Margin;
 use crate::mark::Mark;
+use crate::objects::write_line_objects;
 use agc_text::next_line;
 use arrayvec::ArrayVec;
+use json_text::Notation;
 use rope::Rope;
 use space::place::Linear;
 use space::resolve::window;
@@ -38,13 +41,14 @@ const HEAD: usize = 29;
 
 /// Writes the rows of the lines of a source, each with what it shows, and after its margin.
 pub(crate) fn write_rows<M: Margin, W: Write>(
+    notation: Notation,
     rope: &Rope,
     source: &[u8],
     marks: &[Mark],
     margin: &M,
     writer: &mut W,
 ) -> Result<(), WriteFailed>
-    ensures written { W.told ≡ true → Writes (W.written writer.old) (W.written writer.new) (rows_of (M.text margin.now) 1 rope.now (lines source.now) (map shown_by_mark marks.now)) result }
+    ensures written { W.told ≡ true → Writes (W.written writer.old) (W.written writer.new) (rows_of (line_in notation (M.text margin.now)) 1 rope.now (lines source.now) (map shown_by_mark marks.now)) result }
     ensures failures { W.failures writer.new ≡ failures_after (W.failures writer.old) result }
 {
     let mut rest = source;
@@ -53,11 +57,30 @@ pub(crate) fn write_rows<M: Margin, W: Write>(
         let Some((text, after)) = next_line(rest) else {
             return Ok(());
         };
-        write_line(number, rope, text, mark, margin, writer)?;
+        write_line_in(notation, number, rope, text, mark, margin, writer)?;
         rest = after;
         number += 1;
     }
     Ok(())
+}
+
+// Writes what is written of a line in a notation.
+fn write_line_in<M: Margin, W: Write>(
+    notation: Notation,
+    number: u64,
+    rope: &Rope,
+    text: &[u8],
+    mark: &Mark,
+    margin: &M,
+    writer: &mut W,
+) -> Result<(), WriteFailed>
+    ensures written { W.told ≡ true → Writes (W.written writer.old) (W.written writer.new) (line_in notation (M.text margin.now) number rope.now text.now (shown_by_mark mark.now)) result }
+    ensures failures { W.failures writer.new ≡ failures_after (W.failures writer.old) result }
+{
+    match notation {
+        Notation::Text => write_line(number, rope, text, mark, margin, writer),
+        Notation::Json => write_line_objects(number, rope, text, mark, margin, writer),
+    }
 }
 
 // Writes the rows of a line.
@@ -232,8 +255,8 @@ fn push_word(line: &mut ArrayVec<u8, FRONT>, rope: &Rope, bank: Bank, offset: Of
 
 // Appends a place.
 #[tactic(auto, unfolding(crate::specs::Listing::place_text))]
-pub(crate) fn push_place(line: &mut ArrayVec<u8, FRONT>, place: Linear)
-    requires { array_vec_len line.old ≤ 21 }
+pub(crate) fn push_place<const N: usize>(line: &mut ArrayVec<u8, N>, place: Linear)
+    requires { array_vec_len line.old + 7 ≤ N }
     ensures items { line.new.items ≡ line.old.items ++ place_text place }
     ensures len { array_vec_len line.new ≡ array_vec_len line.old + 7 }
 {
@@ -243,8 +266,8 @@ pub(crate) fn push_place(line: &mut ArrayVec<u8, FRONT>, place: Linear)
 }
 
 // Appends the bank of a place.
-fn push_bank(line: &mut ArrayVec<u8, FRONT>, place: &Linear)
-    requires { array_vec_len line.old ≤ 21 }
+fn push_bank<const N: usize>(line: &mut ArrayVec<u8, N>, place: &Linear)
+    requires { array_vec_len line.old + 2 ≤ N }
     ensures items { line.new.items ≡ line.old.items ++ bank_text place.now }
     ensures len { array_vec_len line.new ≡ array_vec_len line.old + 2 }
 {

@@ -33,7 +33,7 @@ pub(crate) fn octal_in(text: &[u8]) -> Numeral
 }
 
 // Whether a text is digits alone, or digits followed by `D`.
-pub(crate) fn is_digits(text: &[u8]) -> bool
+pub fn is_digits(text: &[u8]) -> bool
     ensures { result ≡ is_digits text.now }
 {
     let digits = if is_marked_decimal(text) {

@@ -1,18 +1,21 @@
 //! The operators of the source language.
 
-ghost use Rattle.std.specs.Prelude.{◌≡◌, ◌==◌, ◌≤◌, true, IfSome, filter, length};
+ghost use Rattle.std.specs.Prelude.{◌≡◌, ◌==◌, ◌≤◌, true, IfSome, filter, length, map};
 ghost use Rattle.std.specs.Option.{SomeIff};
 ghost use Rattle.agc_text.specs.Tables.{named, value_in};
 ghost use Rattle.yayul.specs.Operators.{operators, is_bank, field_size, bits_under};
 ghost use Rattle.yayul.specs.Flight.{flight_operator, flight_operators};
+ghost use Rattle.yayul.specs.Roles.{flight_roles, flight_rows, is_operator_of, names_of_length, operator_rows, role_of, roles};
 ghost use Rattle.yayul.specs.Words.{extracode_fault};
 ghost use Rattle.yayul.specs.Inside.Codes.{has_room, flight_has_room};
 
 use crate::faults::FaultKind;
 use crate::language::{
-    AddressedCode, BankRange, Bits, Extracode, FlightOperator, Operator, PlainCode, Precision,
-    Takes,
+    AddressedCode, BankRange, Bits, Extracode, FlightOperator, Language, Operator, PlainCode,
+    Precision, Takes,
 };
+use crate::role::Role;
+use arrayvec::ArrayVec;
 use symbols::FixedBank;
 
 impl Extracode {
@@ -126,148 +129,212 @@ macro_rules! complement {
     };
 }
 
-// Each operator by its name, in a table for each length of names.
-const OPERATORS_OF_ONE: [(&str, Operator); 1] = [("=", Operator::Equals)];
+// A row: a name, what it says, and what it is.
+macro_rules! row {
+    ($name:literal, $says:expr, $role:ident) => {
+        ($name, ($says, Role::$role))
+    };
+}
 
-const OPERATORS_OF_TWO: [(&str, Operator); 10] = [
-    ("TC", addressed!(0o0, Twelve, No, Address)),
-    ("CA", addressed!(0o30000, Twelve, No, Address)),
-    ("CS", addressed!(0o40000, Twelve, No, Address)),
-    ("TS", addressed!(0o54000, Ten, No, Address)),
-    ("AD", addressed!(0o60000, Twelve, No, Address)),
-    ("DV", addressed!(0o10000, Ten, Yes, Address)),
-    ("SU", addressed!(0o60000, Ten, Yes, Address)),
-    ("MP", addressed!(0o70000, Twelve, Yes, Address)),
-    ("ZL", plain!(0o22007, No)),
-    ("ZQ", plain!(0o22007, Yes)),
+/// How many operators have names of one length, at most.
+pub const MOST_NAMES: usize = 22;
+
+// Each operator by its name, with what it says and what it is, in a table for each length of names.
+const ROWS_OF_ONE: [(&str, (Operator, Role)); 1] = [row!("=", Operator::Equals, Equals)];
+
+const ROWS_OF_TWO: [(&str, (Operator, Role)); 10] = [
+    row!("TC", addressed!(0o0, Twelve, No, Address), Call),
+    row!("CA", addressed!(0o30000, Twelve, No, Address), Read),
+    row!("CS", addressed!(0o40000, Twelve, No, Address), Read),
+    row!("TS", addressed!(0o54000, Ten, No, Address), Store),
+    row!("AD", addressed!(0o60000, Twelve, No, Address), Read),
+    row!("DV", addressed!(0o10000, Ten, Yes, Address), ReadErasable),
+    row!("SU", addressed!(0o60000, Ten, Yes, Address), Subtract),
+    row!("MP", addressed!(0o70000, Twelve, Yes, Address), Read),
+    row!("ZL", plain!(0o22007, No), Implied),
+    row!("ZQ", plain!(0o22007, Yes), Implied),
 ];
 
-const OPERATORS_OF_THREE: [(&str, Operator); 22] = [
-    ("OCT", Operator::Octal),
-    ("DEC", Operator::Decimal),
-    ("TCR", addressed!(0o0, Twelve, No, Address)),
-    ("CCS", addressed!(0o10000, Ten, No, Address)),
-    ("TCF", addressed!(0o10000, Twelve, No, FixedAddress)),
-    ("DAS", addressed!(0o20000, Ten, No, Pair)),
-    ("ADS", addressed!(0o26000, Ten, No, Address)),
-    ("CAE", addressed!(0o30000, Ten, No, Address)),
-    ("CAF", addressed!(0o30000, Twelve, No, FixedAddress)),
-    ("NDX", addressed!(0o50000, Ten, Either, Address)),
-    ("XCH", addressed!(0o56000, Ten, No, Address)),
-    ("MSK", addressed!(0o70000, Twelve, No, Address)),
-    ("ROR", addressed!(0o4000, Nine, Yes, Channel)),
-    ("WOR", addressed!(0o5000, Nine, Yes, Channel)),
-    ("BZF", addressed!(0o10000, Twelve, Yes, FixedAddress)),
-    ("MSU", addressed!(0o20000, Ten, Yes, Address)),
-    ("AUG", addressed!(0o24000, Ten, Yes, Address)),
-    ("DIM", addressed!(0o26000, Ten, Yes, Address)),
-    ("DCA", addressed!(0o30000, Twelve, Yes, Pair)),
-    ("DCS", addressed!(0o40000, Twelve, Yes, Pair)),
-    ("XLQ", plain!(0o1, No)),
-    ("COM", plain!(0o40000, No)),
+const ROWS_OF_THREE: [(&str, (Operator, Role)); 22] = [
+    row!("OCT", Operator::Octal, Octal),
+    row!("DEC", Operator::Decimal, Decimal),
+    row!("TCR", addressed!(0o0, Twelve, No, Address), Call),
+    row!("CCS", addressed!(0o10000, Ten, No, Address), ReadErasable),
+    row!("TCF", addressed!(0o10000, Twelve, No, FixedAddress), Jump),
+    row!("DAS", addressed!(0o20000, Ten, No, Pair), ModifyPair),
+    row!("ADS", addressed!(0o26000, Ten, No, Address), Modify),
+    row!("CAE", addressed!(0o30000, Ten, No, Address), ReadErasable),
+    row!(
+        "CAF",
+        addressed!(0o30000, Twelve, No, FixedAddress),
+        ReadFixed
+    ),
+    row!("NDX", addressed!(0o50000, Ten, Either, Address), Index),
+    row!("XCH", addressed!(0o56000, Ten, No, Address), Store),
+    row!("MSK", addressed!(0o70000, Twelve, No, Address), Read),
+    row!("ROR", addressed!(0o4000, Nine, Yes, Channel), Channel),
+    row!("WOR", addressed!(0o5000, Nine, Yes, Channel), Channel),
+    row!(
+        "BZF",
+        addressed!(0o10000, Twelve, Yes, FixedAddress),
+        Branch
+    ),
+    row!("MSU", addressed!(0o20000, Ten, Yes, Address), ReadCounter),
+    row!("AUG", addressed!(0o24000, Ten, Yes, Address), Modify),
+    row!("DIM", addressed!(0o26000, Ten, Yes, Address), Modify),
+    row!("DCA", addressed!(0o30000, Twelve, Yes, Pair), ReadPair),
+    row!("DCS", addressed!(0o40000, Twelve, Yes, Pair), ReadPair),
+    row!("XLQ", plain!(0o1, No), Leave),
+    row!("COM", plain!(0o40000, No), Implied),
 ];
 
-const OPERATORS_OF_FOUR: [(&str, Operator); 18] = [
-    ("BANK", Operator::Bank(BankRange::All)),
-    ("CADR", constant!(FixedPlace)),
-    ("LXCH", addressed!(0o22000, Ten, No, Address)),
-    ("INCR", addressed!(0o24000, Ten, No, Address)),
-    ("DXCH", addressed!(0o52000, Ten, No, Pair)),
-    ("MASK", addressed!(0o70000, Twelve, No, Address)),
-    ("READ", addressed!(0o0, Nine, Yes, Channel)),
-    ("RAND", addressed!(0o2000, Nine, Yes, Channel)),
-    ("WAND", addressed!(0o3000, Nine, Yes, Channel)),
-    ("RXOR", addressed!(0o6000, Nine, Yes, Channel)),
-    ("QXCH", addressed!(0o22000, Ten, Yes, Address)),
-    ("BZMF", addressed!(0o60000, Twelve, Yes, FixedAddress)),
-    ("DTCF", plain!(0o52005, No)),
-    ("DTCB", plain!(0o52006, No)),
-    ("OVSK", plain!(0o54000, No)),
-    ("TCAA", plain!(0o54005, No)),
-    ("DCOM", plain!(0o40001, Yes)),
-    ("NOOP", to_next!(0o10000, Twelve, No, FixedAddress)),
+const ROWS_OF_FOUR: [(&str, (Operator, Role)); 18] = [
+    row!("BANK", Operator::Bank(BankRange::All), Bank),
+    row!("CADR", constant!(FixedPlace), FixedAddress),
+    row!("LXCH", addressed!(0o22000, Ten, No, Address), Store),
+    row!("INCR", addressed!(0o24000, Ten, No, Address), Modify),
+    row!("DXCH", addressed!(0o52000, Ten, No, Pair), StorePair),
+    row!("MASK", addressed!(0o70000, Twelve, No, Address), Read),
+    row!("READ", addressed!(0o0, Nine, Yes, Channel), Channel),
+    row!("RAND", addressed!(0o2000, Nine, Yes, Channel), Channel),
+    row!("WAND", addressed!(0o3000, Nine, Yes, Channel), Channel),
+    row!("RXOR", addressed!(0o6000, Nine, Yes, Channel), Channel),
+    row!("QXCH", addressed!(0o22000, Ten, Yes, Address), Store),
+    row!(
+        "BZMF",
+        addressed!(0o60000, Twelve, Yes, FixedAddress),
+        Branch
+    ),
+    row!("DTCF", plain!(0o52005, No), LeaveBank),
+    row!("DTCB", plain!(0o52006, No), LeaveBank),
+    row!("OVSK", plain!(0o54000, No), Implied),
+    row!("TCAA", plain!(0o54005, No), Leave),
+    row!("DCOM", plain!(0o40001, Yes), Implied),
+    row!("NOOP", to_next!(0o10000, Twelve, No, FixedAddress), Implied),
 ];
 
-const OPERATORS_OF_FIVE: [(&str, Operator); 9] = [
-    ("BLOCK", Operator::Bank(BankRange::TwoOrThree)),
-    ("ERASE", Operator::Erase),
-    ("ADRES", constant!(Address)),
-    ("ECADR", constant!(ErasablePlace)),
-    ("FCADR", constant!(FixedPlace)),
-    ("2CADR", Operator::FarAddress),
-    ("INDEX", addressed!(0o50000, Ten, Either, Address)),
-    ("WRITE", addressed!(0o1000, Nine, Yes, Channel)),
-    ("XXALQ", plain!(0o0, No)),
+const ROWS_OF_FIVE: [(&str, (Operator, Role)); 9] = [
+    row!("BLOCK", Operator::Bank(BankRange::TwoOrThree), Block),
+    row!("ERASE", Operator::Erase, Erase),
+    row!("ADRES", constant!(Address), Address),
+    row!("ECADR", constant!(ErasablePlace), ErasableAddress),
+    row!("FCADR", constant!(FixedPlace), FixedAddress),
+    row!("2CADR", Operator::FarAddress, FarAddress),
+    row!("INDEX", addressed!(0o50000, Ten, Either, Address), Index),
+    row!("WRITE", addressed!(0o1000, Nine, Yes, Channel), Channel),
+    row!("XXALQ", plain!(0o0, No), Leave),
 ];
 
-const OPERATORS_OF_SIX: [(&str, Operator); 11] = [
-    ("SETLOC", Operator::Setloc),
-    ("EQUALS", Operator::Equals),
-    ("EBANK=", Operator::Ebank),
-    ("RELINT", plain!(0o3, No)),
-    ("INHINT", plain!(0o4, No)),
-    ("EXTEND", extend!(0o6)),
-    ("RESUME", plain!(0o50017, No)),
-    ("RETURN", plain!(0o2, No)),
-    ("DDOUBL", plain!(0o20001, No)),
-    ("DOUBLE", plain!(0o60000, No)),
-    ("SQUARE", plain!(0o70000, Yes)),
+const ROWS_OF_SIX: [(&str, (Operator, Role)); 11] = [
+    row!("SETLOC", Operator::Setloc, Setloc),
+    row!("EQUALS", Operator::Equals, Equals),
+    row!("EBANK=", Operator::Ebank, Ebank),
+    row!("RELINT", plain!(0o3, No), Implied),
+    row!("INHINT", plain!(0o4, No), Implied),
+    row!("EXTEND", extend!(0o6), Implied),
+    row!("RESUME", plain!(0o50017, No), Leave),
+    row!("RETURN", plain!(0o2, No), Leave),
+    row!("DDOUBL", plain!(0o20001, No), Implied),
+    row!("DOUBLE", plain!(0o60000, No), Implied),
+    row!("SQUARE", plain!(0o70000, Yes), Implied),
 ];
 
 // Each operator that the standard language lacks, or has with fewer forms.
-const FLIGHT_OPERATORS: [(&str, FlightOperator); 35] = [
-    ("EQUALS", FlightOperator::Equals),
-    ("=", FlightOperator::Equals),
-    ("BANK", FlightOperator::Bank(BankRange::All)),
-    ("BLOCK", FlightOperator::Bank(BankRange::TwoOrThree)),
-    ("COUNT", FlightOperator::PassedOver),
-    ("COUNT*", FlightOperator::PassedOver),
-    ("BNKSUM", FlightOperator::PassedOver),
-    ("SUBRO", FlightOperator::PassedOver),
-    ("MEMORY", FlightOperator::PassedOver),
-    ("OCT", FlightOperator::Octal),
-    ("OCTAL", FlightOperator::Octal),
-    ("2OCT", FlightOperator::Octals),
-    ("VN", FlightOperator::VerbNoun),
-    ("DEC", FlightOperator::Decimal(Precision::One)),
-    ("2DEC", FlightOperator::Decimal(Precision::Two)),
-    ("BBCON", FlightOperator::BankWord),
-    ("-2CADR", FlightOperator::FarComplement),
-    ("-CADR", complement!(0o0, Twelve, FixedPlace)),
-    ("-GENADR", complement!(0o0, Twelve, Address)),
-    ("-CCS", complement!(0o10000, Ten, Address)),
-    ("-1DNADR", complement!(0o0, Twelve, ErasablePlace)),
-    ("-2DNADR", complement!(0o4000, Twelve, ErasablePlace)),
-    ("-3DNADR", complement!(0o10000, Twelve, ErasablePlace)),
-    ("-4DNADR", complement!(0o14000, Twelve, ErasablePlace)),
-    ("-5DNADR", complement!(0o20000, Twelve, ErasablePlace)),
-    ("-6DNADR", complement!(0o24000, Twelve, ErasablePlace)),
-    ("GENADR", FlightOperator::Standard(constant!(Address))),
-    ("REMADR", FlightOperator::Standard(constant!(Address))),
-    ("1DNADR", FlightOperator::Standard(constant!(ErasablePlace))),
-    (
+const FLIGHT_ROWS: [(&str, (FlightOperator, Role)); 35] = [
+    row!("EQUALS", FlightOperator::Equals, Equals),
+    row!("=", FlightOperator::Equals, Equals),
+    row!("BANK", FlightOperator::Bank(BankRange::All), Bank),
+    row!("BLOCK", FlightOperator::Bank(BankRange::TwoOrThree), Block),
+    row!("COUNT", FlightOperator::PassedOver, Ignored),
+    row!("COUNT*", FlightOperator::PassedOver, Ignored),
+    row!("BNKSUM", FlightOperator::PassedOver, Ignored),
+    row!("SUBRO", FlightOperator::PassedOver, Ignored),
+    row!("MEMORY", FlightOperator::PassedOver, Ignored),
+    row!("OCT", FlightOperator::Octal, Octal),
+    row!("OCTAL", FlightOperator::Octal, Octal),
+    row!("2OCT", FlightOperator::Octals, OctalPair),
+    row!("VN", FlightOperator::VerbNoun, VerbNoun),
+    row!("DEC", FlightOperator::Decimal(Precision::One), Decimal),
+    row!("2DEC", FlightOperator::Decimal(Precision::Two), DecimalPair),
+    row!("BBCON", FlightOperator::BankWord, BankConstant),
+    row!("-2CADR", FlightOperator::FarComplement, FarComplement),
+    row!(
+        "-CADR",
+        complement!(0o0, Twelve, FixedPlace),
+        FixedComplement
+    ),
+    row!("-GENADR", complement!(0o0, Twelve, Address), Address),
+    row!("-CCS", complement!(0o10000, Ten, Address), CountComplement),
+    row!("-1DNADR", complement!(0o0, Twelve, ErasablePlace), Downlist),
+    row!(
+        "-2DNADR",
+        complement!(0o4000, Twelve, ErasablePlace),
+        Downlist
+    ),
+    row!(
+        "-3DNADR",
+        complement!(0o10000, Twelve, ErasablePlace),
+        Downlist
+    ),
+    row!(
+        "-4DNADR",
+        complement!(0o14000, Twelve, ErasablePlace),
+        Downlist
+    ),
+    row!(
+        "-5DNADR",
+        complement!(0o20000, Twelve, ErasablePlace),
+        Downlist
+    ),
+    row!(
+        "-6DNADR",
+        complement!(0o24000, Twelve, ErasablePlace),
+        Downlist
+    ),
+    row!(
+        "GENADR",
+        FlightOperator::Standard(constant!(Address)),
+        Address
+    ),
+    row!(
+        "REMADR",
+        FlightOperator::Standard(constant!(Address)),
+        Address
+    ),
+    row!(
+        "1DNADR",
+        FlightOperator::Standard(constant!(ErasablePlace)),
+        Downlist
+    ),
+    row!(
         "2DNADR",
         FlightOperator::Standard(addressed!(0o4000, Twelve, No, ErasablePlace)),
+        Downlist
     ),
-    (
+    row!(
         "3DNADR",
         FlightOperator::Standard(addressed!(0o10000, Twelve, No, ErasablePlace)),
+        Downlist
     ),
-    (
+    row!(
         "4DNADR",
         FlightOperator::Standard(addressed!(0o14000, Twelve, No, ErasablePlace)),
+        Downlist
     ),
-    (
+    row!(
         "5DNADR",
         FlightOperator::Standard(addressed!(0o20000, Twelve, No, ErasablePlace)),
+        Downlist
     ),
-    (
+    row!(
         "6DNADR",
         FlightOperator::Standard(addressed!(0o24000, Twelve, No, ErasablePlace)),
+        Downlist
     ),
-    (
+    row!(
         "DNCHAN",
         FlightOperator::Standard(addressed!(0o34000, Nine, No, Channel)),
+        DownlistChannel
     ),
 ];
 
@@ -277,7 +344,7 @@ pub(crate) fn flight_operator_of(name: &[u8]) -> Option<FlightOperator>
     ensures value { result ≡ flight_operator name.now }
     ensures fits { IfSome result (λ operator. flight_has_room operator ≡ true) }
 {
-    match find_operator(flight_operators(), name) {
+    match own_operator_of(name) {
         Some(operator) => Some(operator),
         None => match operator_of(name) {
             Some(operator) => Some(FlightOperator::Standard(operator)),
@@ -286,12 +353,15 @@ pub(crate) fn flight_operator_of(name: &[u8]) -> Option<FlightOperator>
     }
 }
 
-// The operators that the standard language lacks, or has with fewer forms.
-#[tactic(auto, unfolding(crate::specs::Flight::flight_operators))]
-fn flight_operators() -> &'static [(&'static str, FlightOperator)]
-    ensures { named result.now ≡ flight_operators }
+// The operator of a name that the standard language lacks, or has with fewer forms.
+fn own_operator_of(name: &[u8]) -> Option<FlightOperator>
+    ensures value { result ≡ value_in flight_operators name.now }
+    ensures fits { IfSome result (λ operator. flight_has_room operator ≡ true) }
 {
-    &FLIGHT_OPERATORS
+    match own_row_of(name) {
+        Some((operator, _)) => Some(operator),
+        None => None,
+    }
 }
 
 /// The operator of a name.
@@ -299,31 +369,108 @@ pub(crate) fn operator_of(name: &[u8]) -> Option<Operator>
     ensures value { result ≡ value_in operators name.now }
     ensures fits { IfSome result (λ operator. has_room operator ≡ true) }
 {
-    find_operator(operators_of_length(name.len()), name)
+    match row_of(name) {
+        Some((operator, _)) => Some(operator),
+        None => None,
+    }
 }
 
-// The operators whose names have so many characters.
-#[tactic(auto, unfolding(crate::specs::Operators::operators))]
-fn operators_of_length(count: usize) -> &'static [(&'static str, Operator)]
-    ensures { named result.now ≡ filter (λ row. length row.0 == count) operators }
+/// An operator's name in a language.
+pub fn is_operator(language: Language, name: &[u8]) -> bool
+    ensures { result ≡ is_operator_of language name.now }
+{
+    role_of(language, name).is_some()
+}
+
+/// What an operator of a language is, by its name.
+pub(crate) fn role_of(language: Language, name: &[u8]) -> Option<Role>
+    ensures { result ≡ role_of language name.now }
+{
+    match (standard_role_of(name), language) {
+        (Some(role), _) => Some(role),
+        (None, Language::Standard) => None,
+        (None, Language::Flight) => own_role_of(name),
+    }
+}
+
+/// The names of the operators that have so many characters.
+pub fn operator_names(count: usize) -> ArrayVec<&'static str, MOST_NAMES>
+    ensures { map (λ name. name.now) result.items ≡ names_of_length count }
+{
+    let mut names = ArrayVec::new();
+    let rows = rows_of_length(count);
+    for (name, _) in rows {
+        names.push(*name);
+    }
+    names
+}
+
+// What an operator of the standard language is.
+fn standard_role_of(name: &[u8]) -> Option<Role>
+    ensures { result ≡ value_in roles name.now }
+{
+    match row_of(name) {
+        Some((_, role)) => Some(role),
+        None => None,
+    }
+}
+
+// What an operator is that the standard language lacks, or has with fewer forms.
+fn own_role_of(name: &[u8]) -> Option<Role>
+    ensures { result ≡ value_in flight_roles name.now }
+{
+    match own_row_of(name) {
+        Some((_, role)) => Some(role),
+        None => None,
+    }
+}
+
+// The row of a name that the standard language lacks, or has with fewer forms.
+fn own_row_of(name: &[u8]) -> Option<(FlightOperator, Role)>
+    ensures { result ≡ value_in flight_rows name.now }
+{
+    find_row(flight_rows(), name)
+}
+
+// The rows of the operators that the standard language lacks, or has with fewer forms.
+#[tactic(auto, unfolding(crate::specs::Flight::flight_operators, crate::specs::Roles::flight_roles))]
+fn flight_rows() -> &'static [(&'static str, (FlightOperator, Role))]
+    ensures { named result.now ≡ flight_rows }
+{
+    &FLIGHT_ROWS
+}
+
+// The row of a name.
+fn row_of(name: &[u8]) -> Option<(Operator, Role)>
+    ensures { result ≡ value_in operator_rows name.now }
+{
+    find_row(rows_of_length(name.len()), name)
+}
+
+// The rows of the operators whose names have so many characters.
+#[tactic(auto, unfolding(crate::specs::Operators::operators, crate::specs::Roles::roles))]
+fn rows_of_length(count: usize) -> &'static [(&'static str, (Operator, Role))]
+    ensures rows { named result.now ≡ filter (λ row. length row.0 == count) operator_rows }
+    ensures few { length result.now ≤ MOST_NAMES }
 {
     match count {
-        1 => &OPERATORS_OF_ONE,
-        2 => &OPERATORS_OF_TWO,
-        3 => &OPERATORS_OF_THREE,
-        4 => &OPERATORS_OF_FOUR,
-        5 => &OPERATORS_OF_FIVE,
-        6 => &OPERATORS_OF_SIX,
+        1 => &ROWS_OF_ONE,
+        2 => &ROWS_OF_TWO,
+        3 => &ROWS_OF_THREE,
+        4 => &ROWS_OF_FOUR,
+        5 => &ROWS_OF_FIVE,
+        6 => &ROWS_OF_SIX,
         _ => &[],
     }
 }
 
-fn find_operator<T: Copy>(table: &[(&str, T)], name: &[u8]) -> Option<T>
+// What stands beside a name.
+fn find_row<T: Copy>(table: &[(&str, T)], name: &[u8]) -> Option<T>
     ensures { result ≡ value_in (named table.now) name.now }
 {
-    for (text, operator) in table {
+    for (text, row) in table {
         if name == text.as_bytes() {
-            return Some(*operator);
+            return Some(*row);
         }
     }
     None

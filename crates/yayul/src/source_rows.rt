@@ -5,6 +5,7 @@ ghost use Rattle.agc_text.specs.Lines.{lines};
 ghost use Rattle.words.specs.Devices.{Writes, failures_after};
 ghost use Rattle.yayul.specs.Layout.{start};
 ghost use Rattle.yayul.specs.Listing.{rows};
+ghost use Rattle.yayul.specs.ListingObjects.{line_in};
 ghost use Rattle.yayul.specs.PlaceRows.{line_of, no_source, row_after};
 ghost use Rattle.yayul.specs.Inside.Representation.{lines_show, shown_by_mark};
 
@@ -13,6 +14,7 @@ use crate::listing::write_rows;
 use crate::margin::Margin;
 use crate::mark::Marks;
 use crate::place_rows::{first_to_show, line_after, write_place_row};
+use json_text::Notation;
 use rope::Rope;
 use space::Linear;
 use std::alloc::Global;
@@ -101,18 +103,27 @@ impl SourceRows {
         Ok(true)
     }
 
-    /// Writes the rows of all lines, each after its margin. The words are those of the rope. No memory is taken.
+    /// Writes the rows of all lines in a notation: as text each after its margin, and as JSON with the margin as further members of
+    /// its object. The words are those of the rope. No memory is taken.
     ///
     /// After a failure a beginning of them was written.
     pub fn write<M: Margin, W: Write>(
         &self,
+        notation: Notation,
         rope: &Rope,
         margin: &M,
         writer: &mut W,
     ) -> Result<(), WriteFailed>
-        ensures written { W.told ≡ true → Writes (W.written writer.old) (W.written writer.new) (rows (M.text margin.now) 1 (start self.now.language) rope.now (lines self.now.text)) result }
+        ensures written { W.told ≡ true → Writes (W.written writer.old) (W.written writer.new) (rows (line_in notation (M.text margin.now)) 1 (start self.now.language) rope.now (lines self.now.text)) result }
         ensures failures { W.failures writer.new ≡ failures_after (W.failures writer.old) result }
     {
-        write_rows(rope, &self.source, self.marks.as_slice(), margin, writer)
+        write_rows(
+            notation,
+            rope,
+            &self.source,
+            self.marks.as_slice(),
+            margin,
+            writer,
+        )
     }
 }

@@ -531,7 +531,7 @@ impl Telling<'_> {
     {
         Finding {
             line: self.line,
-            number: kind.number(),
+            kind,
             span: span_in(self.language, self.text, kind),
             taken_by: self.named_line(kind),
         }

@@ -1,7 +1,7 @@
 ;;; check-dap.el --- dap-mode over views/dap, without windows  -*- lexical-binding: t; -*-
 
 ;;; Commentary:
-;; `views/check.py' runs it by emacs --batch, with the folder of the views as VIEWS, and compares the lines that it tells with those that stand after each
+;; `views/check.py' runs it by emacs --batch, with the folder of the views as VIEWS and the lines of README.md as the file INIT, and compares the lines that it tells with those that stand after each
 ;; move.
 
 ;;; Code:
@@ -15,6 +15,7 @@
 (defconst views (getenv "VIEWS"))
 (defconst source (expand-file-name "lost_sum.agc" (expand-file-name "../examples" views)))
 (load (expand-file-name "editors/emacs/agc-mode.el" views) nil t)
+(load (getenv "INIT") nil t)
 
 (defun say (text &rest values)
   "Tell a TEXT with VALUES in it, as a line of its own."
@@ -46,7 +47,6 @@
   (cl-count-if (lambda (it) (process-live-p it)) (process-list)))
 
 (dap-mode 1)
-(dap-register-debug-provider "agcws" (lambda (conf) (plist-put conf :dap-server-path (list (expand-file-name "dap" views)))))
 (lsp-workspace-folders-add (file-name-directory source))
 (find-file source)
 (say "mode %s" major-mode)

@@ -16,7 +16,7 @@ use Rattle.yayul.specs.Forms.{operation_of}
 use Rattle.yayul.specs.Flight.{flight_operation_of, flight_operator, scales_after}
 use Rattle.yayul.specs.Language.{BadBank, BadOperand, BankRange, FaultKind, Is, Location, NoForm, Numeral, TooLarge, Undefined}
 use Rattle.yayul.specs.Layout.{Promise, Request, Layout, word_place, after_words, statement_on, line_effect}
-use Rattle.yayul.specs.Listing.{Margin, Shown, nothing, line_rows, shown}
+use Rattle.yayul.specs.Listing.{LineText, Shown, nothing, shown}
 use Rattle.yayul.specs.Operators.{operators, is_bank}
 use Rattle.yayul.specs.Program.{Source, Program}
 use Rattle.yayul.specs.contracts.language.Language as language
@@ -106,10 +106,10 @@ lines_show line s [] = []
 lines_show line s (text ∷ texts) = shown s.location (statement_on s text) ∷ lines_show (line + 1) (line_effect line s text).after texts
 
 -- the rows of some lines, the first of them with a number, and each with what it shows
-abbrev pub rows_of : Margin → ℕ → Words → List (List ℕ) → List Shown → List ℕ
-rows_of margin line words [] shows = []
-rows_of margin line words (text ∷ texts) [] = []
-rows_of margin line words (text ∷ texts) (shown ∷ shows) = line_rows margin line words text shown ++ rows_of margin (line + 1) words texts shows
+abbrev pub rows_of : LineText → ℕ → Words → List (List ℕ) → List Shown → List ℕ
+rows_of of_line line words [] shows = []
+rows_of of_line line words (text ∷ texts) [] = []
+rows_of of_line line words (text ∷ texts) (shown ∷ shows) = of_line line words text shown ++ rows_of of_line (line + 1) words texts shows
 
 -- a source is stored as its fields, paired
 abbrev pub source_code : Coded Source

@@ -1,4 +1,4 @@
-use Rattle.std.proofs.Common.{◌≡◌, ◌∙◌, sym, refl, arith}
+use Rattle.std.proofs.Common.{◌∙◌, sym, refl, arith}
 use Rattle.audit.proofs.CheckSums.{room_more}
 use Rattle.audit.proofs.check_words.add_check_words.Goals as goal
 

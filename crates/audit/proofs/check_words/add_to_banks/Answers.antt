@@ -1,5 +1,4 @@
-use Rattle.std.proofs.Common.{◌≡◌, ◌∙◌, sym, ap}
-use Rattle.audit.specs.CheckWords.{with_check_words}
+use Rattle.std.proofs.Common.{◌∙◌, sym}
 use Rattle.audit.proofs.CheckSums.{checks_none, more, room_later}
 use Rattle.audit.proofs.check_words.add_to_banks.Goals as goal
 

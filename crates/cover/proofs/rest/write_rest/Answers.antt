@@ -10,23 +10,23 @@ pub returns-in_err-write_erasable-clause-written : goal.returns-in_err-write_era
 unfolding rest_rows
 returns-in_err-write_erasable-clause-written g c = λ told.
     let p = err_from_is_err_and c.from_residual.result c.from_residual.ensures.1 in
-    rw p.1 (beginning-longer _ _ (erasable_rows (figures_at c.args.tally.now)) (empty_rows (figures_at c.args.tally.now) c.args.rope.now ++ end_rows (figures_at c.args.tally.now) c.args.total)
+    rw p.1 (beginning-longer _ _ (erasable_rows c.args.notation c.args.names.now (figures_at c.args.tally.now)) (empty_rows c.args.notation c.args.names.now (figures_at c.args.tally.now) c.args.rope.now ++ end_rows c.args.notation (figures_at c.args.tally.now) c.args.total)
     (c.in_err-write_erasable.ensures.written told))
 
 pub returns-in_err-write_empty-clause-written : goal.returns-in_err-write_empty-clause-written
 unfolding rest_rows
 returns-in_err-write_empty-clause-written g c = λ told.
     let p = err_from_is_err_and c.from_residual-in_err-write_empty.result c.from_residual-in_err-write_empty.ensures.1 in
-    rw p.1 (beginning-after _ _ _ (erasable_rows (figures_at c.args.tally.now)) _ (c.in_ok-write_erasable.ensures.written told)
-    (beginning-longer _ _ (empty_rows (figures_at c.args.tally.now) c.args.rope.now) (end_rows (figures_at c.args.tally.now) c.args.total) (c.in_err-write_empty.ensures.written told)))
+    rw p.1 (beginning-after _ _ _ (erasable_rows c.args.notation c.args.names.now (figures_at c.args.tally.now)) _ (c.in_ok-write_erasable.ensures.written told)
+    (beginning-longer _ _ (empty_rows c.args.notation c.args.names.now (figures_at c.args.tally.now) c.args.rope.now) (end_rows c.args.notation (figures_at c.args.tally.now) c.args.total) (c.in_err-write_empty.ensures.written told)))
 
 pub returns-clause-written : goal.returns-clause-written
 unfolding rest_rows
 returns-clause-written g c = λ told.
     let tally = figures_at c.args.tally.now in
-    let first = erasable_rows tally in
-    let second = empty_rows tally c.args.rope.now in
-    let third = end_rows tally c.args.total in
+    let first = erasable_rows c.args.notation c.args.names.now tally in
+    let second = empty_rows c.args.notation c.args.names.now tally c.args.rope.now in
+    let third = end_rows c.args.notation tally c.args.total in
     let old = g.W.Write.written c.args.out.now in
     let one = g.W.Write.written c.write_erasable.new.out in
     let two = g.W.Write.written c.write_empty.new.out in

@@ -1,7 +1,7 @@
 use Rattle.std.proofs.Common.{◌≡◌, [], drop, map}
 use Rattle.std.specs.List.{fold}
+use Rattle.yayul.specs.Readings.{parts_for}
 use Rattle.faults.specs.Report.{with_label}
-use Rattle.faults.specs.Warnings.{parts_for}
 use Rattle.faults.proofs.findings.labels_of.Given as goal
 
 abbrev pub invariant-loop-text : goal.invariant-loop-text

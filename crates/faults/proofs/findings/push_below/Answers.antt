@@ -1,13 +1,20 @@
-use Rattle.std.proofs.Common.{◌≡◌, ◌∙◌, ap, ◌++◌, decimal, subst, List, ℕ}
+use Rattle.std.proofs.Common.{◌≡◌, ◌∙◌, ap, ◌++◌, decimal, map, subst, List, ℕ, Some}
 use Rattle.std.specs.Prelude.{OnOk}
+use Rattle.yayul.specs.Readings.{parts_in}
 use Rattle.faults.specs.Causes.{Cause}
-use Rattle.faults.specs.Report.{caused_text}
-use Rattle.faults.specs.Views.{cause_in}
-use Rattle.faults.specs.Warnings.{parts_in}
+use Rattle.faults.specs.Objects.{Place, place_of}
+use Rattle.faults.specs.Report.{as_error, told_in}
+use Rattle.faults.specs.Views.{cause_in, place_in}
+use Rattle.faults.specs.declared.told.Told.{Told}
 use Rattle.faults.proofs.findings.push_below.Goals as goal
 
 pub returns : goal.returns
 returns c =
     let digits : c.as_slice-line.result.now ≡ decimal c.args.line = c.as_slice-line.ensures.value ∙ c.push_decimal.ensures.items ∙ ap (λ before. before ++ decimal c.args.line) c.new-digits.ensures in
-    let tells = λ (label : List ℕ) (cause : Cause). OnOk c.push_caused.result (c.push_caused.new.out.items ≡ c.args.out.now.items ++ caused_text c.args.name.now c.args.text.now (parts_in c.args.parts.now) label c.args.severity c.args.finding.now cause) in
-    subst (tells (decimal c.args.line)) c.below_cause.ensures (subst (λ label. tells label (cause_in c.below_cause.result)) digits c.push_caused.ensures)
+    let tells = λ (label : List ℕ) (place : Place) (told : Told) (cause : Cause).
+    OnOk c.push_finding.result (c.push_finding.new.out.items ≡ c.args.out.now.items ++ told_in c.args.notation c.args.name.now c.args.text.now (parts_in c.args.parts.now) label (Some place) told cause) in
+    let there : Place = place_of c.args.language (map (λ t. t.now) c.args.texts.now) c.args.line in
+    subst (tells (decimal c.args.line) there (as_error c.args.fault.now)) c.below_cause-cause.ensures
+    (subst (λ told. tells (decimal c.args.line) there told (cause_in c.below_cause-cause.result)) c.error-told.ensures
+    (subst (λ place. tells (decimal c.args.line) place c.error-told.result (cause_in c.below_cause-cause.result)) c.place_of.ensures
+    (subst (λ label. tells label (place_in c.place_of.result) c.error-told.result (cause_in c.below_cause-cause.result)) digits c.push_finding.ensures)))

@@ -1,8 +1,8 @@
 use Rattle.std.proofs.Common.{◌≡◌, ◌++◌, take, map}
 use Rattle.std.specs.Prelude.{flat_map}
-use Rattle.faults.specs.Report.{shown_finding, as_warning}
+use Rattle.faults.specs.Report.{shown_warning}
 use Rattle.faults.proofs.findings.push_warnings.Given as goal
 
 abbrev pub invariant-loop-warning : goal.invariant-loop-warning
 invariant-loop-warning l =
-    l.out.items ≡ l.initial.out.items ++ flat_map (shown_finding l.language l.name l.labels (map (λ t. t.now) l.texts)) (map as_warning (take l.warning-index l.warnings))
+    l.out.items ≡ l.initial.out.items ++ flat_map (shown_warning l.notation l.language l.name (map (λ t. t.now) l.texts)) (take l.warning-index l.warnings)

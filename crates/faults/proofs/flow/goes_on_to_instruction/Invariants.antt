@@ -1,5 +1,6 @@
 use Rattle.std.proofs.Common.{◌≡◌, drop, map}
-use Rattle.faults.specs.Warnings.{goes_on_to_instruction, parts_in}
+use Rattle.yayul.specs.Readings.{parts_in}
+use Rattle.faults.specs.Warnings.{goes_on_to_instruction}
 use Rattle.faults.proofs.flow.goes_on_to_instruction.Given as goal
 
 abbrev pub invariant-loop-parts : goal.invariant-loop-parts

@@ -1,7 +1,8 @@
 use Rattle.std.proofs.Common.{◌≡◌, ◌++◌, ◌+◌, ◌-◌, length, map, take}
 use Rattle.agc_text.specs.Lines.{lines}
 use Rattle.yayul.specs.Flight.{most_lines}
-use Rattle.faults.specs.Warnings.{lines_apart, parts_for, parts_in}
+use Rattle.yayul.specs.Readings.{parts_for, parts_in}
+use Rattle.faults.specs.Warnings.{lines_apart}
 use Rattle.faults.proofs.mistakes.lines_apart.Given as goal
 
 abbrev pub invariant-loop : goal.invariant-loop

@@ -90,3 +90,21 @@ returns-in-35 c = rw c.in-35.is refl
 
 pub returns-in-36 : goal.returns-in-36
 returns-in-36 c = rw c.in-36.is refl
+
+pub returns-in-40 : goal.returns-in-40
+returns-in-40 c = rw c.in-40.is refl
+
+pub returns-in-41 : goal.returns-in-41
+returns-in-41 c = rw c.in-41.is refl
+
+pub returns-in-42 : goal.returns-in-42
+returns-in-42 c = rw c.in-42.is refl
+
+pub returns-in-50 : goal.returns-in-50
+returns-in-50 c = rw c.in-50.is refl
+
+pub returns-in-51 : goal.returns-in-51
+returns-in-51 c = rw c.in-51.is refl
+
+pub returns-in-52 : goal.returns-in-52
+returns-in-52 c = rw c.in-52.is refl

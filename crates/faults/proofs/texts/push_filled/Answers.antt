@@ -1,6 +1,6 @@
 use Rattle.std.proofs.Common.{◌∙◌, ap, drop, take}
 use Rattle.std.proofs.lemmas.List.{nil_from_length}
-use Rattle.faults.specs.Warnings.{parts_in}
+use Rattle.yayul.specs.Readings.{parts_in}
 use Rattle.faults.proofs.Filling.{filled_on, filled_out}
 use Rattle.faults.proofs.texts.push_filled.Goals as goal
 

@@ -1,6 +1,6 @@
 use Rattle.std.proofs.Common.{◌≡◌, ◌++◌, length}
+use Rattle.yayul.specs.Readings.{parts_in}
 use Rattle.faults.specs.Causes.{filled}
-use Rattle.faults.specs.Warnings.{parts_in}
 use Rattle.faults.proofs.texts.push_filled.Given as goal
 
 abbrev pub invariant-loop-rest : goal.invariant-loop-rest

@@ -7,5 +7,5 @@ use Rattle.trace.proofs.written.push_each.Given as goal
 abbrev pub invariant-loop-cell : goal.invariant-loop-cell
 invariant-loop-cell g l = record {
   items : l.line.items ≡ l.initial.line.items ++ flat_map (written (g.N.Names.table l.names) l.machine.cells) (take l.cell-index l.cells);
-  len : array_vec_len l.line ≤ array_vec_len l.initial.line + 16 * l.cell-index;
+  len : array_vec_len l.line ≤ array_vec_len l.initial.line + 20 * l.cell-index;
 }

@@ -1,5 +1,6 @@
 use Rattle.std.proofs.Common.{◌≡◌, ◌∙◌, true, refl, sym, ap, arith, rules}
 use Rattle.std.proofs.lemmas.Result.{err_from_is_err_and}
+use Rattle.cpu.specs.Run.{run}
 use Rattle.cpu.proofs.RunLaws.{run-zero}
 use Rattle.words.specs.Devices.{one_more}
 use Rattle.workshop.specs.Runs.{BreaksOff}
@@ -15,7 +16,7 @@ loop-done-init g c =
     record {
       scenario = refl;
       stands = record {
-        run = stands_at_start _ c.args.processor.now.scenario _ _ (c.start-machine.ensures.start ∙ sym (run-zero c.args.processor.now.scenario));
+        run = stands_at_start _ c.args.processor.now.scenario _ _ (c.requires.start ∙ sym (run-zero c.args.processor.now.scenario));
         counted = c.requires.none c.args.processor.now.scenario;
       };
       failures = refl;
@@ -145,3 +146,8 @@ returns-in_err-step_and_write-clause-meter g c =
 
 pub returns-in_err-hand_on-clause-meter : goal.returns-in_err-hand_on-clause-meter
 returns-in_err-hand_on-clause-meter g c = let now = c.loop-done-2.invariant.meter _ c.loop-done.invariant.meter in omega (arith, now)
+
+pub returns-clause-end : goal.returns-clause-end
+returns-clause-end g c =
+    let all : c.loop-done.done ≡ c.args.steps = omega arith in
+    c.loop-done.invariant.stands.run.state ∙ ap (λ n. run c.args.processor.now.scenario n) all

@@ -8,7 +8,7 @@ use Rattle.workshop.proofs.tracing.trace.Given as goal
 abbrev pub invariant-loop-done : goal.invariant-loop-done
 invariant-loop-done g l = record {
   scenario : l.processor.scenario ≡ l.initial.processor.scenario;
-  stands : Stands g.W.Write.told l.names l.initial.processor.scenario l.first l.done l.machine (g.W.Write.written l.initial.out) (g.W.Write.written l.out);
+  stands : Stands g.W.Write.told l.form l.names l.initial.processor.scenario l.first l.done l.machine (g.W.Write.written l.initial.out) (g.W.Write.written l.out);
   failures : g.W.Write.failures l.out ≡ g.W.Write.failures l.initial.out;
   within : l.done ≤ l.steps;
   handed_on : g.W.Write.told ≡ true → 0 < l.done → g.W.Write.handed_on l.out ≡ g.W.Write.written l.out;
@@ -24,8 +24,8 @@ abbrev pub invariant-loop-done-2 : goal.invariant-loop-done-2
 invariant-loop-done-2 g l = record {
   scenario : l.processor.scenario ≡ l.initial.processor.scenario;
   stands : (scenario : Scenario) (old : List ℕ) → l.initial.processor.scenario ≡ scenario
-      → Stands g.W.Write.told l.names scenario l.first l.initial.done l.initial.machine old (g.W.Write.written l.initial.out)
-      → Stands g.W.Write.told l.names scenario l.first l.done l.machine old (g.W.Write.written l.out);
+      → Stands g.W.Write.told l.form l.names scenario l.first l.initial.done l.initial.machine old (g.W.Write.written l.initial.out)
+      → Stands g.W.Write.told l.form l.names scenario l.first l.done l.machine old (g.W.Write.written l.out);
   failures : g.W.Write.failures l.out ≡ g.W.Write.failures l.initial.out;
   within : l.done ≤ l.stop;
   further : l.initial.done ≤ l.done;

@@ -4,16 +4,20 @@ use Rattle.yayul.specs.Program.{Source}
 use Rattle.debugger.specs.Terms.{Terms}
 use Rattle.debugger.specs.Inputs.{inputs_text}
 use Rattle.debugger.specs.ExtendedReplies.{extended_reply}
-use Rattle.commands.specs.declared.extended.ExtendedLine.TheVariants.{Plain, Common, WhyStep, Why, Words, Where, Find, Trace, Inputs, Listed, Values, Channels, Differs, WhySince, TailSteps}
+use Rattle.commands.specs.declared.extended.ExtendedLine.TheVariants.{Plain, Common, WhyStep, Why, Words, Where, Find, Trace, Inputs, Listed, Values, Channels, Differs, WhySince, TailSteps, Survey, Say, WhatIf, Calls}
 use Rattle.debugger.specs.Conversation.{to_asked, link_effort}
 use Rattle.debugger.specs.History.{history}
+use Rattle.debugger.specs.CallsTold.{calls_text}
 use Rattle.debugger.specs.Channels.{channels_text}
 use Rattle.debugger.specs.Differs.{differs_text}
 use Rattle.cpu.specs.Run.{run}
 use Rattle.debugger.specs.Standing.{words_text, where_text, found_text, rows_text}
 use Rattle.debugger.specs.declared.rows.RowKind.TheVariants.{Instruction, Number}
 use Rattle.debugger.specs.Retracing.{traced_text}
+use Rattle.say.specs.declared.form.LineForm.TheVariants.{Steps, Sentences}
 use Rattle.debugger.specs.SteppedTail.{stepped_tail}
+use Rattle.debugger.specs.Surveys.{survey_text}
+use Rattle.debugger.specs.WhatIfs.{tries}
 use Rattle.debugger.specs.Whys.{why_text, last_text, subject_spots}
 use Rattle.debugger.specs.WhysSince.{since_text}
 use Rattle.commands.specs.declared.command.ParsedLine.TheVariants.{Known}
@@ -114,7 +118,7 @@ pub returns-in-Trace-clause-executes : goal.returns-in-Trace-clause-executes
 unfolding extended_reply
 returns-in-Trace-clause-executes g c = λ told.
     let looked = c.trace.ensures.looked in
-    rw c.in-Trace.is (replies-text g.K.Keeper.may_refuse (to_asked (terms c.args.symbols.now c.args.rows.now c.args.first_added) (Trace c.in-Trace.steps)) _ _ _ _ (traced_text c.args.symbols.now c.args.session.now.scenario c.args.self.now.position c.in-Trace.steps) _ _ (λ answers additions. rw (looked.scenario, looked.steps) refl) refl (c.trace.ensures.writes told))
+    rw c.in-Trace.is (replies-text g.K.Keeper.may_refuse (to_asked (terms c.args.symbols.now c.args.rows.now c.args.first_added) (Trace c.in-Trace.steps)) _ _ _ _ (traced_text Steps c.args.symbols.now c.args.session.now.scenario c.args.self.now.position c.in-Trace.steps) _ _ (λ answers additions. rw (looked.scenario, looked.steps) refl) refl (c.trace.ensures.writes told))
 
 pub returns-in-TailSteps-clause-executes : goal.returns-in-TailSteps-clause-executes
 unfolding extended_reply
@@ -160,3 +164,26 @@ unfolding extended_reply
 returns-in-Differs-clause-executes g c = λ told.
     let looked = c.differs.ensures.looked in
     rw c.in-Differs.is (replies-text g.K.Keeper.may_refuse (to_asked (terms c.args.symbols.now c.args.rows.now c.args.first_added) (Differs c.in-Differs.step)) _ _ _ _ (differs_text c.args.session.now.scenario c.args.session.now.n c.args.self.now.position c.in-Differs.step) _ _ (λ answers additions. rw (looked.scenario, looked.steps) refl) refl (c.differs.ensures.writes told))
+
+pub returns-in-Survey-clause-executes : goal.returns-in-Survey-clause-executes
+unfolding extended_reply
+returns-in-Survey-clause-executes g c = λ told.
+    let looked = c.survey.ensures.looked in
+    rw c.in-Survey.is (replies-text g.K.Keeper.may_refuse (to_asked (terms c.args.symbols.now c.args.rows.now c.args.first_added) (Survey c.in-Survey.asked)) _ _ _ _ (survey_text c.args.session.now.scenario c.args.session.now.n c.in-Survey.asked) _ _ (λ answers additions. rw (looked.scenario, looked.steps) refl) refl (c.survey.ensures.writes told))
+
+pub returns-in-Say-clause-executes : goal.returns-in-Say-clause-executes
+unfolding extended_reply
+returns-in-Say-clause-executes g c = λ told.
+    let looked = c.trace-in-Say.ensures.looked in
+    rw c.in-Say.is (replies-text g.K.Keeper.may_refuse (to_asked (terms c.args.symbols.now c.args.rows.now c.args.first_added) (Say c.in-Say.steps)) _ _ _ _ (traced_text Sentences c.args.symbols.now c.args.session.now.scenario c.args.self.now.position c.in-Say.steps) _ _ (λ answers additions. rw (looked.scenario, looked.steps) refl) refl (c.trace-in-Say.ensures.writes told))
+
+pub returns-in-WhatIf-clause-executes : goal.returns-in-WhatIf-clause-executes
+unfolding extended_reply
+returns-in-WhatIf-clause-executes g c = λ told.
+    rw c.in-WhatIf.is (replies-same g.K.Keeper.may_refuse (to_asked (terms c.args.symbols.now c.args.rows.now c.args.first_added) (WhatIf c.in-WhatIf.input c.in-WhatIf.steps)) (tries c.in-WhatIf.input c.in-WhatIf.steps) _ _ _ _ _ (λ answers additions. refl) (c.what_if.ensures.executes told))
+
+pub returns-in-Calls-clause-executes : goal.returns-in-Calls-clause-executes
+unfolding extended_reply
+returns-in-Calls-clause-executes g c = λ told.
+    let looked = c.calls.ensures.looked in
+    rw c.in-Calls.is (replies-text g.K.Keeper.may_refuse (to_asked (terms c.args.symbols.now c.args.rows.now c.args.first_added) Calls) _ _ _ _ (calls_text c.args.symbols.now c.args.session.now.scenario c.args.self.now.position) _ _ (λ answers additions. rw (looked.scenario, looked.steps) refl) (c.as_slice-in-Calls.ensures.value ∙ c.calls.ensures.text) (c.write_all-in-Calls.ensures.written told))

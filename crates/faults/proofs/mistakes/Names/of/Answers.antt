@@ -1,12 +1,13 @@
 use Rattle.std.proofs.Common.{◌∙◌, ◌+◌, None, false, ap, arith, drop, map, sym}
 use Rattle.std.specs.List.{fold}
 use Rattle.std.proofs.lemmas.List.{drop_more}
-use Rattle.agc_text.specs.declared.fields.Line.{Line}
-use Rattle.faults.specs.Warnings.{banks_after, parts_in, with_field, with_read, with_single}
+use Rattle.yayul.specs.declared.reading.Reading.{Reading}
+use Rattle.yayul.specs.Readings.{parts_in}
+use Rattle.faults.specs.Warnings.{banks_after, with_field, with_read, with_single}
 use Rattle.faults.proofs.mistakes.Names.of.Goals as goal
 
-abbrev nothing : Line
-nothing = record { label = None; operator = None; operand = None; offset = None; more = false }
+abbrev nothing : Reading
+nothing = record { label = None; operator = None; operand = None; offset = None; more = false; role = None }
 
 pub loop-parts-preserved : goal.loop-parts-preserved
 loop-parts-preserved c =

@@ -1,6 +1,7 @@
 use Rattle.std.proofs.Common.{◌≡◌, [], drop, map}
 use Rattle.std.specs.List.{fold}
-use Rattle.faults.specs.Warnings.{banks_after, banks_of, parts_in, with_field, with_read, with_single}
+use Rattle.yayul.specs.Readings.{parts_in}
+use Rattle.faults.specs.Warnings.{banks_after, banks_of, with_field, with_read, with_single}
 use Rattle.faults.proofs.mistakes.Names.of.Given as goal
 
 abbrev pub invariant-loop-parts : goal.invariant-loop-parts

@@ -1,12 +1,13 @@
 use Rattle.std.proofs.Common.{◌∙◌, ◌+◌, ◌++◌, None, false, ap, arith, drop, get_or, map}
 use Rattle.std.proofs.lemmas.List.{drop_more}
-use Rattle.agc_text.specs.declared.fields.Line.{Line}
-use Rattle.faults.specs.Warnings.{parts_in, line_warnings, warned_lines}
+use Rattle.yayul.specs.declared.reading.Reading.{Reading}
+use Rattle.yayul.specs.Readings.{parts_in}
+use Rattle.faults.specs.Warnings.{line_warnings, warned_lines}
 use Rattle.faults.proofs.Merging.{warned_step}
 use Rattle.faults.proofs.mistakes.Names.warn.Goals as goal
 
-abbrev nothing : Line
-nothing = record { label = None; operator = None; operand = None; offset = None; more = false }
+abbrev nothing : Reading
+nothing = record { label = None; operator = None; operand = None; offset = None; more = false; role = None }
 
 pub loop-index-preserved : goal.loop-index-preserved
 loop-index-preserved c =

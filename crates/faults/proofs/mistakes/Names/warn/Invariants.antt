@@ -1,5 +1,6 @@
 use Rattle.std.proofs.Common.{◌≡◌, ◌++◌, ◌+◌, drop, map}
-use Rattle.faults.specs.Warnings.{at_start, parts_in, warned_lines}
+use Rattle.yayul.specs.Readings.{parts_in}
+use Rattle.faults.specs.Warnings.{at_start, warned_lines}
 use Rattle.faults.proofs.mistakes.Names.warn.Given as goal
 
 abbrev pub invariant-loop-index : goal.invariant-loop-index

@@ -1,0 +1,7 @@
+mod Slots
+pub mod Counting
+pub mod Nearest
+pub mod Sums
+pub mod Texts
+mod AccessRows
+mod Asking

@@ -1,0 +1,152 @@
+//! Where the bytes of an image come from: a file as it stands, one that stands otherwise than as written, or a text of octal words.
+
+use crate::files::{no_memory, not_opened};
+use arguments::ImageLayout;
+use octals::{is_beginning, octal_image};
+use plans::Image;
+use std::alloc::{AllocError, Global};
+use std::io::Read;
+use std::{fs, io};
+use words::{MOST_BYTES, ReadAhead, ReadFault, Std, read_text, write_all};
+use workshop::{Layout, Version, WorkshopFault, arranged};
+
+/// How many bytes an image has.
+const IMAGE_BYTES: usize = 73_728;
+
+/// How many bytes are looked at, to tell a text from an image.
+const LOOKED_AT: usize = 4096;
+
+/// The bytes of an image.
+#[derive(Drop)]
+pub enum ImageBytes {
+    /// Those of a file, as it is read.
+    File(fs::File),
+    /// Those of a file that stood otherwise.
+    Made(Made),
+    /// Those of the words of a text.
+    Octals(Made),
+}
+
+/// Bytes that were made, and how many of them were read.
+#[derive(Drop)]
+pub struct Made {
+    bytes: Vec<u8>,
+    read: usize,
+}
+
+impl Read for ImageBytes {
+    fn read(&mut self, buf: &mut [u8]) -> io::Result<usize> {
+        match self {
+            ImageBytes::File(file) => file.read(buf),
+            ImageBytes::Made(made) | ImageBytes::Octals(made) => made.read(buf),
+        }
+    }
+}
+
+impl Read for Made {
+    fn read(&mut self, buf: &mut [u8]) -> io::Result<usize> {
+        let rest = self.bytes.as_slice();
+        let rest = &rest[self.read.min(rest.len())..];
+        let count = rest.len().min(buf.len());
+        buf[..count].copy_from_slice(&rest[..count]);
+        self.read = self.read.saturating_add(count);
+        Ok(count)
+    }
+}
+
+/// The bytes of an image, of which a file that stands as written is not read yet.
+///
+/// A text of octal words that is not taken is told with its line, and then its bytes are those of an image, which is refused.
+pub fn opened_bytes(rt: &HostRuntime, image: &Image<'_>) -> Result<ImageBytes, WorkshopFault> {
+    let has_parity = match image.version {
+        Version::One => false,
+        Version::Two => true,
+    };
+    if is_octal_text(rt, image.path)? {
+        let text = text_of(rt, image.path)?;
+        match octal_image(rt.alloc(), text.as_slice(), image.version)? {
+            Ok(bytes) => return Ok(ImageBytes::Octals(Made { bytes, read: 0 })),
+            Err(line) => refuse_line(rt, image.path, line)?,
+        }
+    }
+    let file = fs::open(rt, image.path).map_err(not_opened)?;
+    if is_as_written(image.layout) {
+        return Ok(ImageBytes::File(file));
+    }
+    let Some(bytes) = bytes_of(rt, file)? else {
+        let bytes = too_many(rt.alloc(), has_parity).map_err(no_memory)?;
+        return Ok(ImageBytes::Made(Made { bytes, read: 0 }));
+    };
+    let layout = Layout {
+        is_swapped: image.layout.is_swapped,
+        is_complemented: image.layout.is_complemented,
+        is_numbered: image.layout.is_numbered,
+    };
+    let bytes = arranged(rt.alloc(), layout, bytes.as_slice()).map_err(no_memory)?;
+    Ok(ImageBytes::Made(Made { bytes, read: 0 }))
+}
+
+fn is_as_written(layout: ImageLayout) -> bool {
+    !layout.is_swapped && !layout.is_complemented && !layout.is_numbered
+}
+
+/// The bytes of a file that is an image, or nothing where it has more than one has.
+fn bytes_of(rt: &HostRuntime, file: fs::File) -> Result<Option<Vec<u8>>, WorkshopFault> {
+    let mut reader = ReadAhead::new(Std::new(file));
+    match read_text(rt.alloc(), &mut reader, IMAGE_BYTES) {
+        Ok(bytes) => Ok(Some(bytes)),
+        Err(ReadFault::TooLong) => Ok(None),
+        Err(ReadFault::NoMemory) => Err(WorkshopFault::NoMemory),
+        Err(ReadFault::ReadFailed) => Err(WorkshopFault::ReadFailed),
+    }
+}
+
+/// More bytes than an image has, which spell words 0.
+fn too_many(alloc: Global, has_parity: bool) -> Result<Vec<u8>, AllocError> {
+    let mut bytes = Vec::new(alloc);
+    for _ in 0..IMAGE_BYTES / 2 + 1 {
+        bytes.extend_from_slice(&[0, u8::from(has_parity)])?;
+    }
+    Ok(bytes)
+}
+
+/// The bytes of a file that is a text.
+fn text_of(rt: &HostRuntime, path: &str) -> Result<Vec<u8>, WorkshopFault> {
+    let file = fs::open(rt, path).map_err(not_opened)?;
+    let mut reader = ReadAhead::new(Std::new(file));
+    Ok(read_text(rt.alloc(), &mut reader, MOST_BYTES)?)
+}
+
+/// Whether a path leads to a plain file that begins as a text of octal words does.
+fn is_octal_text(rt: &HostRuntime, path: &str) -> Result<bool, WorkshopFault> {
+    if !fs::metadata(rt, path).map_err(not_opened)?.is_file() {
+        return Ok(false);
+    }
+    let mut file = fs::open(rt, path).map_err(not_opened)?;
+    let mut bytes = [0; LOOKED_AT];
+    let count = file.read(&mut bytes).map_err(not_opened)?;
+    let beginning = &bytes[..count];
+    Ok(are_text(beginning) && is_beginning(beginning))
+}
+
+/// Whether all bytes are those of a text.
+fn are_text(bytes: &[u8]) -> bool {
+    for byte in bytes {
+        if !matches!(*byte, b'\t' | b'\n' | b'\r' | b' '..=b'~') {
+            return false;
+        }
+    }
+    true
+}
+
+/// Tells a line of a text of octal words that is not taken.
+fn refuse_line(rt: &HostRuntime, path: &str, line: u64) -> Result<(), WorkshopFault> {
+    let told = format!(in rt.alloc();
+        "{path}:{line}: error: a text of octal words has lines of BANK= and a bank, each once, and below it words of five octal digits, at most 1024\n"
+    );
+    write_all(
+        &mut Std::new(rt.stderr()),
+        told.map_err(no_memory)?.as_bytes(),
+    )?;
+    Ok(())
+}

@@ -1,0 +1,10 @@
+pub mod AlignLines
+pub mod AlignTexts
+pub mod Alignments
+pub mod Carried
+pub mod CarriedNames
+pub mod Evidences
+pub mod Pairings
+pub mod Renamings
+pub mod RenamedLines
+pub mod Tokens

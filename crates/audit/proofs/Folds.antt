@@ -1,0 +1,80 @@
+-- Counts and sums over the words of a bank, one number after another.
+use Rattle.std.proofs.Common.{◌≡◌, ℕ, zero, suc, ◌+◌, ◌≤◌, Bool, true, false, List, refl, arith, add-one, inl, inr}
+use Rattle.std.proofs.lemmas.Bool.{cases_Bool}
+use Rattle.audit.specs.BankFacts.{all_before, count_before, dead_bit_before, even_words_before, is_dead, mended_sum_before, mended_word, wrong_words}
+use Rattle.audit.specs.Mended.{last_before}
+use Rattle.audit.specs.Sums.{added}
+
+pub count_first : (f : ℕ → Bool) → count_before f 0 ≡ 0
+unfolding count_before
+count_first f = refl
+
+pub count_there : (f : ℕ → Bool) (n : ℕ) → f n ≡ true → count_before f (n + 1) ≡ count_before f n + 1
+unfolding count_before
+count_there f n there = rw (add-one n, there) refl
+
+pub count_passed : (f : ℕ → Bool) (n : ℕ) → f n ≡ false → count_before f (n + 1) ≡ count_before f n
+unfolding count_before
+count_passed f n none = rw (add-one n, none) refl
+
+-- no more are counted than there are
+pub count_within : (f : ℕ → Bool) (n : ℕ) → count_before f n ≤ n
+unfolding count_before
+count_within f zero = omega arith
+count_within f (suc n) = elim (cases_Bool (f n)) [
+  | inl there ↦ rw there (let le = count_within f n in omega (arith, le))
+  | inr none ↦ rw none (let le = count_within f n in omega (arith, le))
+]
+
+pub all_first : (f : ℕ → Bool) → all_before f 0 ≡ true
+unfolding all_before
+all_first f = refl
+
+pub all_there : (f : ℕ → Bool) (n : ℕ) → f n ≡ true → all_before f (n + 1) ≡ all_before f n
+unfolding all_before
+all_there f n there = rw (add-one n, there) refl
+
+pub all_passed : (f : ℕ → Bool) (n : ℕ) → f n ≡ false → all_before f (n + 1) ≡ false
+unfolding all_before
+all_passed f n none = rw (add-one n, none) refl
+
+pub even_first : (image : List ℕ) → even_words_before image 0 ≡ 0
+unfolding even_words_before
+even_first image = refl
+
+pub even_more : (image : List ℕ) (n : ℕ) → even_words_before image (n + 1) ≡ even_words_before image n + wrong_words image false n
+unfolding even_words_before
+even_more image n = rw (add-one n) refl
+
+pub mended_first : (image : List ℕ) (turned : Bool) (bank bit : ℕ) → mended_sum_before image turned bank bit 0 ≡ 0
+unfolding mended_sum_before
+mended_first image turned bank bit = refl
+
+pub mended_more : (image : List ℕ) (turned : Bool) (bank bit n : ℕ)
+    → mended_sum_before image turned bank bit (n + 1) ≡ added (mended_sum_before image turned bank bit n) (mended_word image turned bank bit n)
+unfolding mended_sum_before
+mended_more image turned bank bit n = rw (add-one n) refl
+
+pub dead_first : (image : List ℕ) (bank : ℕ) → dead_bit_before image bank 0 ≡ 0
+unfolding dead_bit_before
+dead_first image bank = refl
+
+pub dead_there : (image : List ℕ) (bank n : ℕ) → is_dead image bank (n + 1) ≡ true → dead_bit_before image bank (n + 1) ≡ n + 1
+unfolding dead_bit_before
+dead_there image bank n there = rw (add-one n, there) (add-one n)
+
+pub dead_passed : (image : List ℕ) (bank n : ℕ) → is_dead image bank (n + 1) ≡ false → dead_bit_before image bank (n + 1) ≡ dead_bit_before image bank n
+unfolding dead_bit_before
+dead_passed image bank n none = rw (add-one n, none) refl
+
+pub last_first : (f : ℕ → Bool) → last_before f 0 ≡ 0
+unfolding last_before
+last_first f = refl
+
+pub last_there : (f : ℕ → Bool) (n : ℕ) → f n ≡ true → last_before f (n + 1) ≡ n
+unfolding last_before
+last_there f n there = rw (add-one n, there) refl
+
+pub last_passed : (f : ℕ → Bool) (n : ℕ) → f n ≡ false → last_before f (n + 1) ≡ last_before f n
+unfolding last_before
+last_passed f n none = rw (add-one n, none) refl

@@ -1,0 +1,26 @@
+use Rattle.std.proofs.Common.{◌∙◌, arith}
+use Rattle.std.proofs.lemmas.Result.{err_from_is_err_and}
+use Rattle.rope.specs.Places.{bank_words}
+use Rattle.audit.specs.Damages.{wrong_lines, wrong_text}
+use Rattle.audit.proofs.PartTexts.{begins_parts, writes_more, front_ends}
+use Rattle.audit.proofs.wrong_words.write_wrong_words.Goals as goal
+
+pub returns-in_err-write_wrong_word-clause-written : goal.returns-in_err-write_wrong_word-clause-written
+unfolding wrong_lines
+returns-in_err-write_wrong_word-clause-written g c = λ told.
+    let p = err_from_is_err_and c.from_residual.result c.from_residual.ensures.1 in
+    rw p.1 (begins_parts (wrong_text c.args.image.now c.args.turned c.args.bank) c.loop-number.number bank_words _ _ _ c.loop-number-test.true (c.loop-number.invariant.written told)
+    (rw c.offset_of.ensures at (c.in_err-write_wrong_word.ensures.written told)))
+
+pub loop-number-preserved : goal.loop-number-preserved
+loop-number-preserved g c = record {
+  written = λ told.
+      writes_more (wrong_text c.args.image.now c.args.turned c.args.bank) c.loop-number.number _ _ _ (c.loop-number.invariant.written told)
+      (rw c.offset_of.ensures at (c.in_ok-write_wrong_word.ensures.written told));
+  failures = c.in_ok-write_wrong_word.ensures.failures ∙ c.loop-number.invariant.failures;
+}
+
+pub returns-clause-written : goal.returns-clause-written
+unfolding wrong_lines
+returns-clause-written g c = λ told.
+    front_ends (wrong_text c.args.image.now c.args.turned c.args.bank) c.loop-number.number bank_words _ _ (omega arith) (c.loop-number.invariant.written told)

@@ -1,0 +1,286 @@
+//! What the words of a bank, their parities and their sum tell together.
+
+ghost use Rattle.std.specs.Prelude.{◌≡◌, ◌+◌, ◌-◌, ◌*◌, ◌^◌, ◌==◌, ◌<◌, ◌≤◌, ◌||◌, true};
+ghost use Rattle.rope.specs.Places.{banks, bank_words};
+ghost use Rattle.audit.specs.BankFacts.{all_before, bit_of, count_before, dead_bit, dead_bit_before, even_words_before, is_always, is_blank, is_copy, is_dead, is_lost, is_turned, is_uniform, is_wrong, mended_sum, mended_word, mends, with_bit_cleared, with_bit_turned, wrong_words};
+
+use crate::form_sums::holds_sum;
+use crate::lines::{bank_of, offset_of};
+use crate::sums::added;
+use rope::Dump;
+use space::{BANK_WORDS, Bank, FIXED_BANKS, Offset};
+use words::Word;
+
+/// How many words fixed memory has.
+const PLACES: u32 = 36 * 1024;
+
+/// From so many words of wrong parity on a bit that is the same in all words is told whatever the sum.
+const MANY_WORDS: u16 = 32;
+
+/// The bits of an offset.
+const OFFSET_BITS: u32 = 10;
+
+/// Whether most words of an image have two bytes with an even number of one bits.
+#[tactic(auto, using(crate::proofs::Folds::even_first, crate::proofs::Folds::even_more))]
+pub(crate) fn is_turned(image: &Dump) -> bool
+    ensures { result ≡ is_turned image.now }
+{
+    let mut count: u32 = 0;
+    for number in 0..FIXED_BANKS {
+        count += u32::from(wrong_words(image, false, bank_of(number)));
+    }
+    PLACES < 2 * count
+}
+
+/// Whether the parity at a place is wrong.
+pub(crate) fn is_wrong(image: &Dump, turned: bool, bank: Bank, offset: Offset) -> bool
+    requires { bank < banks }
+    ensures { result ≡ is_wrong image.now turned bank offset }
+{
+    if turned {
+        image.has_parity(bank, offset)
+    } else {
+        !image.has_parity(bank, offset)
+    }
+}
+
+/// How many words of a bank have a wrong parity.
+#[tactic(auto, using(crate::proofs::Folds::count_first, crate::proofs::Folds::count_there, crate::proofs::Folds::count_passed))]
+pub(crate) fn wrong_words(image: &Dump, turned: bool, bank: Bank) -> u16
+    requires { bank < banks }
+    ensures count { result ≡ wrong_words image.now turned bank }
+    ensures few { result ≤ bank_words }
+{
+    let mut count = 0;
+    for number in 0..BANK_WORDS {
+        if is_wrong(image, turned, bank, offset_of(number)) {
+            count += 1;
+        }
+    }
+    count
+}
+
+/// A word with one of its bits turned, of which 1 is the lowest; by 0 it stays.
+pub(crate) fn with_bit_turned(word: Word, bit: u32) -> Word
+    requires { bit < 16 }
+    ensures { result ≡ with_bit_turned word bit }
+{
+    if bit == 0 {
+        word
+    } else {
+        word.xor(Word::of_low_bits(power_of_two(bit - 1)))
+    }
+}
+
+/// A power of two that a word has a bit for.
+fn power_of_two(count: u32) -> u16
+    requires { count ≤ 14 }
+    ensures value { result ≡ 2 ^ count }
+    ensures some { 1 ≤ result }
+    ensures few { result < 2 ^ 15 }
+{
+    1 << count
+}
+
+/// The sum of a bank, with a bit turned in each of its words of wrong parity.
+#[tactic(auto, using(crate::proofs::Folds::mended_first, crate::proofs::Folds::mended_more))]
+pub(crate) fn mended_sum(image: &Dump, turned: bool, bank: Bank, bit: u32) -> Word
+    requires bank { bank < banks }
+    requires bit { bit < 16 }
+    ensures { result ≡ mended_sum image.now turned bank bit }
+{
+    let mut total = Word::ZERO;
+    for number in 0..BANK_WORDS {
+        total = added(
+            total,
+            mended_word(image, turned, bank, bit, offset_of(number)),
+        );
+    }
+    total
+}
+
+/// The word at a place, with a bit turned where its parity is wrong.
+pub(crate) fn mended_word(image: &Dump, turned: bool, bank: Bank, bit: u32, offset: Offset) -> Word
+    requires bank { bank < banks }
+    requires bit { bit < 16 }
+    ensures { result ≡ mended_word image.now turned bank bit offset }
+{
+    let word = image.word(bank, offset);
+    if is_wrong(image, turned, bank, offset) {
+        with_bit_turned(word, bit)
+    } else {
+        word
+    }
+}
+
+/// Whether a bank's sum is its own, where a bit is turned in each of its words of wrong parity.
+pub(crate) fn mends(image: &Dump, turned: bool, bank: Bank, bit: u32) -> bool
+    requires bank { bank < banks }
+    requires bit { bit < 16 }
+    ensures { result ≡ mends image.now turned bank bit }
+{
+    holds_sum(bank, mended_sum(image, turned, bank, bit))
+}
+
+/// Whether all words of a bank are its first one.
+#[tactic(auto, using(crate::proofs::Folds::all_first, crate::proofs::Folds::all_there, crate::proofs::Folds::all_passed))]
+pub(crate) fn is_uniform(image: &Dump, bank: Bank) -> bool
+    requires { bank < banks }
+    ensures { result ≡ is_uniform image.now bank }
+{
+    let first = image.word(bank, offset_of(0));
+    let mut all = true;
+    for number in 0..BANK_WORDS {
+        if image.word(bank, offset_of(number)) != first {
+            all = false;
+        }
+    }
+    all
+}
+
+/// Whether a bank has the words of another.
+#[tactic(auto, using(crate::proofs::Folds::all_first, crate::proofs::Folds::all_there, crate::proofs::Folds::all_passed))]
+pub(crate) fn is_copy(image: &Dump, bank: Bank, other: Bank) -> bool
+    requires bank { bank < banks }
+    requires other { other < banks }
+    ensures { result ≡ is_copy image.now bank other }
+{
+    let mut all = true;
+    for number in 0..BANK_WORDS {
+        let offset = offset_of(number);
+        if image.word(bank, offset) != image.word(other, offset) {
+            all = false;
+        }
+    }
+    all
+}
+
+/// Whether all words of a bank that have the right parity are 00000.
+#[tactic(auto, using(crate::proofs::Folds::all_first, crate::proofs::Folds::all_there, crate::proofs::Folds::all_passed))]
+pub(crate) fn is_blank(image: &Dump, turned: bool, bank: Bank) -> bool
+    requires { bank < banks }
+    ensures { result ≡ is_blank image.now turned bank }
+{
+    let mut all = true;
+    for number in 0..BANK_WORDS {
+        let offset = offset_of(number);
+        if !(is_wrong(image, turned, bank, offset) || image.word(bank, offset) == Word::ZERO) {
+            all = false;
+        }
+    }
+    all
+}
+
+/// A bit of a word, of which 1 is the lowest.
+fn bit_of(word: u16, bit: u32) -> u16
+    requires some { 1 ≤ bit }
+    requires few { bit ≤ 15 }
+    ensures bit { result ≡ bit_of word bit }
+    ensures range { result ≤ 1 }
+{
+    word / power_of_two(bit - 1) % 2
+}
+
+/// Whether a bit is the same in all words of a bank.
+#[tactic(auto, using(crate::proofs::Folds::all_first, crate::proofs::Folds::all_there, crate::proofs::Folds::all_passed))]
+pub(crate) fn is_always(image: &Dump, bank: Bank, bit: u32, value: u16) -> bool
+    requires bank { bank < banks }
+    requires some { 1 ≤ bit }
+    requires few { bit ≤ 15 }
+    ensures { result ≡ is_always image.now bank bit value }
+{
+    let mut all = true;
+    for number in 0..BANK_WORDS {
+        if bit_of(image.word(bank, offset_of(number)).to_u16(), bit) != value {
+            all = false;
+        }
+    }
+    all
+}
+
+/// Whether a bit is the same in all words of a bank, and its sum says that it is lost, or many parities do.
+pub(crate) fn is_lost(image: &Dump, turned: bool, bank: Bank, bit: u32) -> bool
+    requires bank { bank < banks }
+    requires some { 1 ≤ bit }
+    requires few { bit ≤ 15 }
+    ensures { result ≡ is_lost image.now turned bank bit }
+{
+    (is_always(image, bank, bit, 0) || is_always(image, bank, bit, 1))
+        && (mends(image, turned, bank, bit) || MANY_WORDS <= wrong_words(image, turned, bank))
+}
+
+/// How many bits of a bank's words are lost.
+#[tactic(auto, using(crate::proofs::Folds::count_first, crate::proofs::Folds::count_there, crate::proofs::Folds::count_passed))]
+pub(crate) fn lost_bits(image: &Dump, turned: bool, bank: Bank) -> u16
+    requires { bank < banks }
+    ensures count { result ≡ count_before (λ n. is_lost image.now turned bank (n + 1)) 15 }
+    ensures few { result ≤ 15 }
+{
+    let mut count = 0;
+    for number in 0..15 {
+        if is_lost(image, turned, bank, number + 1) {
+            count += 1;
+        }
+    }
+    count
+}
+
+/// How many ways there are to turn a bit that make a bank's sum right.
+#[tactic(auto, using(crate::proofs::Folds::count_first, crate::proofs::Folds::count_there, crate::proofs::Folds::count_passed))]
+pub(crate) fn ways_to_mend(image: &Dump, turned: bool, bank: Bank) -> u16
+    requires { bank < banks }
+    ensures count { result ≡ count_before (mends image.now turned bank) 16 }
+    ensures few { result ≤ 16 }
+{
+    let mut count = 0;
+    for bit in 0..16 {
+        if mends(image, turned, bank, bit) {
+            count += 1;
+        }
+    }
+    count
+}
+
+/// An offset with one of its bits 0, of which 1 is the lowest.
+fn with_bit_cleared(offset: Offset, bit: u32) -> Offset
+    requires some { 1 ≤ bit }
+    requires few { bit ≤ 10 }
+    ensures { result ≡ with_bit_cleared offset bit }
+{
+    let number = offset.number();
+    offset_of(number - bit_of(number, bit) * power_of_two(bit - 1))
+}
+
+/// Whether a bit of the offset leads to the same word of a bank, 0 or 1.
+#[tactic(auto, using(crate::proofs::Folds::all_first, crate::proofs::Folds::all_there, crate::proofs::Folds::all_passed))]
+fn is_dead(image: &Dump, bank: Bank, bit: u32) -> bool
+    requires bank { bank < banks }
+    requires some { 1 ≤ bit }
+    requires few { bit ≤ 10 }
+    ensures { result ≡ is_dead image.now bank bit }
+{
+    let mut all = true;
+    for number in 0..BANK_WORDS {
+        let offset = offset_of(number);
+        if image.word(bank, offset) != image.word(bank, with_bit_cleared(offset, bit)) {
+            all = false;
+        }
+    }
+    all
+}
+
+/// The highest bit of the offset that leads to the same words of a bank, 0 or 1; 0 where none does.
+#[tactic(auto, using(crate::proofs::Folds::dead_first, crate::proofs::Folds::dead_there, crate::proofs::Folds::dead_passed))]
+pub(crate) fn dead_bit(image: &Dump, bank: Bank) -> u32
+    requires { bank < banks }
+    ensures bit { result ≡ dead_bit image.now bank }
+    ensures few { result ≤ 10 }
+{
+    let mut dead = 0;
+    for number in 0..OFFSET_BITS {
+        if is_dead(image, bank, number + 1) {
+            dead = number + 1;
+        }
+    }
+    dead
+}

@@ -1,0 +1,91 @@
+//! Fixed memory as a text of octal words.
+
+ghost use Rattle.std.specs.Prelude.{◌≡◌, ◌<◌, ◌≤◌, ◌%◌, ◌==◌, length, true};
+ghost use Rattle.std.specs.List.{range_with_len, flat_map};
+ghost use Rattle.words.specs.Devices.{Writes, failures_after};
+ghost use Rattle.rope.specs.Places.{banks};
+ghost use Rattle.audit.specs.Octals.{bank_head, bank_octals, behind, octal_word, octal_words, octals_text};
+
+use crate::lines::{Line, bank_of, offset_of};
+use arrayvec::ArrayVec;
+use rope::Rope;
+use space::{BANK_WORDS, Bank, FIXED_BANKS, Offset};
+use words::{Write, WriteFailed, push_all, push_octal, write_all};
+
+/// Writes the words of a bank, or of all banks by their numbers, as a text of octal words: a line as `BANK=02` for each bank, and
+/// below it its words of five digits, eight a line.
+///
+/// After a failure a beginning of it was written.
+pub fn write_octals<W: Write>(
+    rope: &Rope,
+    bank: Option<Bank>,
+    out: &mut W,
+) -> Result<(), WriteFailed>
+    ensures written { W.told ≡ true → Writes (W.written out.old) (W.written out.new) (octals_text rope.now bank) result }
+    ensures failures { W.failures out.new ≡ failures_after (W.failures out.old) result }
+{
+    match bank {
+        Some(bank) => write_bank(rope, bank, out),
+        None => write_banks(rope, out),
+    }
+}
+
+fn write_banks<W: Write>(rope: &Rope, out: &mut W) -> Result<(), WriteFailed>
+    ensures written { W.told ≡ true → Writes (W.written out.old) (W.written out.new) (flat_map (bank_octals rope.now) (range_with_len 0 banks)) result }
+    ensures failures { W.failures out.new ≡ failures_after (W.failures out.old) result }
+{
+    for bank in 0..FIXED_BANKS {
+        write_bank(rope, bank_of(bank), out)?;
+    }
+    Ok(())
+}
+
+fn write_bank<W: Write>(rope: &Rope, bank: Bank, out: &mut W) -> Result<(), WriteFailed>
+    ensures written { W.told ≡ true → Writes (W.written out.old) (W.written out.new) (bank_octals rope.now bank) result }
+    ensures failures { W.failures out.new ≡ failures_after (W.failures out.old) result }
+{
+    write_all(out, bank_head(bank).as_slice())?;
+    write_words(rope, bank, out)
+}
+
+/// Writes the words of a bank.
+fn write_words<W: Write>(rope: &Rope, bank: Bank, out: &mut W) -> Result<(), WriteFailed>
+    ensures written { W.told ≡ true → Writes (W.written out.old) (W.written out.new) (octal_words rope.now bank) result }
+    ensures failures { W.failures out.new ≡ failures_after (W.failures out.old) result }
+{
+    for number in 0..BANK_WORDS {
+        write_all(out, octal_word(rope, bank, offset_of(number)).as_slice())?;
+    }
+    Ok(())
+}
+
+/// The line of a bank.
+#[tactic(auto, unfolding(crate::specs::Octals::bank_head))]
+fn bank_head(bank: Bank) -> Line
+    ensures { result.items ≡ bank_head bank }
+{
+    let mut line = ArrayVec::new();
+    push_all(&mut line, b"BANK=");
+    push_octal(&mut line, 2, bank.number());
+    push_all(&mut line, b"\n");
+    line
+}
+
+/// A word of a bank, and what stands behind it.
+#[tactic(auto, unfolding(crate::specs::Octals::octal_word))]
+fn octal_word(rope: &Rope, bank: Bank, offset: Offset) -> Line
+    ensures { result.items ≡ octal_word rope.now bank offset }
+{
+    let mut line = ArrayVec::new();
+    push_octal(&mut line, 5, rope.word(bank, offset).to_u16());
+    push_all(&mut line, behind(offset.number() % 8 == 7));
+    line
+}
+
+/// What stands behind a word, by whether it is an eighth one.
+fn behind(is_eighth: bool) -> &'static [u8]
+    ensures text { result.now ≡ behind is_eighth }
+    ensures short { length result.now ≤ 1 }
+{
+    if is_eighth { b"\n" } else { b" " }
+}

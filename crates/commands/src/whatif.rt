@@ -1,0 +1,161 @@
+//! What `whatif` takes.
+
+ghost use Rattle.std.specs.Prelude.{◌≡◌};
+ghost use Rattle.agc_text.specs.Fields.{runs, texts};
+ghost use Rattle.agc_text.specs.Tables.{value_in};
+ghost use Rattle.feed.specs.Names.{sequences};
+ghost use Rattle.feed.specs.Statements.{channel_in as input_channel_in, formed, long_input, pulse_of, request_in, short_input};
+ghost use Rattle.commands.specs.WhatIfs.{tried_in, tried_of_three, usual_steps, whatif_form};
+
+use crate::command::ParsedLine;
+use crate::extended::ExtendedLine;
+use crate::fields::{OCTAL_DIGITS, count_in, is_word};
+use agc_text::{decimal, octal, split_field};
+use feed::{Counter, INTERRUPTS, Input, Interrupt, LineFault, Sequence, counter_of, word_in};
+use space::Chan;
+
+/// How many steps it goes on where no number is named.
+const USUAL_STEPS: u64 = 1_000;
+
+/// The most digits of an interrupt.
+const REQUEST_DIGITS: usize = 2;
+
+// What `whatif` takes.
+pub(crate) fn whatif_form(rest: &[u8]) -> Option<ExtendedLine>
+    ensures { result ≡ whatif_form (texts (runs rest.now)) }
+{
+    let (name, rest) = split_field(rest)?;
+    let (first, rest) = split_field(rest)?;
+    let Some((second, rest)) = split_field(rest) else {
+        return tried_in(short_input(name, first), Some(USUAL_STEPS));
+    };
+    let Some((steps, rest)) = split_field(rest) else {
+        return tried_of_three(name, first, second);
+    };
+    match split_field(rest) {
+        Some(_) => None,
+        None => tried_in(long_input(name, first, second), count_in(steps)),
+    }
+}
+
+// A word on a channel, or an input of two fields and a number of steps.
+fn tried_of_three(name: &[u8], first: &[u8], last: &[u8]) -> Option<ExtendedLine>
+    ensures { result ≡ tried_of_three name.now first.now last.now }
+{
+    if is_word(name, "CHAN") {
+        tried_in(long_input(name, first, last), Some(USUAL_STEPS))
+    } else {
+        tried_in(short_input(name, first), count_in(last))
+    }
+}
+
+// An input that is tried in so many steps, where it has its form.
+fn tried_in(input: Result<Input, LineFault>, steps: Option<u64>) -> Option<ExtendedLine>
+    ensures { result ≡ tried_in input steps }
+{
+    let steps = steps?;
+    match input {
+        Ok(input) => Some(ExtendedLine::WhatIf(input, steps)),
+        Err(LineFault::BadLine) => None,
+        Err(LineFault::WrongCounter) => Some(ExtendedLine::Plain(ParsedLine::WrongCounter)),
+    }
+}
+
+// An interrupt that is asked for, or a pulse of a counter.
+fn short_input(name: &[u8], argument: &[u8]) -> Result<Input, LineFault>
+    ensures { result ≡ short_input name.now argument.now }
+{
+    if is_word(name, "RUPT") {
+        formed(request_in(argument))
+    } else {
+        pulse_of(counter_of(name), sequence_of(argument))
+    }
+}
+
+// A word on a channel.
+fn long_input(name: &[u8], channel: &[u8], word: &[u8]) -> Result<Input, LineFault>
+    ensures { result ≡ long_input name.now channel.now word.now }
+{
+    if !is_word(name, "CHAN") {
+        return Err(LineFault::BadLine);
+    }
+    match (input_channel_in(channel), word_in(word)) {
+        (Some(channel), Some(word)) => Ok(Input::Word(channel, word)),
+        (Some(_), None) => Err(LineFault::BadLine),
+        (None, _) => Err(LineFault::BadLine),
+    }
+}
+
+// An input, where it has its form.
+fn formed(input: Option<Input>) -> Result<Input, LineFault>
+    ensures { result ≡ formed input }
+{
+    match input {
+        Some(input) => Ok(input),
+        None => Err(LineFault::BadLine),
+    }
+}
+
+// A pulse of a counter, where both have their names and the counter takes the sequence.
+fn pulse_of(counter: Option<Counter>, sequence: Option<Sequence>) -> Result<Input, LineFault>
+    ensures { result ≡ pulse_of counter sequence }
+{
+    match (counter, sequence) {
+        (Some(counter), Some(sequence)) if counter.takes(sequence) => {
+            Ok(Input::Count(counter, sequence))
+        }
+        (Some(_), Some(_)) => Err(LineFault::WrongCounter),
+        (Some(_), None) => Err(LineFault::BadLine),
+        (None, _) => Err(LineFault::BadLine),
+    }
+}
+
+// The sequence of a name.
+#[tactic(auto, unfolding(feed::specs::Names::sequences))]
+fn sequence_of(name: &[u8]) -> Option<Sequence>
+    ensures { result ≡ value_in sequences name.now }
+{
+    if is_word(name, "PINC") {
+        Some(Sequence::Pinc)
+    } else if is_word(name, "MINC") {
+        Some(Sequence::Minc)
+    } else if is_word(name, "DINC") {
+        Some(Sequence::Dinc)
+    } else if is_word(name, "PCDU") {
+        Some(Sequence::Pcdu)
+    } else if is_word(name, "MCDU") {
+        Some(Sequence::Mcdu)
+    } else if is_word(name, "SHINC") {
+        Some(Sequence::Shinc)
+    } else if is_word(name, "SHANC") {
+        Some(Sequence::Shanc)
+    } else {
+        None
+    }
+}
+
+// The channel of some octal digits, where it takes inputs: all do but L and Q.
+fn input_channel_in(field: &[u8]) -> Option<Chan>
+    ensures { result ≡ input_channel_in field.now }
+{
+    match octal(field, OCTAL_DIGITS) {
+        Some(number) if number == 0 || (3..0o1000).contains(&number) => {
+            Chan::try_new(number as u16)
+        }
+        Some(_) => None,
+        None => None,
+    }
+}
+
+// The interrupt of some decimal digits.
+fn request_in(field: &[u8]) -> Option<Input>
+    ensures { result ≡ request_in field.now }
+{
+    match decimal(field, REQUEST_DIGITS) {
+        Some(number) if (1..=u64::from(INTERRUPTS)).contains(&number) => {
+            Some(Input::Interrupt(Interrupt::new(number as u8)))
+        }
+        Some(_) => None,
+        None => None,
+    }
+}

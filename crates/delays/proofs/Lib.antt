@@ -1,0 +1,5 @@
+pub mod Exact
+pub mod Measuring
+pub mod Sums
+pub mod Texts
+mod DelayRows

@@ -1,0 +1,6 @@
+use Rattle.std.proofs.Common.{◌≡◌, ◌<◌, ℕ, false, get_or}
+use Rattle.space.specs.Places.{same_place}
+use Rattle.delays.proofs.call.depth.Given as goal
+
+abbrev pub invariant-loop-index : goal.invariant-loop-index
+invariant-loop-index l = (k : ℕ) (d : _) → k < l.index → same_place l.place (get_or l.calls k d).back ≡ false

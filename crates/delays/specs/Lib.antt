@@ -1,0 +1,6 @@
+pub mod Causes
+pub mod Stretches
+pub mod Spans
+pub mod Routines
+pub mod Tallies
+pub mod DelayText

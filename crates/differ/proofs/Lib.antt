@@ -1,0 +1,10 @@
+mod Cells
+mod Same
+mod Kept
+mod Puts
+mod Aparts
+mod Parting
+mod Again
+mod Steps
+mod Sides
+mod Turns

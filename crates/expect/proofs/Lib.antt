@@ -1,0 +1,4 @@
+mod Watching
+mod Writing
+mod Steps
+mod Rows

@@ -1,0 +1,24 @@
+//! What a program must do, stated as a text of tests, and whether a run does it.
+#![tactic(auto)]
+
+mod calls;
+mod channel;
+mod claim;
+mod condition;
+mod fields;
+mod heading;
+mod judging;
+mod line;
+mod reading;
+mod refusal;
+mod statement;
+mod verdict;
+mod watch;
+
+pub use claim::{Claim, Condition, Relation, Sought, Stated};
+pub use heading::{Expectation, expectation_in};
+pub use judging::judge;
+pub use reading::claims_in;
+pub use refusal::{Asked, ExpectFault, Refusal, Wrong};
+pub use verdict::{are_all_met, write_verdicts};
+pub use watch::{Call, Failure, Watch};

@@ -1,0 +1,339 @@
+//! The verdict on each test, in a line.
+
+ghost use Rattle.std.specs.Prelude.{◌≡◌, ◌==◌, ◌+◌, ◌≤◌, ◌<◌, ◌^◌, ◌++◌, codes, decimal, if◌then◌else◌, length, true};
+ghost use Rattle.agc_text.specs.Fields.{runs, texts};
+ghost use Rattle.agc_text.specs.Lines.{lines};
+ghost use Rattle.arrayvec.specs.ArrayVec.{array_vec_len};
+ghost use Rattle.words.specs.Devices.{Writes, failures_after};
+ghost use Rattle.expect.specs.Statements.{statements};
+ghost use Rattle.expect.specs.Verdicts.{are_all_met, came_text, condition_text, failed_of, failed_text, failure_text, first_failing, is_that, name_text, relation_text, signed_text, sought_text, verdict_line, verdict_word, verdicts, wanted_text, where_text, word_came_text, word_text};
+
+use crate::claim::{Claim, Condition, Relation, Sought};
+use crate::reading::name_of;
+use crate::statement::next_statement;
+use crate::watch::{Failure, Watch};
+use agc_text::split_field;
+use arrayvec::ArrayVec;
+use words::{Word, Write, WriteFailed, push_all, push_decimal, push_octal, write_all};
+
+/// Room for what is told of a failure.
+const FAILURE: usize = 320;
+
+/// The bit of the sign.
+const SIGN: u16 = 0o40000;
+
+type FailureText = ArrayVec<u8, FAILURE>;
+
+/// Writes a line for each test of a text, before which so many lines stand: whether its claims are met, and if not which line fails
+/// first, at which step, after how many cycles, and what came.
+///
+/// After a failure a beginning of it was written.
+pub fn write_verdicts<W: Write>(
+    before: u64,
+    text: &[u8],
+    watches: &[Watch],
+    out: &mut W,
+) -> Result<(), WriteFailed>
+    requires { before + length text.now ≤ 2 ^ 20 }
+    ensures written { W.told ≡ true → Writes (W.written out.old) (W.written out.new) (verdicts 0 watches.now (statements before (lines text.now))) result }
+    ensures failures { W.failures out.new ≡ failures_after (W.failures out.old) result }
+{
+    let mut rest = text;
+    let mut line = before;
+    let mut tests = 0;
+    while let Some(statement) = next_statement(rest, line) {
+        rest = statement.rest;
+        line = statement.line;
+        match name_of(statement.fields) {
+            Some(name) => {
+                tests += 1;
+                write_verdict(name, &first_failing(tests, watches), out)?;
+            }
+            None => {}
+        }
+    }
+    Ok(())
+}
+
+/// Whether all claims are met.
+pub fn are_all_met(watches: &[Watch]) -> bool
+    ensures { result ≡ are_all_met watches.now }
+{
+    watches.iter().all(|watch| watch.failure.is_none())
+}
+
+/// The first claim of a test that fails, and where.
+fn first_failing(test: u64, watches: &[Watch]) -> Option<(Watch, Failure)>
+    ensures { result ≡ first_failing test watches.now }
+{
+    for watch in watches {
+        let failed = failed_of(test, watch);
+        if failed.is_some() {
+            return failed;
+        }
+    }
+    None
+}
+
+/// A claim of a test that fails, and where; of another test none.
+fn failed_of(test: u64, watch: &Watch) -> Option<(Watch, Failure)>
+    ensures { result ≡ failed_of test watch.now }
+{
+    if watch.stated.test != test {
+        return None;
+    }
+    match watch.failure {
+        Some(failure) => Some((*watch, failure)),
+        None => None,
+    }
+}
+
+/// Writes the line of a test.
+fn write_verdict<W: Write>(
+    name: &[u8],
+    failed: &Option<(Watch, Failure)>,
+    out: &mut W,
+) -> Result<(), WriteFailed>
+    ensures written { W.told ≡ true → Writes (W.written out.old) (W.written out.new) (verdict_line (texts (runs name.now)) failed.now) result }
+    ensures failures { W.failures out.new ≡ failures_after (W.failures out.old) result }
+{
+    write_all(out, verdict_word(failed))?;
+    write_name(name, out)?;
+    write_all(out, failure_text(failed).as_slice())
+}
+
+/// Whether a test is met, in a word.
+fn verdict_word(failed: &Option<(Watch, Failure)>) -> &'static [u8]
+    ensures { result.now ≡ verdict_word failed.now }
+{
+    match failed {
+        None => b"ok  ",
+        Some(_) => b"FAIL",
+    }
+}
+
+/// Writes a name, with one blank before each of its fields.
+fn write_name<W: Write>(name: &[u8], out: &mut W) -> Result<(), WriteFailed>
+    ensures written { W.told ≡ true → Writes (W.written out.old) (W.written out.new) (name_text (texts (runs name.now))) result }
+    ensures failures { W.failures out.new ≡ failures_after (W.failures out.old) result }
+{
+    let mut rest = name;
+    while let Some((field, following)) = split_field(rest) {
+        write_field(field, out)?;
+        rest = following;
+    }
+    Ok(())
+}
+
+/// Writes a field after a blank.
+fn write_field<W: Write>(field: &[u8], out: &mut W) -> Result<(), WriteFailed>
+    ensures written { W.told ≡ true → Writes (W.written out.old) (W.written out.new) (codes " " ++ field.now) result }
+    ensures failures { W.failures out.new ≡ failures_after (W.failures out.old) result }
+{
+    write_all(out, b" ")?;
+    write_all(out, field)
+}
+
+/// What is told of a failure: its line, its step, the cycles after it, what came, and what is wanted; the end of the line in any case.
+fn failure_text(failed: &Option<(Watch, Failure)>) -> FailureText
+    ensures { result.items ≡ failure_text failed.now }
+{
+    let mut text = ArrayVec::new();
+    if let Some((watch, failure)) = failed {
+        push_failure(&mut text, watch, failure);
+    }
+    push_all(&mut text, b"\n");
+    text
+}
+
+/// Appends what is told of a failure.
+fn push_failure(text: &mut FailureText, watch: &Watch, failure: &Failure)
+    requires { array_vec_len text.old ≤ 0 }
+    ensures items { text.new.items ≡ text.old.items ++ failed_text watch.now failure.now }
+    ensures short { array_vec_len text.new ≤ 250 }
+{
+    push_where(text, watch.stated.line, failure);
+    push_came(text, &watch.stated.claim, watch.seen, failure.word);
+    push_all(text, b"; wanted ");
+    push_wanted(text, &watch.stated.claim, failure.word);
+}
+
+/// Appends where a test fails.
+#[tactic(auto, using(words::proofs::Digits::short_decimal))]
+fn push_where(text: &mut FailureText, line: u64, failure: &Failure)
+    requires { array_vec_len text.old ≤ 0 }
+    ensures items { text.new.items ≡ text.old.items ++ where_text line failure.now }
+    ensures len { array_vec_len text.new ≤ 90 }
+{
+    push_all(text, b": line ");
+    push_decimal(text, line);
+    push_all(text, b", step ");
+    push_decimal(text, failure.step);
+    push_all(text, b", cycle ");
+    push_decimal(text, failure.cycles);
+    push_all(text, b": ");
+}
+
+/// Appends what came, where a claim has counted so many.
+fn push_came(text: &mut FailureText, claim: &Claim, seen: u64, word: Option<Word>)
+    requires { array_vec_len text.old ≤ 90 }
+    ensures items { text.new.items ≡ text.old.items ++ came_text claim.now seen word }
+    ensures len { array_vec_len text.new ≤ array_vec_len text.old + 50 }
+{
+    match claim {
+        Claim::Calls(_, _) => push_times(text, seen),
+        Claim::CallsWithin(_, _) => push_long(text, seen),
+        _ => push_word_that_came(text, word),
+    }
+}
+
+/// Appends how often a routine is called.
+#[tactic(auto, using(words::proofs::Digits::short_decimal))]
+fn push_times(text: &mut FailureText, seen: u64)
+    requires { array_vec_len text.old ≤ 90 }
+    ensures items { text.new.items ≡ text.old.items ++ (codes "it is called " ++ decimal seen ++ codes " times") }
+    ensures len { array_vec_len text.new ≤ array_vec_len text.old + 40 }
+{
+    push_all(text, b"it is called ");
+    push_decimal(text, seen);
+    push_all(text, b" times");
+}
+
+/// Appends that a routine is called for longer, or not at all.
+fn push_long(text: &mut FailureText, seen: u64)
+    requires { array_vec_len text.old ≤ 90 }
+    ensures items { text.new.items ≡ text.old.items ++ (if seen == 0 then codes "it is not called" else codes "a call takes longer") }
+    ensures len { array_vec_len text.new ≤ array_vec_len text.old + 40 }
+{
+    if seen == 0 {
+        push_all(text, b"it is not called");
+    } else {
+        push_all(text, b"a call takes longer");
+    }
+}
+
+/// Appends the word that came.
+fn push_word_that_came(text: &mut FailureText, word: Option<Word>)
+    requires { array_vec_len text.old ≤ 90 }
+    ensures items { text.new.items ≡ text.old.items ++ word_came_text word }
+    ensures len { array_vec_len text.new ≤ array_vec_len text.old + 40 }
+{
+    match word {
+        Some(word) => {
+            push_all(text, b"it is ");
+            push_word(text, word);
+        }
+        None => push_all(text, b"nothing came"),
+    }
+}
+
+/// Appends a word, in octal and in decimal.
+fn push_word(text: &mut FailureText, word: Word)
+    requires { array_vec_len text.old ≤ 170 }
+    ensures items { text.new.items ≡ text.old.items ++ word_text word }
+    ensures len { array_vec_len text.new ≤ array_vec_len text.old + 30 }
+{
+    push_octal(text, 5, word.to_u16());
+    push_all(text, b" (");
+    push_signed(text, word);
+    push_all(text, b")");
+}
+
+/// Appends the number that a word stands for.
+#[tactic(auto, using(words::proofs::Digits::short_decimal))]
+fn push_signed(text: &mut FailureText, word: Word)
+    requires { array_vec_len text.old ≤ 180 }
+    ensures items { text.new.items ≡ text.old.items ++ signed_text word }
+    ensures len { array_vec_len text.new ≤ array_vec_len text.old + 21 }
+{
+    let bits = word.to_u16();
+    if bits < SIGN {
+        push_decimal(text, u64::from(bits));
+    } else {
+        push_all(text, b"-");
+        push_decimal(text, u64::from(word.neg().to_u16()));
+    }
+}
+
+/// Appends what a claim wants in place of what came.
+#[tactic(auto, using(words::proofs::Digits::short_decimal))]
+fn push_wanted(text: &mut FailureText, claim: &Claim, came: Option<Word>)
+    requires { array_vec_len text.old ≤ 150 }
+    ensures items { text.new.items ≡ text.old.items ++ wanted_text claim.now came }
+    ensures len { array_vec_len text.new ≤ array_vec_len text.old + 60 }
+{
+    match claim {
+        Claim::Puts(sought) => push_sought(text, sought, came),
+        Claim::PutsNoMore(_, _) => push_all(text, b"no word"),
+        Claim::Never(condition) => {
+            push_all(text, b"not ");
+            push_condition(text, condition);
+        }
+        Claim::Always(condition) | Claim::AtEnd(condition) | Claim::At(_, condition) => {
+            push_condition(text, condition)
+        }
+        Claim::Calls(_, times) => push_decimal(text, *times),
+        Claim::CallsWithin(_, most) => push_within(text, *most),
+    }
+}
+
+/// Appends a word on a channel that is wanted, or when.
+fn push_sought(text: &mut FailureText, sought: &Sought, came: Option<Word>)
+    requires { array_vec_len text.old ≤ 150 }
+    ensures items { text.new.items ≡ text.old.items ++ sought_text sought.now came }
+    ensures len { array_vec_len text.new ≤ array_vec_len text.old + 50 }
+{
+    if is_that(sought.word, came) {
+        push_within(text, sought.within);
+    } else {
+        push_word(text, sought.word);
+    }
+}
+
+/// Whether a word is what came.
+fn is_that(word: Word, came: Option<Word>) -> bool
+    ensures { result ≡ is_that word came }
+{
+    match came {
+        Some(came) => came == word,
+        None => false,
+    }
+}
+
+/// Appends how many cycles something may take.
+#[tactic(auto, using(words::proofs::Digits::short_decimal))]
+fn push_within(text: &mut FailureText, most: u64)
+    requires { array_vec_len text.old ≤ 150 }
+    ensures items { text.new.items ≡ text.old.items ++ (codes "within " ++ decimal most ++ codes " cycles") }
+    ensures len { array_vec_len text.new ≤ array_vec_len text.old + 40 }
+{
+    push_all(text, b"within ");
+    push_decimal(text, most);
+    push_all(text, b" cycles");
+}
+
+/// Appends a condition.
+fn push_condition(text: &mut FailureText, condition: &Condition)
+    requires { array_vec_len text.old ≤ 160 }
+    ensures items { text.new.items ≡ text.old.items ++ condition_text condition.now }
+    ensures len { array_vec_len text.new ≤ array_vec_len text.old + 40 }
+{
+    push_all(text, relation_text(condition.relation));
+    push_all(text, b" ");
+    push_word(text, condition.word);
+}
+
+/// A relation.
+fn relation_text(relation: Relation) -> &'static [u8]
+    ensures text { result.now ≡ relation_text relation }
+    ensures short { length result.now ≤ 2 }
+{
+    match relation {
+        Relation::Same => b"=",
+        Relation::Other => b"<>",
+        Relation::Less => b"<",
+        Relation::Greater => b">",
+        Relation::AtMost => b"<=",
+        Relation::AtLeast => b">=",
+    }
+}

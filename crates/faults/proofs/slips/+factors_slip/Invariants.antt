@@ -1,4 +1,0 @@
-use Rattle.faults.proofs.slips.+factors_slip.Given as goal
-
-abbrev pub decreases-factors_slip : goal.decreases-factors_slip
-decreases-factors_slip l = l.left

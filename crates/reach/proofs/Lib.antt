@@ -1,0 +1,9 @@
+pub mod KindNames
+pub mod Lists
+pub mod Marking
+pub mod Coming
+pub mod Exploring
+pub mod Executing
+pub mod Landing
+pub mod Running
+mod WayRows

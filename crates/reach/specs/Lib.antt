@@ -1,0 +1,7 @@
+pub mod Ways
+pub mod Marks
+pub mod Runs
+pub mod Executed
+pub mod ReachText
+pub mod RunText
+pub mod Inside

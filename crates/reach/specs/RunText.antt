@@ -1,0 +1,34 @@
+-- What is reached, beside a run: of each word the root from which a way leads to it, and whether the run has executed it.
+use Rattle.std.specs.Prelude.{ℕ, ◌&&◌, not, Bool, List, ◌++◌, codes, Option, None, Some, if◌then◌else◌}
+use Rattle.yayul.specs.Listing.{Margin, blanks}
+use Rattle.reach.specs.ReachText.{at_place, is_executed, is_read}
+
+-- the marks of what is reached from the vectors, of what is reached from these and all that a run executes, and of what it executes
+pub record Found : Type 0 where
+  pub start : List Bool
+  pub run : List Bool
+  pub done : List Bool
+
+-- the column of the root: START where a way leads to the word from 4000 or an entry, RUN where one leads only from what the run executes, DATA where
+-- an instruction that is reached reads it, else a sign
+unfoldable pub root_column : Found → ℕ → ℕ → List ℕ
+root_column f bank offset =
+    if at_place (is_executed f.start) bank offset then codes "START "
+    else (if at_place (is_executed f.run) bank offset then codes "RUN   "
+    else (if at_place (is_read f.run) bank offset then codes "DATA  "
+    else codes "-     "))
+
+-- the column of what a way leads to that the run has not executed
+abbrev pub is_idle : Found → ℕ → ℕ → Bool
+is_idle f bank offset = at_place (is_executed f.run) bank offset && not (at_place (is_executed f.done) bank offset)
+
+abbrev pub idle_column : Found → ℕ → ℕ → List ℕ
+idle_column f bank offset = if is_idle f bank offset then codes "IDLE " else codes "     "
+
+abbrev pub found_columns : Found → ℕ → ℕ → List ℕ
+found_columns f bank offset = root_column f bank offset ++ idle_column f bank offset
+
+-- what stands before a row, by the place of its word
+abbrev pub found_margin : Found → Margin
+found_margin f None = blanks 11
+found_margin f (Some p) = found_columns f p.0 p.1

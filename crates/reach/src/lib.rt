@@ -1,0 +1,21 @@
+//! Which words of fixed memory a program can come to, as far as they tell, and which its instructions read.
+#![tactic(auto)]
+
+mod column;
+mod executed;
+mod found;
+mod image;
+mod kind;
+pub mod laws;
+mod marks;
+mod search;
+mod spot;
+mod text;
+mod ways;
+
+pub use executed::{Executed, reached_with_run};
+pub use found::Found;
+pub use marks::Marks;
+pub use search::reached_from_vectors;
+pub use spot::{How, Spot};
+pub use text::write_reach;

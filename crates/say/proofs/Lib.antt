@@ -1,0 +1,4 @@
+mod InstructionNames
+mod Filled
+mod Rows
+pub mod Lines

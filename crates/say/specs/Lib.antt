@@ -1,0 +1,4 @@
+pub mod Instructions
+pub mod Told
+pub mod Sentences
+pub mod Said

@@ -1,0 +1,12 @@
+mod Writing
+mod Same
+mod Stray
+mod Alike
+mod Finding
+mod OneMore
+mod Steps
+mod Given
+mod Rising
+mod Told
+mod Words
+mod Rows

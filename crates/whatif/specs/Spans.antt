@@ -1,0 +1,101 @@
+-- What is told of trials: those one after another that come to the same, in one line.
+use Rattle.std.specs.Prelude.{ℕ, ◌+◌, Bool, true, false, List, [], ◌∷◌, ◌++◌, length, take, codes, decimal, Option, None, Some, if◌then◌else◌}
+use Rattle.std.specs.List.{flat_map}
+use Rattle.words.specs.Numerals.{octal_text}
+use Rattle.space.specs.declared.place.Linear.{Linear}
+use Rattle.space.specs.declared.place.Linear.TheVariants.{Erasable}
+use Rattle.yayul.specs.Listing.{place_text}
+use Rattle.feed.specs.declared.entry.Plain.{Plain}
+use Rattle.cpu.specs.Run.{run}
+use Rattle.cpu.specs.State.{Scenario, State}
+use Rattle.whatif.specs.declared.finish.Difference.{Difference}
+use Rattle.whatif.specs.declared.finish.Finish.{Finish}
+use Rattle.whatif.specs.declared.others.Others.{Others}
+use Rattle.whatif.specs.declared.others.Others.TheVariants.{All, First}
+use Rattle.whatif.specs.declared.sent.Sent.{Sent}
+use Rattle.whatif.specs.declared.span.Span.{Span}
+use Rattle.whatif.specs.Finishes.{next_place}
+use Rattle.whatif.specs.Outcomes.{Outcome, is_same, outcome}
+use Rattle.whatif.specs.Trials.{finishes}
+
+-- trials one after another that come to the same, which are those of a span: one trial, and one more. Where they have come out is
+-- told of the first
+abbrev pub one : ℕ → Finish → Span
+one cycle a = record { first = cycle; last = cycle; count = 1; finish = a }
+
+abbrev pub with_one : Span → ℕ → Span
+with_one span cycle = record span { last = cycle; count = span.count + 1 }
+
+-- the line of a word
+abbrev pub sent_line : Sent → List ℕ
+sent_line w = codes "CH " ++ octal_text 3 w.channel ++ codes " " ++ octal_text 5 w.word ++ codes "\n"
+
+abbrev pub others_text : List Sent → List ℕ
+others_text others = flat_map sent_line others
+
+-- the other words that are told: all, or the first
+abbrev pub others_told : Others → List Sent → List Sent
+others_told All others = others
+others_told First others = take 1 others
+
+-- the end of a line
+abbrev pub line_end : Outcome → List ℕ
+line_end a = (if a.strays then codes " ERASABLE" else []) ++ codes "\n"
+
+-- the line of where a run has come out: the place of its next instruction, and the first erasable word that differs
+abbrev pub difference_text : Option Difference → List ℕ
+difference_text None = []
+difference_text (Some d) = codes " CELL " ++ place_text (Erasable d.place) ++ codes " " ++ octal_text 5 d.word ++ codes " NOT " ++ octal_text 5 d.other
+
+abbrev pub end_line : Linear → Option Difference → List ℕ
+end_line place difference = codes "END " ++ place_text place ++ difference_text difference ++ codes "\n"
+
+-- what is told of the run without a trial: how many words it puts out, and where it has come out
+abbrev pub without_line : Outcome → List ℕ
+without_line a = codes "WITHOUT WORDS " ++ decimal (length a.others) ++ line_end a
+
+abbrev pub without_text : State → Outcome → List ℕ
+without_text s a = without_line a ++ end_line (next_place s) None
+
+-- what is told of some trials: how many of the words are those of the run without, how many others then follow, these, and where the
+-- run has come out
+abbrev pub span_line : Span → List ℕ
+span_line s =
+    codes "FROM " ++ decimal s.first ++ codes " TO " ++ decimal s.last ++ codes " COUNT " ++ decimal s.count
+    ++ codes " ALIKE " ++ decimal s.finish.answer.alike ++ codes " OTHERS " ++ decimal (length s.finish.answer.others) ++ line_end s.finish.answer
+
+abbrev pub span_text : Others → Span → List ℕ
+span_text told s = span_line s ++ (others_text (others_told told s.finish.answer.others) ++ end_line s.finish.place s.finish.difference)
+
+-- trials that are open, and one more: they are told where it comes to something else
+abbrev pub closed : Others → Option Span → Finish → List ℕ
+closed told None a = []
+closed told (Some span) a = if is_same span.finish.answer a.answer then [] else span_text told span
+
+abbrev pub opened : Option Span → ℕ → Finish → Span
+opened None cycle a = one cycle a
+opened (Some span) cycle a = if is_same span.finish.answer a.answer then with_one span cycle else one cycle a
+
+abbrev pub open_text : Others → Option Span → List ℕ
+open_text told None = []
+open_text told (Some span) = span_text told span
+
+abbrev pub number_of : Option Span → ℕ
+number_of None = 0
+number_of (Some span) = span.count
+
+unfoldable pub spans_text : Others → Option Span → List (ℕ × Finish) → List ℕ
+spans_text told pending [] = open_text told pending
+spans_text told pending (tried ∷ more) = closed told pending tried.1 ++ spans_text told (Some (opened pending tried.0 tried.1)) more
+
+-- what is told of a run of so many steps and of some trials, where its steps after so many are looked at. Beside no words a run has
+-- none but others
+unfoldable pub trials_text : Others → ℕ → Scenario → List Plain → ℕ → List ℕ
+trials_text told from scenario trials steps =
+    let s = run scenario steps in
+    let without = outcome [] from scenario steps in
+    without_text s without ++ spans_text told None (finishes without.others s.cells from scenario steps trials)
+
+-- of a whole run
+unfoldable pub whatif_text : Scenario → List Plain → ℕ → List ℕ
+whatif_text scenario trials steps = trials_text All 0 scenario trials steps

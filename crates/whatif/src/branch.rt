@@ -1,0 +1,95 @@
+//! The run with one input more, from where it parts from the run without it.
+
+ghost use Rattle.std.specs.Prelude.{◌≡◌, ◌+◌, ◌-◌, ◌^◌, ◌≤◌, IfOk, OnOk};
+ghost use Rattle.feed.specs.Added.{AddsLast};
+ghost use Rattle.cpu.specs.Run.{run};
+ghost use Rattle.whatif.specs.Finishes.{finish};
+ghost use Rattle.whatif.specs.Outcomes.{outcome};
+ghost use Rattle.whatif.specs.Trials.{AreSameBelow, IsBefore, tried};
+
+use crate::fault::{Refused, refused_of};
+use crate::finish::{Finish, finished};
+use crate::going::Going;
+use cpu::Processor;
+use feed::Plain;
+use std::alloc::Global;
+
+/// How a trial comes out, and how many steps were made for it.
+#[derive(Drop)]
+pub(crate) struct Tried {
+    pub(crate) finish: Finish,
+    pub(crate) made: u128,
+}
+
+/// Goes on with the run without a trial to where this parts from it, and answers how the trial comes out beside all of that run.
+pub(crate) fn try_one(
+    alloc: Global,
+    processor: &mut Processor,
+    trunk: &mut Going,
+    trial: &Plain,
+    without: &Going,
+    steps: u64,
+) -> Result<Finish, Refused>
+    requires few { steps ≤ 2 ^ 40 - 2 }
+    requires begun { trunk.old.from ≤ trunk.old.done }
+    requires within { trunk.old.done ≤ steps }
+    requires machine { trunk.old.machine ≡ run processor.old.scenario trunk.old.done }
+    requires answer { trunk.old.answer ≡ outcome without.now.answer.others trunk.old.from processor.old.scenario trunk.old.done }
+    requires before { IsBefore processor.old.scenario trunk.old.done trial.now.cycle }
+    ensures finish { IfOk result (λ r. r ≡ finish without.now.answer.others without.now.machine.cells trunk.old.from (tried processor.old.scenario trial.now) steps) }
+    ensures scenario { processor.new.scenario ≡ processor.old.scenario }
+    ensures once { OnOk result (processor.new.meter + trunk.old.done ≤ processor.old.meter + trunk.new.done) }
+    ensures most { processor.new.meter + trunk.old.done ≤ processor.old.meter + steps }
+    ensures within { trunk.new.done ≤ steps }
+    ensures from { trunk.new.from ≡ trunk.old.from }
+    ensures begun { trunk.old.done ≤ trunk.new.done }
+    ensures trunk { OnOk result (trunk.new.machine ≡ run processor.old.scenario trunk.new.done) }
+    ensures seen { OnOk result (trunk.new.answer ≡ outcome without.now.answer.others trunk.old.from processor.old.scenario trunk.new.done) }
+    ensures before { OnOk result (IsBefore processor.old.scenario trunk.new.done trial.now.cycle) }
+{
+    trunk.go_to(processor, without.answer.others(), trial.cycle, steps)?;
+    let tried = branch(alloc, processor, trunk, trial, without, steps)?;
+    Ok(tried.finish)
+}
+
+/// How the run with one input more comes out, of some steps in all. The run without it stands at a step that no such input reaches:
+/// no step up to there is made again.
+pub(crate) fn branch(
+    alloc: Global,
+    processor: &Processor,
+    trunk: &Going,
+    trial: &Plain,
+    without: &Going,
+    steps: u64,
+) -> Result<Tried, Refused>
+    requires few { steps ≤ 2 ^ 40 - 2 }
+    requires begun { trunk.now.from ≤ trunk.now.done }
+    requires within { trunk.now.done ≤ steps }
+    requires machine { trunk.now.machine ≡ run processor.now.scenario trunk.now.done }
+    requires answer { trunk.now.answer ≡ outcome without.now.answer.others trunk.now.from processor.now.scenario trunk.now.done }
+    requires before { IsBefore processor.now.scenario trunk.now.done trial.now.cycle }
+    ensures finish { IfOk result (λ r. r.finish ≡ finish without.now.answer.others without.now.machine.cells trunk.now.from (tried processor.now.scenario trial.now) steps) }
+    ensures once { IfOk result (λ r. r.made + trunk.now.done ≤ steps) }
+{
+    let mut fork = forked(alloc, processor, trial)?;
+    let mut going = trunk.copied(alloc)?;
+    going.go_on(&mut fork, without.answer.others(), steps)?;
+    let made = fork.meter();
+    Ok(Tried {
+        finish: finished(going, without.machine.store()),
+        made,
+    })
+}
+
+/// What runs, once more, with one input more.
+fn forked(alloc: Global, processor: &Processor, trial: &Plain) -> Result<Processor, Refused>
+    ensures rope { IfOk result (λ fork. fork.scenario.rope ≡ processor.now.scenario.rope) }
+    ensures inputs { IfOk result (λ fork. AddsLast processor.now.scenario.inputs trial.now.cycle trial.now.input fork.scenario.inputs) }
+    ensures later { IfOk result (λ fork. AreSameBelow trial.now.cycle processor.now.scenario.inputs fork.scenario.inputs) }
+    ensures meter { IfOk result (λ fork. fork.meter ≡ 0) }
+{
+    match processor.with_input(alloc, trial.cycle, trial.input) {
+        Ok(fork) => Ok(fork),
+        Err(fault) => Err(refused_of(fault)),
+    }
+}

@@ -1,0 +1,21 @@
+//! What a run would be with one input more: each of some inputs is tried alone.
+#![tactic(auto)]
+
+mod answer;
+mod branch;
+mod fault;
+mod finish;
+mod going;
+mod here;
+pub mod laws;
+mod others;
+mod sent;
+mod span;
+mod text_reader;
+mod trying;
+
+pub use fault::TrialFault;
+pub use here::try_now;
+pub use sent::Sent;
+pub use text_reader::TextReader;
+pub use trying::{TrialsTold, try_here, try_inputs};

@@ -1,0 +1,261 @@
+//! Trials one after another that come to the same, in one line.
+
+ghost use Rattle.std.specs.Prelude.{◌≡◌, ◌+◌, ◌≤◌, ◌<◌, ◌^◌, ◌++◌, true, Some, length, take, IfOk, if◌then◌else◌};
+ghost use Rattle.std.specs.List.{flat_map};
+ghost use Rattle.arrayvec.specs.ArrayVec.{array_vec_len};
+ghost use Rattle.words.specs.Devices.{Writes, one_more};
+ghost use Rattle.whatif.specs.Failing.{has_write_failed};
+ghost use Rattle.space.specs.declared.place.Linear.TheVariants.{Erasable};
+ghost use Rattle.yayul.specs.Listing.{place_text};
+ghost use Rattle.whatif.specs.Spans.{closed, difference_text, end_line, number_of, one, open_text, opened, others_text, others_told, sent_line, span_line, span_text, without_line, without_text};
+
+use crate::answer::Answer;
+use crate::fault::TrialFault;
+use crate::finish::{Difference, Finish};
+use crate::going::Going;
+use crate::others::Others;
+use crate::sent::Sent;
+use arrayvec::ArrayVec;
+use space::place::Linear;
+use trace::place_text;
+use words::{Write, push_all, push_decimal, push_octal, write_all};
+
+/// The most bytes of a line: its words, five numbers of 64 bits and a line feed.
+const LINE: usize = 192;
+
+/// A line.
+type Line = ArrayVec<u8, LINE>;
+
+/// Trials one after another that come to the same.
+#[derive(Drop)]
+pub(crate) struct Span {
+    first: u64,
+    last: u64,
+    count: u64,
+    finish: Finish,
+}
+
+/// One trial more, after those that are open: where it comes to something else, these are told.
+pub(crate) fn with_trial<W: Write>(
+    told: Others,
+    pending: Option<Span>,
+    cycle: u64,
+    finish: Finish,
+    out: &mut W,
+) -> Result<Span, TrialFault>
+    requires few { number_of pending < 2 ^ 63 }
+    ensures written { W.told ≡ true → Writes (W.written out.old) (W.written out.new) (closed told pending finish) result }
+    ensures failures { W.failures out.new ≡ (if has_write_failed result then one_more (W.failures out.old) else W.failures out.old) }
+    ensures span { IfOk result (λ span. span ≡ opened pending cycle finish) }
+{
+    match pending {
+        None => Ok(one(cycle, finish)),
+        Some(mut span) => {
+            if span.finish.answer.is_same(&finish.answer) {
+                span.last = cycle;
+                span.count += 1;
+                return Ok(span);
+            }
+            write_span(told, &span, out)?;
+            Ok(one(cycle, finish))
+        }
+    }
+}
+
+/// A trial alone.
+pub(crate) fn one(cycle: u64, finish: Finish) -> Span
+    ensures { result ≡ one cycle finish }
+{
+    Span {
+        first: cycle,
+        last: cycle,
+        count: 1,
+        finish,
+    }
+}
+
+/// Tells the trials that are open at the end.
+pub(crate) fn write_open<W: Write>(
+    told: Others,
+    pending: &Option<Span>,
+    out: &mut W,
+) -> Result<(), TrialFault>
+    ensures written { W.told ≡ true → Writes (W.written out.old) (W.written out.new) (open_text told pending.now) result }
+    ensures failures { W.failures out.new ≡ (if has_write_failed result then one_more (W.failures out.old) else W.failures out.old) }
+{
+    match pending {
+        None => Ok(()),
+        Some(span) => write_span(told, span, out),
+    }
+}
+
+/// Tells some trials: their line, a line for each other word that is told, and the line of where the first of them has come out.
+fn write_span<W: Write>(told: Others, span: &Span, out: &mut W) -> Result<(), TrialFault>
+    ensures written { W.told ≡ true → Writes (W.written out.old) (W.written out.new) (span_text told span.now) result }
+    ensures failures { W.failures out.new ≡ (if has_write_failed result then one_more (W.failures out.old) else W.failures out.old) }
+{
+    write_line(span, out)?;
+    write_others(others_told(told, span.finish.answer.others()), out)?;
+    write_end(span.finish.place, &span.finish.difference, out)
+}
+
+/// The other words that are told.
+fn others_told(told: Others, others: &[Sent]) -> &[Sent]
+    ensures { result.now ≡ others_told told others.now }
+{
+    match told {
+        Others::All => others,
+        Others::First => first_of(others),
+    }
+}
+
+/// The first, where one stands.
+fn first_of(others: &[Sent]) -> &[Sent]
+    ensures { result.now ≡ take 1 others.now }
+{
+    if others.is_empty() {
+        return others;
+    }
+    &others[..1]
+}
+
+/// Writes the line of where a run has come out.
+fn write_end<W: Write>(
+    place: Linear,
+    difference: &Option<Difference>,
+    out: &mut W,
+) -> Result<(), TrialFault>
+    ensures written { W.told ≡ true → Writes (W.written out.old) (W.written out.new) (end_line place difference.now) result }
+    ensures failures { W.failures out.new ≡ (if has_write_failed result then one_more (W.failures out.old) else W.failures out.old) }
+{
+    write_text(end_line(place, difference).as_slice(), out)
+}
+
+/// Writes the lines of some words.
+fn write_others<W: Write>(others: &[Sent], out: &mut W) -> Result<(), TrialFault>
+    ensures written { W.told ≡ true → Writes (W.written out.old) (W.written out.new) (others_text others.now) result }
+    ensures failures { W.failures out.new ≡ (if has_write_failed result then one_more (W.failures out.old) else W.failures out.old) }
+{
+    for sent in others {
+        write_sent(sent, out)?;
+    }
+    Ok(())
+}
+
+/// Writes the line of a word.
+fn write_sent<W: Write>(sent: &Sent, out: &mut W) -> Result<(), TrialFault>
+    ensures written { W.told ≡ true → Writes (W.written out.old) (W.written out.new) (sent_line sent.now) result }
+    ensures failures { W.failures out.new ≡ (if has_write_failed result then one_more (W.failures out.old) else W.failures out.old) }
+{
+    write_text(sent_line(*sent).as_slice(), out)
+}
+
+/// Writes the line of some trials.
+fn write_line<W: Write>(span: &Span, out: &mut W) -> Result<(), TrialFault>
+    ensures written { W.told ≡ true → Writes (W.written out.old) (W.written out.new) (span_line span.now) result }
+    ensures failures { W.failures out.new ≡ (if has_write_failed result then one_more (W.failures out.old) else W.failures out.old) }
+{
+    write_text(span_line(span).as_slice(), out)
+}
+
+/// Tells what the run without a trial puts out, and where it has come out.
+pub(crate) fn write_without<W: Write>(without: &Going, out: &mut W) -> Result<(), TrialFault>
+    ensures written { W.told ≡ true → Writes (W.written out.old) (W.written out.new) (without_text without.now.machine without.now.answer) result }
+    ensures failures { W.failures out.new ≡ (if has_write_failed result then one_more (W.failures out.old) else W.failures out.old) }
+{
+    write_text(without_line(&without.answer).as_slice(), out)?;
+    write_end(without.machine.next_place(), &None, out)
+}
+
+/// Writes a text.
+fn write_text<W: Write>(text: &[u8], out: &mut W) -> Result<(), TrialFault>
+    ensures written { W.told ≡ true → Writes (W.written out.old) (W.written out.new) text.now result }
+    ensures failures { W.failures out.new ≡ (if has_write_failed result then one_more (W.failures out.old) else W.failures out.old) }
+{
+    match write_all(out, text) {
+        Ok(()) => Ok(()),
+        Err(_) => Err(TrialFault::WriteFailed),
+    }
+}
+
+/// The line of the run without a trial.
+#[tactic(auto, using(words::proofs::Digits::short_decimal))]
+fn without_line(answer: &Answer) -> Line
+    ensures { result.items ≡ without_line answer.now }
+{
+    let mut line = ArrayVec::new();
+    push_all(&mut line, b"WITHOUT WORDS ");
+    push_decimal(&mut line, answer.others().len() as u64);
+    if answer.strays() {
+        push_all(&mut line, b" ERASABLE");
+    }
+    push_all(&mut line, b"\n");
+    line
+}
+
+/// The line of some trials.
+#[tactic(auto, using(words::proofs::Digits::short_decimal))]
+fn span_line(span: &Span) -> Line
+    ensures { result.items ≡ span_line span.now }
+{
+    let mut line = ArrayVec::new();
+    push_all(&mut line, b"FROM ");
+    push_decimal(&mut line, span.first);
+    push_all(&mut line, b" TO ");
+    push_decimal(&mut line, span.last);
+    push_all(&mut line, b" COUNT ");
+    push_decimal(&mut line, span.count);
+    push_all(&mut line, b" ALIKE ");
+    push_decimal(&mut line, span.finish.answer.alike());
+    push_all(&mut line, b" OTHERS ");
+    push_decimal(&mut line, span.finish.answer.others().len() as u64);
+    if span.finish.answer.strays() {
+        push_all(&mut line, b" ERASABLE");
+    }
+    push_all(&mut line, b"\n");
+    line
+}
+
+/// The line of where a run has come out.
+fn end_line(place: Linear, difference: &Option<Difference>) -> Line
+    ensures { result.items ≡ end_line place difference.now }
+{
+    let mut line = ArrayVec::new();
+    push_all(&mut line, b"END ");
+    push_all(&mut line, place_text(place).as_slice());
+    if let Some(difference) = difference {
+        push_difference(&mut line, difference);
+    }
+    push_all(&mut line, b"\n");
+    line
+}
+
+/// Appends an erasable place whose word differs, with both words.
+fn push_difference(line: &mut Line, difference: &Difference)
+    requires { array_vec_len line.old ≤ 32 }
+    ensures items { line.new.items ≡ line.old.items ++ difference_text (Some difference.now) }
+    ensures short { array_vec_len line.new ≤ array_vec_len line.old + 32 }
+{
+    push_all(line, b" CELL ");
+    push_all(
+        line,
+        place_text(Linear::Erasable(difference.place)).as_slice(),
+    );
+    push_all(line, b" ");
+    push_octal(line, 5, difference.word.to_u16());
+    push_all(line, b" NOT ");
+    push_octal(line, 5, difference.other.to_u16());
+}
+
+/// The line of a word.
+fn sent_line(sent: Sent) -> Line
+    ensures { result.items ≡ sent_line sent }
+{
+    let mut line = ArrayVec::new();
+    push_all(&mut line, b"CH ");
+    push_octal(&mut line, 3, sent.channel.number());
+    push_all(&mut line, b" ");
+    push_octal(&mut line, 5, sent.word.to_u16());
+    push_all(&mut line, b"\n");
+    line
+}

@@ -1,0 +1,51 @@
+-- What an engine answers that tells where two runs part, and what it has then written.
+use Rattle.std.specs.Prelude.{◌≡◌, ℕ, ◌⊎◌, Result, Ok, Err}
+use Rattle.differ.specs.DifferText.{Named, differ_text}
+use Rattle.workshop.specs.declared.fault.WorkshopFault.{WorkshopFault}
+use Rattle.workshop.specs.declared.fault.WorkshopFault.TheVariants.{NoMemory}
+use Rattle.workshop.specs.declared.inputs.Loaded.{Loaded}
+use Rattle.workshop.specs.declared.origin.Origin.{Origin}
+use Rattle.workshop.specs.Failures.{Writer}
+use Rattle.workshop.specs.Inputs.{scenario_of}
+use Rattle.workshop.specs.Loading.{Files, Loads}
+use Rattle.workshop.specs.Ropes.{WritesText}
+
+-- two programs, each with its feed, and where it is written
+pub record Pairing : Type 0 where
+  pub one : Files
+  pub other : Files
+  pub out : Writer
+
+-- what is read and written after the first program and its feed
+pub record Beside : Type 0 where
+  pub files : Files
+  pub out : Writer
+
+-- a run, with the symbols that name its places
+abbrev pub named_of : Loaded → Named
+named_of l = record { symbols = l.symbols; scenario = scenario_of l }
+
+-- memory is refused, and nothing is written; or what is told of both runs is
+abbrev pub DifferRun : Named → Named → ℕ → Writer → Writer → Result (Unit {0}) WorkshopFault → Type 0
+DifferRun one other steps before after result = ((result ≡ Err NoMemory) × (after ≡ before)) ⊎ WritesText (differ_text one other steps) before after result
+
+-- where both were read it is told of them, and after a fault nothing is written
+abbrev pub DifferThen : Named → ℕ → Result Loaded WorkshopFault → Writer → Writer → Result (Unit {0}) WorkshopFault → Type 0
+DifferThen one steps (Ok l) before after result = DifferRun one (named_of l) steps before after result
+DifferThen one steps (Err fault) before after result = (result ≡ Err fault) × (after ≡ before)
+
+-- the other program and its feed are read beside the first
+pub record TellsBeside (from : Origin) (one : Named) (steps : ℕ) (before after : Beside) (result : Result (Unit {0}) WorkshopFault) : Type 0 where
+  pub loaded : Result Loaded WorkshopFault
+  pub loads : Loads from before.files after.files loaded
+  pub next : DifferThen one steps loaded before.out after.out result
+
+abbrev pub BesideThen : Origin → ℕ → Result Loaded WorkshopFault → Beside → Beside → Result (Unit {0}) WorkshopFault → Type 0
+BesideThen from steps (Ok l) before after result = TellsBeside from (named_of l) steps before after result
+BesideThen from steps (Err fault) before after result = (result ≡ Err fault) × (after ≡ before)
+
+-- a program and its feed are read, and then the other with its own
+pub record TellsDiffer (from other : Origin) (steps : ℕ) (before after : Pairing) (result : Result (Unit {0}) WorkshopFault) : Type 0 where
+  pub loaded : Result Loaded WorkshopFault
+  pub loads : Loads from before.one after.one loaded
+  pub next : BesideThen other steps loaded (record { files = before.other; out = before.out }) (record { files = after.other; out = after.out }) result

@@ -1,0 +1,115 @@
+//! The engine that counts the reads and writes of a run.
+
+ghost use Rattle.std.specs.Prelude.{◌≡◌, ◌-◌, ◌≤◌, ◌^◌, true};
+ghost use Rattle.std.specs.Option.{option_map};
+ghost use Rattle.access.specs.Tallies.{Counts};
+ghost use Rattle.workshop.specs.AccessRuns.{AddsUpIn, Counted, CountsAccesses, CountsRun, TellsCounted};
+ghost use Rattle.workshop.specs.Failures.{reader, writer};
+ghost use Rattle.workshop.specs.Inputs.{scenario_of};
+ghost use Rattle.workshop.specs.Progress.{TellsAll};
+
+use crate::engine::STEPS_BETWEEN_FLUSHES;
+use crate::fault::WorkshopFault;
+use crate::inputs::{Loaded, load};
+use crate::origin::Origin;
+use crate::progress::tell;
+use access::{Tally, View, view_asked, write_accesses};
+use cpu::{Machine, Processor};
+use std::alloc::Global;
+use trace::PlaceNames;
+use words::{Read, Write};
+
+/// Reads a program and then a feed, makes some steps, and writes how often each cell was read and written at each level; or where a
+/// cell is asked for, by which places. Answers whether there is this cell; where there is none no step is made.
+///
+/// The first fault of the program is answered, else that of the feed, else that memory ran out, and then nothing is written.
+/// Memory for the counts is taken once, before the first step. After a write that failed a beginning of the text was written.
+///
+/// It is told after each 2^20 steps how many were made, as `run_and_tell` tells it.
+pub fn access_program<P: Read, F: Read, W: Write, T: Write>(
+    alloc: Global,
+    origin: Origin,
+    program: &mut P,
+    feed: &mut F,
+    place: Option<&[u8]>,
+    steps: u64,
+    out: &mut W,
+    progress: &mut T,
+) -> Result<bool, WorkshopFault>
+    requires { steps ≤ 2 ^ 40 - 2 }
+    ensures counts { CountsAccesses (option_map (λ text. text.now) place.entry) origin steps
+        (record { files = record { program = reader P.told P.left P.failures program.old; feed = reader F.told F.left F.failures feed.old }; out = writer W.told W.written W.failures out.old })
+        (record { files = record { program = reader P.told P.left P.failures program.new; feed = reader F.told F.left F.failures feed.new }; out = writer W.told W.written W.failures out.new }) result }
+    ensures progress { TellsCounted steps (writer T.told T.written T.failures progress.old) (writer T.told T.written T.failures progress.new) result }
+{
+    let loaded = load(alloc, origin, program, feed)?;
+    access(alloc, loaded, place, steps, out, progress)
+}
+
+/// Makes some steps of what was read, and writes what they read and write.
+#[tactic(auto, using(crate::proofs::AccessCounts::counts_none, crate::proofs::AccessCounts::counts_some))]
+fn access<W: Write, T: Write>(
+    alloc: Global,
+    loaded: Loaded,
+    place: Option<&[u8]>,
+    steps: u64,
+    out: &mut W,
+    progress: &mut T,
+) -> Result<bool, WorkshopFault>
+    requires { steps ≤ 2 ^ 40 - 2 }
+    ensures counts { CountsRun (option_map (λ text. text.now) place.entry) loaded.symbols (scenario_of loaded) steps
+        (writer W.told W.written W.failures out.old) (writer W.told W.written W.failures out.new) result }
+    ensures progress { TellsCounted steps (writer T.told T.written T.failures progress.old) (writer T.told T.written T.failures progress.new) result }
+{
+    let Some(view) = view_asked(&loaded.symbols, place) else {
+        return Ok(false);
+    };
+    let Ok(names) = PlaceNames::new(alloc, loaded.symbols) else {
+        return Err(WorkshopFault::NoMemory);
+    };
+    let Ok(mut tally) = Tally::new(alloc, view) else {
+        return Err(WorkshopFault::NoMemory);
+    };
+    let mut processor = Processor::new(loaded.rope, loaded.feed);
+    count(&names, &mut processor, &mut tally, steps, out, progress)
+}
+
+/// Makes some steps from the start, and writes what they read and write.
+fn count<W: Write, T: Write>(
+    names: &PlaceNames,
+    processor: &mut Processor,
+    tally: &mut Tally,
+    steps: u64,
+    out: &mut W,
+    progress: &mut T,
+) -> Result<bool, WorkshopFault>
+    requires few { steps ≤ 2 ^ 40 - 2 }
+    requires none { Counts tally.old.view processor.old.scenario 0 tally.old }
+    ensures counts { Counted tally.old.view names.now processor.old.scenario steps
+        (writer W.told W.written W.failures out.old) (writer W.told W.written W.failures out.new) result }
+    ensures progress { TellsCounted steps (writer T.told T.written T.failures progress.old) (writer T.told T.written T.failures progress.new) result }
+{
+    make_steps(processor, tally, steps, progress);
+    write_accesses(tally, names, processor.rope(), out)?;
+    Ok(true)
+}
+
+/// Makes some steps from the start, and counts what each reads and writes.
+fn make_steps<T: Write>(processor: &mut Processor, tally: &mut Tally, steps: u64, progress: &mut T)
+    requires few { steps ≤ 2 ^ 40 - 2 }
+    requires none { Counts tally.old.view processor.old.scenario 0 tally.old }
+    ensures scenario { processor.new.scenario ≡ processor.old.scenario }
+    ensures counts { Counts tally.old.view processor.old.scenario steps tally.new }
+    ensures adds_up { AddsUpIn tally.old.view processor.old.scenario steps }
+    ensures progress { TellsAll steps (writer T.told T.written T.failures progress.old) (writer T.told T.written T.failures progress.new) }
+{
+    let mut machine = Machine::start();
+    let mut told = Ok(());
+    let mut done = 0;
+    while done < steps {
+        let stop = steps.min(done + STEPS_BETWEEN_FLUSHES);
+        tally.make_steps(processor, &mut machine, done, stop);
+        done = stop;
+        told = tell(told, done, progress);
+    }
+}

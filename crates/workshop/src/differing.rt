@@ -1,0 +1,92 @@
+//! The engine that tells where two runs part.
+
+ghost use Rattle.std.specs.Prelude.{◌≡◌, ◌-◌, ◌≤◌, ◌^◌, IfOk};
+ghost use Rattle.differ.specs.DifferText.{named};
+ghost use Rattle.workshop.specs.DifferRuns.{DifferRun, TellsBeside, TellsDiffer, named_of};
+ghost use Rattle.workshop.specs.Failures.{reader, writer};
+
+use crate::fault::WorkshopFault;
+use crate::inputs::{Loaded, load};
+use crate::origin::Origin;
+use cpu::Processor;
+use differ::{NamedRun, write_differ};
+use std::alloc::{AllocError, Global};
+use trace::PlaceNames;
+use words::{Read, Write};
+
+/// Reads a program and its feed, and then another with its own, and writes where their runs of some steps part: see `write_differ`.
+///
+/// The first fault of the first program is answered, else that of its feed, else that of the other program, else that of its feed, else
+/// that memory ran out, and then nothing is written. No memory is taken for the steps. After a write that failed a beginning of the text
+/// was written.
+pub fn differ_program<P: Read, F: Read, Q: Read, G: Read, W: Write>(
+    alloc: Global,
+    origin: Origin,
+    program: &mut P,
+    feed: &mut F,
+    other_origin: Origin,
+    other: &mut Q,
+    other_feed: &mut G,
+    steps: u64,
+    out: &mut W,
+) -> Result<(), WorkshopFault>
+    requires { steps ≤ 2 ^ 40 - 2 }
+    ensures { TellsDiffer origin other_origin steps
+        (record { one = record { program = reader P.told P.left P.failures program.old; feed = reader F.told F.left F.failures feed.old }; other = record { program = reader Q.told Q.left Q.failures other.old; feed = reader G.told G.left G.failures other_feed.old }; out = writer W.told W.written W.failures out.old })
+        (record { one = record { program = reader P.told P.left P.failures program.new; feed = reader F.told F.left F.failures feed.new }; other = record { program = reader Q.told Q.left Q.failures other.new; feed = reader G.told G.left G.failures other_feed.new }; out = writer W.told W.written W.failures out.new }) result }
+{
+    let loaded = load(alloc, origin, program, feed)?;
+    differ_beside(alloc, loaded, other_origin, other, other_feed, steps, out)
+}
+
+/// Reads a program and its feed, and tells where their run and that of what was read before part.
+fn differ_beside<Q: Read, G: Read, W: Write>(
+    alloc: Global,
+    loaded: Loaded,
+    origin: Origin,
+    other: &mut Q,
+    feed: &mut G,
+    steps: u64,
+    out: &mut W,
+) -> Result<(), WorkshopFault>
+    requires { steps ≤ 2 ^ 40 - 2 }
+    ensures { TellsBeside origin (named_of loaded) steps
+        (record { files = record { program = reader Q.told Q.left Q.failures other.old; feed = reader G.told G.left G.failures feed.old }; out = writer W.told W.written W.failures out.old })
+        (record { files = record { program = reader Q.told Q.left Q.failures other.new; feed = reader G.told G.left G.failures feed.new }; out = writer W.told W.written W.failures out.new }) result }
+{
+    let beside = load(alloc, origin, other, feed)?;
+    differ(alloc, loaded, beside, steps, out)
+}
+
+/// Tells where the runs of what was read part.
+fn differ<W: Write>(
+    alloc: Global,
+    loaded: Loaded,
+    beside: Loaded,
+    steps: u64,
+    out: &mut W,
+) -> Result<(), WorkshopFault>
+    requires { steps ≤ 2 ^ 40 - 2 }
+    ensures { DifferRun (named_of loaded) (named_of beside) steps
+        (writer W.told W.written W.failures out.old) (writer W.told W.written W.failures out.new) result }
+{
+    let Ok(mut one) = named_run(alloc, loaded) else {
+        return Err(WorkshopFault::NoMemory);
+    };
+    let Ok(mut other) = named_run(alloc, beside) else {
+        return Err(WorkshopFault::NoMemory);
+    };
+    write_differ(&mut one, &mut other, steps, out)?;
+    Ok(())
+}
+
+/// The run of what was read. An `Err` is that memory ran out.
+fn named_run(alloc: Global, loaded: Loaded) -> Result<NamedRun, AllocError>
+    ensures { IfOk result (λ r. named r ≡ named_of loaded) }
+{
+    let names = PlaceNames::new(alloc, loaded.symbols)?;
+    Ok(NamedRun {
+        names,
+        processor: Processor::new(loaded.rope, loaded.feed),
+    })
+}

@@ -1,0 +1,2 @@
+pub mod MentionRows
+pub mod Parts

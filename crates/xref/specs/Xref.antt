@@ -1,0 +1,144 @@
+-- The cross-reference of a source: for each name that a line defines this line, and what lines do with it.
+use Rattle.std.specs.Prelude.{ℕ, ◌+◌, ◌-◌, Bool, true, false, List, [], ◌∷◌, ◌++◌, length, map, filter, codes, decimal, Option, None, Some, option_and_then, if◌then◌else◌}
+use Rattle.std.specs.Option.{option_map_or}
+use Rattle.agc_text.specs.Lines.{lines}
+use Rattle.agc_text.specs.Tables.{same_name}
+use Rattle.yayul.specs.declared.language.Language.{Language}
+use Rattle.yayul.specs.Listing.{blanks, number_column}
+use Rattle.yayul.specs.Readings.{Parts, parts_for}
+use Rattle.yayul.specs.declared.role.Role.{Role}
+use Rattle.yayul.specs.declared.role.Role.TheVariants as role
+use Rattle.xref.specs.declared.use_of.Use.{Use}
+use Rattle.xref.specs.declared.use_of.Use.TheVariants.{Defined, Read, Write, Change, Jump, Address, Channel, Directive}
+use Rattle.xref.specs.declared.mention.Mention as declared
+
+-- a line with a number mentions a name, and does something with it
+pub record Told : Type 0 where
+  pub line : ℕ
+  pub name : List ℕ
+  pub used : Use
+
+abbrev pub told : declared.Mention → Told
+told m = record { line = m.line; name = m.name.now; used = m.used }
+
+-- a line defines a name
+abbrev pub defines : Use → Bool
+defines Defined = true
+defines Read = false
+defines Write = false
+defines Change = false
+defines Jump = false
+defines Address = false
+defines Channel = false
+defines Directive = false
+
+-- of the operators that store, TS alone reads nothing where it writes
+abbrev pub stored : List ℕ → Use
+stored operator = if same_name operator (codes "TS") then Write else Change
+
+-- what an operator does with a symbol that is its operand
+abbrev pub use_by : Role → List ℕ → Option Use
+use_by role.Setloc operator = Some Directive
+use_by role.Bank operator = None
+use_by role.Block operator = None
+use_by role.Erase operator = Some Directive
+use_by role.Equals operator = Some Directive
+use_by role.Ebank operator = Some Directive
+use_by role.Ignored operator = None
+use_by role.Octal operator = None
+use_by role.OctalPair operator = None
+use_by role.VerbNoun operator = None
+use_by role.Decimal operator = None
+use_by role.DecimalPair operator = None
+use_by role.Address operator = Some Address
+use_by role.ErasableAddress operator = Some Address
+use_by role.FixedAddress operator = Some Address
+use_by role.FixedComplement operator = Some Address
+use_by role.FarAddress operator = Some Address
+use_by role.FarComplement operator = Some Address
+use_by role.BankConstant operator = Some Address
+use_by role.CountComplement operator = Some Address
+use_by role.Downlist operator = Some Address
+use_by role.DownlistChannel operator = Some Address
+use_by role.Call operator = Some Jump
+use_by role.Jump operator = Some Jump
+use_by role.Branch operator = Some Jump
+use_by role.Read operator = Some Read
+use_by role.ReadFixed operator = Some Read
+use_by role.ReadErasable operator = Some Read
+use_by role.Subtract operator = Some Read
+use_by role.ReadCounter operator = Some Read
+use_by role.ReadPair operator = Some Read
+use_by role.Index operator = Some Read
+use_by role.Store operator = Some (stored operator)
+use_by role.StorePair operator = Some Change
+use_by role.Modify operator = Some Change
+use_by role.ModifyPair operator = Some Change
+use_by role.Channel operator = Some Channel
+use_by role.Leave operator = None
+use_by role.LeaveBank operator = None
+use_by role.Implied operator = None
+
+-- what the operator of a line does with its operand
+abbrev pub use_in : Parts → Option Use
+use_in parts = option_and_then (λ p. option_and_then (λ r. use_by r p.text) parts.role) parts.operator
+
+-- the label of a line, which the line defines
+abbrev pub defined_on : ℕ → Parts → List Told
+defined_on line parts = option_map_or (λ p. record { line = line; name = p.text; used = Defined } ∷ []) parts.label []
+
+-- its operand
+abbrev pub used_on : ℕ → Parts → List Told
+used_on line parts = option_map_or (λ used. option_map_or (λ p. record { line = line; name = p.text; used = used } ∷ []) parts.operand []) (use_in parts) []
+
+-- what some lines mention, the first of them with a number
+abbrev pub mentions_from : ℕ → List Parts → List Told
+mentions_from line [] = []
+mentions_from line (parts ∷ more) = (defined_on line parts ++ used_on line parts) ++ mentions_from (line + 1) more
+
+-- what the lines of a source mention
+abbrev pub mentions : Language → List ℕ → List Told
+mentions language source = mentions_from 1 (map (parts_for language) (lines source))
+
+abbrev pub use_text : Use → List ℕ
+use_text Defined = codes "DEFINED"
+use_text Read = codes "READ"
+use_text Write = codes "WRITE"
+use_text Change = codes "CHANGE"
+use_text Jump = codes "JUMP"
+use_text Address = codes "ADDRESS"
+use_text Channel = codes "CHANNEL"
+use_text Directive = codes "DIRECTIVE"
+
+-- the row of a line that mentions a name, a comment as tables of names have them: its number, the name, and what it does with it
+abbrev pub use_column : List ℕ → Use → List ℕ
+use_column name used = blanks (8 - length name) ++ codes " " ++ use_text used ++ codes "\n"
+
+abbrev pub mention_row : Told → List ℕ
+mention_row m = (codes "# " ++ number_column m.line) ++ (m.name ++ use_column m.name m.used)
+
+-- those of a name, in the order of the lines
+abbrev pub rows_of : List ℕ → List Told → List ℕ
+rows_of name [] = []
+rows_of name (m ∷ more) = if same_name m.name name then mention_row m ++ rows_of name more else rows_of name more
+
+-- some lines define names: how many they are, and the rows of each among those of all
+abbrev pub is_definition : Told → Bool
+is_definition m = defines m.used
+
+abbrev pub definitions : List Told → List Told
+definitions mentioned = filter is_definition mentioned
+
+abbrev pub xref_head : List Told → List ℕ
+xref_head mentioned = codes "# XREF " ++ decimal (length (definitions mentioned)) ++ codes "\n"
+
+abbrev pub rows_in : List Told → List Told → List ℕ
+rows_in whole [] = []
+rows_in whole (m ∷ more) = if is_definition m then rows_of m.name whole ++ rows_in whole more else rows_in whole more
+
+unfoldable pub xref_text : List Told → List ℕ
+xref_text mentioned = xref_head mentioned ++ rows_in mentioned mentioned
+
+-- the cross-reference of a source
+abbrev pub cross_reference : Language → List ℕ → List ℕ
+cross_reference language source = xref_text (mentions language source)

@@ -1,0 +1,97 @@
+//! A line of a source, read once.
+
+ghost use Rattle.std.specs.Prelude.{◌≡◌, ◌≤◌, ◌+◌, ◌-◌, ◌<◌, ◌^◌, IfSome, length};
+ghost use Rattle.std.specs.Option.{option_map};
+ghost use Rattle.agc_text.specs.Views.{piece, end_of};
+ghost use Rattle.yayul.specs.Flight.{uncounted};
+ghost use Rattle.yayul.specs.Language.{Flight, Standard};
+ghost use Rattle.yayul.specs.Readings.{later_field, later_parts, parts_for, parts_in, parts_of, role_in};
+
+use crate::flight::uncounted;
+use crate::language::Language;
+use crate::operator::role_of;
+use crate::role::Role;
+use agc_text::{Field, Line};
+
+/// A line of a source: its fields, and what its operator is.
+#[derive(Clone, Copy)]
+pub struct Reading<'a> {
+    /// The label, in the first column.
+    pub label: Option<Field<'a>>,
+    /// The operator.
+    pub operator: Option<Field<'a>>,
+    /// The operand.
+    pub operand: Option<Field<'a>>,
+    /// What stands after it.
+    pub offset: Option<Field<'a>>,
+    /// Whether further fields stand.
+    pub more: bool,
+    /// What the operator is, where the language has it.
+    pub role: Option<Role>,
+}
+
+/// A line of a language: in that of flight programs its fields are those after a count.
+pub fn reading_of(language: Language, text: &[u8]) -> Reading<'_>
+    ensures { parts_in result ≡ parts_for language text.now }
+{
+    match language {
+        Language::Standard => standard_reading(text),
+        Language::Flight => reading_after_count(text),
+    }
+}
+
+// A line of the standard language.
+fn standard_reading(text: &[u8]) -> Reading<'_>
+    ensures { parts_in result ≡ parts_of Standard text.now }
+{
+    let line = Line::of(text);
+    Reading {
+        label: line.label,
+        operator: line.operator,
+        operand: line.operand,
+        offset: line.offset,
+        more: line.more,
+        role: role_in(Language::Standard, line.operator),
+    }
+}
+
+// The fields of a line of a flight program after a count that stands first.
+fn reading_after_count(text: &[u8]) -> Reading<'_>
+    ensures { parts_in result ≡ later_parts (length text.now - length (uncounted text.now)) (parts_of Flight (uncounted text.now)) }
+{
+    let rest = uncounted(text);
+    let count = text.len() - rest.len();
+    let line = Line::of(rest);
+    Reading {
+        label: later(count, line.label),
+        operator: later(count, line.operator),
+        operand: later(count, line.operand),
+        offset: later(count, line.offset),
+        more: line.more,
+        role: role_in(Language::Flight, line.operator),
+    }
+}
+
+// What the operator in a field is.
+fn role_in(language: Language, field: Option<Field<'_>>) -> Option<Role>
+    ensures { result ≡ role_in language (option_map piece field.entry) }
+{
+    match field {
+        Some(field) => role_of(language, field.text),
+        None => None,
+    }
+}
+
+// A field so many bytes later, where it stands.
+fn later(count: usize, field: Option<Field<'_>>) -> Option<Field<'_>>
+    requires { IfSome field (λ f. end_of f + count < 2 ^ 64) }
+    ensures { option_map piece result ≡ option_map (later_field count) (option_map piece field.entry) }
+{
+    match field {
+        Some(Field { start, text }) => Some(Field {
+            start: start + count,
+            text,
+        }),
+        None => None,
+    }
+}

@@ -1,0 +1,33 @@
+# Lesson 6: a solution with a mistake in it.
+A       EQUALS  0
+        SETLOC  100
+SUM     ERASE
+
+        SETLOC  4000
+        CA      MANY
+        AD      SOME
+        TC      LIMITED
+        EXTEND
+        WRITE   10
+        CA      MANY
+        AD      MANY
+        TC      LIMITED
+        EXTEND
+        WRITE   10
+        CS      MANY
+        AD      LESS
+        TC      LIMITED
+        EXTEND
+        WRITE   10
+DONE    TCF     DONE
+
+LIMITED TS      SUM
+        CA      SUM
+        RETURN
+
+        OCT     40000           # the least
+LIMITS  DEC     0
+        OCT     37777           # the greatest
+MANY    DEC     10000
+SOME    DEC     5000
+LESS    DEC     -10000
